@@ -1,0 +1,30 @@
+-- Above the limit the payload is refused; within it the number that the reader of `within` answers becomes the value.
+use mathlib.Core.Path.{_≡_, sym, ap, subst, _∙_}
+use native.Mathlib.Omega.{arith}
+use denote.Ref.{now}
+use Rattle.bitcursor.specs.Code.{raw}
+use Rattle.bitcursor.specs.Codes.{B}
+use Rattle.bitcursor.specs.Answers.{asBool, boolOf}
+use Rattle.bitcursor.proofs.Steps.{limit-within, limit-above}
+use Rattle.bitcursor.proofs.Calls.{as-bool}
+use borrow.Author.Needs.{needs}
+use Rattle.bitcursor.proofs.read_b.Statement.{statement}
+use Rattle.bitcursor.proofs.read_b.Tie as tie
+
+returns : tie.Need-returns
+returns c = let a = c .before .before .args in sym (ap asBool (limit-above (B .read) (now (a .s)) (a .at) (omega arith)))
+
+read-bits-requires : tie.Need-read-bits-requires
+read-bits-requires c κs = search needs
+
+as-bool-requires : tie.Need-as-bool-requires
+as-bool-requires c κs = search needs
+
+returns-2 : tie.Need-returns-2
+unfolding B
+returns-2 c =
+    let a = c .before .before .before .before .args in
+    c .as-bool .ensures ∙ ap boolOf (c .before .read-bits .ensures) ∙ as-bool (raw 1) (now (a .s)) (a .at) ∙ sym (ap asBool (limit-within (B .read) (now (a .s)) (a .at) (omega arith)))
+
+pub read-b-spec : {M : Type 1} → statement M
+read-b-spec = tie.close (tie.spec returns read-bits-requires as-bool-requires returns-2)

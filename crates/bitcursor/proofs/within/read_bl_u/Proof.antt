@@ -1,0 +1,72 @@
+-- Each tag picks what the table has for it.
+use mathlib.Core.Path.{_≡_, sym, ap, _∙_}
+use denote.Ref.{now}
+use Rattle.bitcursor.specs.declared.Refusal.the-variants.{ReservedTag}
+use Rattle.bitcursor.specs.Answers.{asRead}
+use Rattle.bitcursor.proofs.Steps.{tag-00, tag-01, tag-10, tag-11, tag-none}
+use Rattle.bitcursor.specs.Code.{tabled, give, refuse}
+use Rattle.bitcursor.specs.Bytes.{lowFirst}
+use Rattle.bitcursor.specs.Codes.{BL, BL-read}
+use borrow.Author.Needs.{needs}
+use Rattle.bitcursor.proofs.within.read_bl_u.Statement.{statement}
+use Rattle.bitcursor.proofs.within.read_bl_u.Tie as tie
+
+read-bits-requires : tie.Need-read-bits-requires
+read-bits-requires c κs = search needs
+
+enum-known-tag : tie.Need-enum-known-tag
+enum-known-tag c = search needs
+
+read-low-requires : tie.Need-read-low-requires
+read-low-requires c κs = search needs
+
+read-low-requires-2 : tie.Need-read-low-requires-2
+read-low-requires-2 c κs = search needs
+
+enum-known-k : tie.Need-enum-known-k
+enum-known-k c = search needs
+
+returns : tie.Need-returns
+unfolding BL tabled BL-read give refuse
+returns c =
+    let a = c .before .before .before .before .before .before .before .args in
+    c .read-low .ensures ∙ sym (ap asRead (tag-00 (lowFirst 4) (lowFirst 1) (give 0) (refuse ReservedTag) (now (a .s)) (a .at) (c .before .before .before .before .before .read-bits .ensures) (c .before .before .before .tag .given .1) (c .before .match2 .keys1)))
+
+returns-2 : tie.Need-returns-2
+unfolding BL tabled BL-read give refuse
+returns-2 c =
+    let a = c .before .before .before .before .before .before .before .args in
+    c .read-low2 .ensures ∙ sym (ap asRead (tag-01 (lowFirst 4) (lowFirst 1) (give 0) (refuse ReservedTag) (now (a .s)) (a .at) (c .before .before .before .before .before .read-bits .ensures) (c .before .before .before .tag .given .1) (c .before .match2 .keys2)))
+
+returns-3 : tie.Need-returns-3
+unfolding BL tabled BL-read give refuse
+returns-3 c =
+    let a = c .before .before .before .before .before .before .args in
+    sym (ap asRead (tag-10 (lowFirst 4) (lowFirst 1) (give 0) (refuse ReservedTag) (now (a .s)) (a .at) (c .before .before .before .before .read-bits .ensures) (c .before .before .tag .given .1) (c .match2 .keys3)))
+
+returns-4 : tie.Need-returns-4
+unfolding BL tabled BL-read give refuse
+returns-4 c =
+    let a = c .before .before .before .before .before .before .args in
+    sym (ap asRead (tag-11 (lowFirst 4) (lowFirst 1) (give 0) (refuse ReservedTag) (now (a .s)) (a .at) (c .before .before .before .before .read-bits .ensures) (c .before .before .tag .given .1) (c .match2 .rest .0 .0 .1) (c .match2 .rest .0 .1) (c .match2 .rest .1)))
+
+returns-5 : tie.Need-returns-5
+unfolding BL tabled BL-read give refuse
+returns-5 c =
+    let a = c .before .before .before .before .before .args in
+    sym (ap asRead (tag-none (lowFirst 4) (lowFirst 1) (give 0) (refuse ReservedTag) (now (a .s)) (a .at) (c .before .before .before .read-bits .ensures) (c .before .k .given .1)))
+
+pub read-bl-u-spec : {M : Type 1} → statement M
+read-bl-u-spec =
+    tie.close
+    (tie.spec
+    read-bits-requires
+    enum-known-tag
+    read-low-requires
+    read-low-requires-2
+    enum-known-k
+    returns
+    returns-2
+    returns-3
+    returns-4
+    returns-5)

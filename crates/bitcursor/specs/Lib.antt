@@ -1,0 +1,15 @@
+pub mod Bits
+pub mod BitLaws
+pub mod Refusals
+pub mod Reading
+pub mod Code
+pub mod Bytes
+pub mod Codes
+pub mod Doubles
+pub mod Handles
+pub mod Stops
+pub mod Ranges
+pub mod Answers
+pub mod Format
+pub mod Whole
+pub mod Fields
