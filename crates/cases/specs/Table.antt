@@ -1,0 +1,31 @@
+-- Document 01's cases marked †, and the proof that each holds. Assumes nothing.
+use mathlib.Core.List.{List, [], _∷_}
+use Prim.Native.Nat.{ℕ}
+use lib.IntN.{ℤ, pos, negsuc}
+use Rattle.bitcursor.specs.Bits.{bitsOf, digits, number, window}
+use Rattle.bitcursor.specs.Code.{give, refuse, raw, _>>=_, tabled, mapped}
+use Rattle.bitcursor.specs.Bytes.{bytes, bytes-read, lowFirst, lowNumber}
+use Rattle.bitcursor.specs.Codes.{byTag, tagged, BS, BS-read, signed-BS}
+use Rattle.bitcursor.specs.Doubles.{BD, BD-read}
+use Rattle.bitcursor.specs.Handles.{BLL, BLL-read}
+use Rattle.cases.specs.Shown.{Shown, reading, refusal, shown, Case, Holds, holds, allSame}
+
+abbrev number-of : ℕ → List ℤ
+number-of v = pos v ∷ []
+
+abbrev integer-of : ℤ → List ℤ
+integer-of z = z ∷ []
+
+-- "src/bitcursor.rs": 3F FF C0 is −1 signed and 65,535 unsigned as BS, ends at 18; C0 as BD is refusal 2 at 2; 31 80 as BLL is
+-- 140, ends at 11
+unfoldable pub cases : List Case
+cases =
+    record { computed = shown integer-of (signed-BS .read (0x3f ∷ 0xff ∷ 0xc0 ∷ []) 0); stated = reading (negsuc 0 ∷ []) 18 0 }
+    ∷ record { computed = shown number-of (BS .read (0x3f ∷ 0xff ∷ 0xc0 ∷ []) 0); stated = reading (pos 65535 ∷ []) 18 0 }
+    ∷ record { computed = shown number-of (BD .read (0xc0 ∷ []) 0); stated = refusal 2 2 0 }
+    ∷ record { computed = shown number-of (BLL .read (0x31 ∷ 0x80 ∷ []) 0); stated = reading (pos 140 ∷ []) 11 0 }
+    ∷ []
+
+pub all-hold : Holds cases
+unfolding cases allSame signed-BS BS BS-read BD BD-read BLL BLL-read tagged byTag raw _>>=_ tabled mapped give refuse lowFirst bytes bytes-read lowNumber window bitsOf digits number
+all-hold = holds cases tt

@@ -1,0 +1,187 @@
+// The C boundary: every call that a host links, on numbers and byte slices, thin over the proved calls of the other crates.
+// No file of the Rust and no section of the public document: the names are dwg_ and the call's own.
+// specs/Boundary promises that each answer is the call's: refusal 0 and the value, or the refusal's number and its place and 0.
+ghost use mathlib.Core.Path.{_≡_};
+ghost use lib.Ieee.{toBits, binary64};
+ghost use Rattle.bitcursor.specs.Codes.{B, BB, «3B», RC, RS, RL, RD, BS, BL, signed-BS, signed-BL};
+ghost use Rattle.bitcursor.specs.Doubles.{BD, DD};
+ghost use Rattle.bitcursor.specs.Handles.{BLL, HANDLE};
+ghost use Rattle.bitcursor.specs.Answers.{limited};
+ghost use Rattle.dwg_hatch.specs.Boundary.{boolAnswer, codeAnswer, signedAnswer, doubleAnswer, handleAnswer};
+
+mod answers;
+
+// What one code gives: the refusal's number or 0, the final place, and the value or 0.
+#[repr(C)]
+pub struct CodeAnswer {
+    pub refusal: u64,
+    pub place: usize,
+    pub value: u64,
+}
+
+#[repr(C)]
+pub struct SignedAnswer {
+    pub refusal: u64,
+    pub place: usize,
+    pub value: i32,
+}
+
+#[repr(C)]
+pub struct DoubleAnswer {
+    pub refusal: u64,
+    pub place: usize,
+    pub value: f64,
+}
+
+#[repr(C)]
+pub struct HandleAnswer {
+    pub refusal: u64,
+    pub place: usize,
+    pub code: u8,
+    pub counter: u8,
+    pub value: u64,
+}
+
+// B: one bit, 0 or 1.
+#[no_mangle]
+pub extern "C" fn dwg_read_b(s: &[u8], at: usize) -> CodeAnswer
+    ensures { λ r. ⌜ r ≡ boolAnswer (limited (B .read) (now (s .entry)) at) ⌝ }
+{
+    answers::of_bool(bitcursor::read_b(s, at))
+}
+
+// BB: two bits.
+#[no_mangle]
+pub extern "C" fn dwg_read_bb(s: &[u8], at: usize) -> CodeAnswer
+    ensures { λ r. ⌜ r ≡ codeAnswer (limited (BB .read) (now (s .entry)) at) ⌝ }
+{
+    answers::of_read(bitcursor::read_bb(s, at))
+}
+
+// 3B: three bits.
+#[no_mangle]
+pub extern "C" fn dwg_read_3b(s: &[u8], at: usize) -> CodeAnswer
+    ensures { λ r. ⌜ r ≡ codeAnswer (limited («3B» .read) (now (s .entry)) at) ⌝ }
+{
+    answers::of_read(bitcursor::read_3b(s, at))
+}
+
+// RC: one byte.
+#[no_mangle]
+pub extern "C" fn dwg_read_rc(s: &[u8], at: usize) -> CodeAnswer
+    ensures { λ r. ⌜ r ≡ codeAnswer (limited (RC .read) (now (s .entry)) at) ⌝ }
+{
+    answers::of_read(bitcursor::read_rc(s, at))
+}
+
+// RS: two bytes, signed.
+#[no_mangle]
+pub extern "C" fn dwg_read_rs(s: &[u8], at: usize) -> SignedAnswer
+    ensures { λ r. ⌜ r ≡ signedAnswer (limited (RS .read) (now (s .entry)) at) ⌝ }
+{
+    answers::of_i16(bitcursor::read_rs(s, at))
+}
+
+// RL: four bytes.
+#[no_mangle]
+pub extern "C" fn dwg_read_rl(s: &[u8], at: usize) -> CodeAnswer
+    ensures { λ r. ⌜ r ≡ codeAnswer (limited (RL .read) (now (s .entry)) at) ⌝ }
+{
+    answers::of_read(bitcursor::read_rl(s, at))
+}
+
+// RD, as the double.
+#[no_mangle]
+pub extern "C" fn dwg_read_rd(s: &[u8], at: usize) -> DoubleAnswer
+    ensures { λ r. ⌜ r ≡ doubleAnswer (limited (RD .read) (now (s .entry)) at) ⌝ }
+{
+    answers::of_f64(bitcursor::read_rd(s, at))
+}
+
+// RD, as its 64 bits.
+#[no_mangle]
+pub extern "C" fn dwg_read_rd_bits(s: &[u8], at: usize) -> CodeAnswer
+    ensures { λ r. ⌜ r ≡ codeAnswer (limited (RD .read) (now (s .entry)) at) ⌝ }
+{
+    answers::of_read(bitcursor::read_rd_bits(s, at))
+}
+
+// BS, signed.
+#[no_mangle]
+pub extern "C" fn dwg_read_bs(s: &[u8], at: usize) -> SignedAnswer
+    ensures { λ r. ⌜ r ≡ signedAnswer (limited (signed-BS .read) (now (s .entry)) at) ⌝ }
+{
+    answers::of_i16(bitcursor::read_bs(s, at))
+}
+
+// BS, unsigned.
+#[no_mangle]
+pub extern "C" fn dwg_read_bs_u(s: &[u8], at: usize) -> CodeAnswer
+    ensures { λ r. ⌜ r ≡ codeAnswer (limited (BS .read) (now (s .entry)) at) ⌝ }
+{
+    answers::of_read(bitcursor::read_bs_u(s, at))
+}
+
+// BL, signed.
+#[no_mangle]
+pub extern "C" fn dwg_read_bl(s: &[u8], at: usize) -> SignedAnswer
+    ensures { λ r. ⌜ r ≡ signedAnswer (limited (signed-BL .read) (now (s .entry)) at) ⌝ }
+{
+    answers::of_i32(bitcursor::read_bl(s, at))
+}
+
+// BL, unsigned.
+#[no_mangle]
+pub extern "C" fn dwg_read_bl_u(s: &[u8], at: usize) -> CodeAnswer
+    ensures { λ r. ⌜ r ≡ codeAnswer (limited (BL .read) (now (s .entry)) at) ⌝ }
+{
+    answers::of_read(bitcursor::read_bl_u(s, at))
+}
+
+// BLL: three bits, and that many bytes.
+#[no_mangle]
+pub extern "C" fn dwg_read_bll(s: &[u8], at: usize) -> CodeAnswer
+    ensures { λ r. ⌜ r ≡ codeAnswer (limited (BLL .read) (now (s .entry)) at) ⌝ }
+{
+    answers::of_read(bitcursor::read_bll(s, at))
+}
+
+// BD, as the double.
+#[no_mangle]
+pub extern "C" fn dwg_read_bd(s: &[u8], at: usize) -> DoubleAnswer
+    ensures { λ r. ⌜ r ≡ doubleAnswer (limited (BD .read) (now (s .entry)) at) ⌝ }
+{
+    answers::of_f64(bitcursor::read_bd(s, at))
+}
+
+// BD, as its 64 bits.
+#[no_mangle]
+pub extern "C" fn dwg_read_bd_bits(s: &[u8], at: usize) -> CodeAnswer
+    ensures { λ r. ⌜ r ≡ codeAnswer (limited (BD .read) (now (s .entry)) at) ⌝ }
+{
+    answers::of_read(bitcursor::read_bd_bits(s, at))
+}
+
+// DD with a default, as doubles.
+#[no_mangle]
+pub extern "C" fn dwg_read_dd(s: &[u8], at: usize, default: f64) -> DoubleAnswer
+    ensures { λ r. ⌜ r ≡ doubleAnswer (limited ((DD (toBits binary64 default)) .read) (now (s .entry)) at) ⌝ }
+{
+    answers::of_f64(bitcursor::read_dd(s, at, default))
+}
+
+// DD with a default, as their 64 bits.
+#[no_mangle]
+pub extern "C" fn dwg_read_dd_bits(s: &[u8], at: usize, default: u64) -> CodeAnswer
+    ensures { λ r. ⌜ r ≡ codeAnswer (limited ((DD default) .read) (now (s .entry)) at) ⌝ }
+{
+    answers::of_read(bitcursor::read_dd_bits(s, at, default))
+}
+
+// A handle: code, counter, and that many bytes with the high one first.
+#[no_mangle]
+pub extern "C" fn dwg_read_handle(s: &[u8], at: usize) -> HandleAnswer
+    ensures { λ r. ⌜ r ≡ handleAnswer (limited (HANDLE .read) (now (s .entry)) at) ⌝ }
+{
+    answers::of_handle(bitcursor::read_handle(s, at))
+}
