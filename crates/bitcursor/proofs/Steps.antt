@@ -3,6 +3,7 @@
 use mathlib.Core.Path.{_≡_, refl, sym, ap, ap₂, _∙_}
 use mathlib.Core.Bool.{true, false}
 use mathlib.Core.List.{List}
+use mathlib.Core.Logic.{⊎-elim}
 use Prim.Native.Nat.{ℕ, zero, suc, _+_, _-_, _*_, _/_, _≤_, _<_}
 use native.Mathlib.Omega.{arith}
 use lib.ListN.{length}
@@ -11,11 +12,15 @@ use Rattle.bitcursor.specs.declared.Refusal.{Refusal}
 use Rattle.bitcursor.specs.declared.Refusal.the-variants.{TooFewBits, PayloadTooLong}
 use Rattle.bitcursor.specs.declared.Read.{Read}
 use Rattle.bitcursor.specs.declared.Read.the-variants.{Value, Refused}
+use Rattle.bitcursor.specs.declared.Passed.{Passed}
+use Rattle.bitcursor.specs.declared.Passed.the-variants.{To, Refused as RefusedPassed}
 use Rattle.bitcursor.specs.Bits.{size}
 use Rattle.bitcursor.specs.Reading.{Out, got, refused, andThen, never}
 use Rattle.bitcursor.specs.Code.{Code, raw, _>>=_, mapped, tabled, give}
 use Rattle.bitcursor.specs.Codes.{byTag, tagged}
-use Rattle.bitcursor.specs.Answers.{asRead, limit, limited}
+use Rattle.bitcursor.specs.Bytes.{skip, le-or-lt}
+use Rattle.bitcursor.specs.Stops.{skip-there, skip-short}
+use Rattle.bitcursor.specs.Answers.{asRead, asPassed, limit, limited}
 
 -- what was read, from what the call answered
 pub read-value : (o : Out ℕ ℕ) {x : Read} {v p : ℕ} → x ≡ asRead o → x ≡ Value v p → o ≡ got v p
@@ -84,18 +89,40 @@ module _ {A : Type 0} (a b c d : Code A) (xs : List ℕ) (p : ℕ) {x : Read} (e
   unfolding tagged
   tag-none h = then-refused (raw 2) (byTag a b c d) xs p (read-refused _ e h)
 
--- ---- a run of bytes that is cut short
-module _ (c : Code ℕ) (n : ℕ) (short : (xs : List ℕ) (p : ℕ) → size xs - p < 8 * n → c .read xs p ≡ refused TooFewBits (p + (size xs - p) / 8 * 8))
-    (xs : List ℕ) (p : ℕ) (some : 0 < n) where
-  pub cut-at-end : length xs * 8 ≤ p → Refused TooFewBits p ≡ asRead (c .read xs p)
-  cut-at-end h =
-      let e : p + (size xs - p) / 8 * 8 ≡ p = omega arith in
-      sym (ap asRead (short xs p (omega arith)) ∙ ap (Refused TooFewBits) e)
+-- ---- n bytes that `skip_bytes` passed, or could not: x is its answer
+pub record There (xs : List ℕ) (n at p : ℕ) : Type 0 where
+  pub fits : 8 * n ≤ size xs - at
+  pub next : p ≡ at + 8 * n
 
-  pub cut-short : length xs * 8 - p < n * 8 → Refused TooFewBits (p + (length xs * 8 - p) / 8 * 8) ≡ asRead (c .read xs p)
-  cut-short h =
-      let e : p + (size xs - p) / 8 * 8 ≡ p + (length xs * 8 - p) / 8 * 8 = omega arith in
-      sym (ap asRead (short xs p (omega arith)) ∙ ap (Refused TooFewBits) e)
+pub record Short (xs : List ℕ) (n at : ℕ) (r : Refusal) (p : ℕ) : Type 0 where
+  pub misses : size xs - at < 8 * n
+  pub why : r ≡ TooFewBits
+  pub stop : p ≡ at + (size xs - at) / 8 * 8
+
+module _ (xs : List ℕ) (n at : ℕ) {x : Passed} (e : x ≡ asPassed ((skip n) .read xs at)) where
+  pub passed-there : {p : ℕ} → x ≡ To p → There xs n at p
+  passed-there {p} h =
+      ⊎-elim
+      (λ (w : 8 * n ≤ size xs - at).
+      let m : To p ≡ To (at + 8 * n) = sym h ∙ e ∙ ap asPassed (skip-there n xs at w) in
+      record { fits = w; next = cc })
+      (λ (w : size xs - at < 8 * n).
+      let m : To p ≡ RefusedPassed TooFewBits _ = sym h ∙ e ∙ ap asPassed (skip-short n xs at w) in
+      let z : _≡_ {A = ℕ} 0 1 = cc in
+      absurd (omega arith))
+      (le-or-lt (8 * n) (size xs - at))
+
+  pub passed-short : {r : Refusal} {p : ℕ} → x ≡ RefusedPassed r p → Short xs n at r p
+  passed-short {r} {p} h =
+      ⊎-elim
+      (λ (w : 8 * n ≤ size xs - at).
+      let m : RefusedPassed r p ≡ To _ = sym h ∙ e ∙ ap asPassed (skip-there n xs at w) in
+      let z : _≡_ {A = ℕ} 0 1 = cc in
+      absurd (omega arith))
+      (λ (w : size xs - at < 8 * n).
+      let m : RefusedPassed r p ≡ RefusedPassed TooFewBits (at + (size xs - at) / 8 * 8) = sym h ∙ e ∙ ap asPassed (skip-short n xs at w) in
+      record { misses = w; why = cc; stop = cc })
+      (le-or-lt (8 * n) (size xs - at))
 
 -- ---- the limit
 module _ {A : Type 0} (f : List ℕ → ℕ → Out ℕ A) (xs : List ℕ) (p : ℕ) where

@@ -26,8 +26,28 @@ abbrev pub signed : ℕ → ℕ → ℤ
 signed n v = elim (ltb v (2 ^ (n - 1))) [ true ↦ pos v | false ↦ negsuc (2 ^ n - suc v) ]
 
 -- ---- raw codes: bits, and bytes with the low one first
+pub data B-codes : Bool → List Bool → Type 0 where
+  B-of : {b : Bool} → B-codes b (b ∷ [])
+
+unfoldable pub B-read : Code Bool
+B-read = mapped (eqb 1) (raw 1)
+
+pub B-to : (b : Bool) (cs : List Bool) → B-read .codes b cs → B-codes b cs
+unfolding B-read mapped tabled raw digits
+B-to b cs l = rw (l .2, l .1 .1) (go (l .0) (l .1 .0))
+  where
+    go : (v : ℕ) → v < 2 → B-codes (eqb 1 v) (digits 1 v)
+    go zero h = B-of
+    go (suc zero) h = B-of
+    go (suc (suc v)) h = absurd (omega arith)
+
+pub B-from : (b : Bool) (cs : List Bool) → B-codes b cs → B-read .codes b cs
+unfolding B-read mapped tabled raw digits
+B-from true cs B-of = (1, (omega arith, refl), refl)
+B-from false cs B-of = (0, (omega arith, refl), refl)
+
 unfoldable pub B : Code Bool
-B = mapped (eqb 1) (raw 1)
+B = tabled B-read B-codes B-to B-from
 
 unfoldable pub BB : Code ℕ
 BB = raw 2

@@ -11,7 +11,8 @@ use Rattle.bitcursor.specs.Code.{Code, raw, tabled}
 use Rattle.bitcursor.specs.Bytes.{lowFirst, highFirst}
 use Rattle.bitcursor.specs.Codes.{BS, BS-codes, BS-00, BS-01, BS-10, BS-11, BL, BL-codes, BL-00, BL-01, BL-10}
 use Rattle.bitcursor.specs.Doubles.{BD, BD-codes, BD-00, BD-01, BD-10, DD, DD-codes, DD-00, DD-01, DD-10, DD-11}
-use Rattle.bitcursor.specs.Handles.{BLL, BLL-codes, BLL-of}
+use Rattle.bitcursor.specs.declared.Handle.{Handle}
+use Rattle.bitcursor.specs.Handles.{BLL, BLL-codes, BLL-of, HANDLE, HANDLE-codes, HANDLE-of}
 
 pub bytes-pow : (k : ℕ) → 256 ^ k ≡ 2 ^ (8 * k)
 bytes-pow zero = refl
@@ -83,3 +84,11 @@ BLL-below v cs l = go v cs l
   where
     go : (v : ℕ) (cs : List Bool) → BLL-codes v cs → v < 2 ^ 56
     go v cs (BLL-of {k = k} h j) = lt-of-lt-of-le (subst (λ (n : ℕ). v < n) (bytes-pow k) j) (pow-mono {j = 56} (omega arith))
+
+-- a handle: a nibble, at most 8, and what that many bytes hold
+pub HANDLE-range : (h : Handle) (cs : List Bool) → HANDLE .codes h cs → (h .code < 16) × (h .counter ≤ 8) × (h .value < 2 ^ (8 * h .counter))
+unfolding HANDLE tabled
+HANDLE-range h cs l = go h cs l
+  where
+    go : (h : Handle) (cs : List Bool) → HANDLE-codes h cs → (h .code < 16) × (h .counter ≤ 8) × (h .value < 2 ^ (8 * h .counter))
+    go h cs (HANDLE-of a b c) = (a, b, c)

@@ -64,6 +64,20 @@ module _ (k : ℕ) (xs : List ℕ) (p : ℕ) where
   unfolding skip tabled
   skip-short h = counted-short (λ bs. tt {0}) k xs p h
 
+-- ---- a place past the end, or at it: too few bits, there
+pub past-raw : (n : ℕ) (xs : List ℕ) (p : ℕ) → 0 < n → size xs ≤ p → (raw n) .read xs p ≡ refused TooFewBits p
+past-raw n xs p h e = raw-short n xs p (omega arith)
+
+pub past-low : (k : ℕ) (xs : List ℕ) (p : ℕ) → 0 < k → size xs ≤ p → (lowFirst k) .read xs p ≡ refused TooFewBits p
+past-low k xs p h e =
+    let m : p + (size xs - p) / 8 * 8 ≡ p = omega arith in
+    low-short k xs p (omega arith) ∙ ap (refused TooFewBits) m
+
+-- every code that opens with bits: BS, BL, BD, DD (two), BLL (three), handles (four)
+pub past-opened : {A : Type 0} (n : ℕ) (g : ℕ → Code A) (xs : List ℕ) (p : ℕ) → 0 < n → size xs ≤ p → (raw n >>= g) .read xs p ≡ refused TooFewBits p
+unfolding _>>=_
+past-opened n g xs p h e = rw (past-raw n xs p h e)
+
 -- ---- how each code can be refused, and where
 -- a refusal r at q of a reading from p
 abbrev pub Stop : Type 1

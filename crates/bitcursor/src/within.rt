@@ -30,42 +30,6 @@ pub fn read_bits(s: &[u8], at: usize, n: usize) -> Read
     Read::Value(words::bits_at(s, at, n), at + n)
 }
 
-// The next n bytes, the low one first.
-pub fn read_low(s: &[u8], at: usize, n: usize) -> Read
-    requires { ⌜ (length (now s) ≤ limit) × (n ≤ 8) ⌝ }
-    ensures { λ r. ⌜ r ≡ asRead ((lowFirst n) .read (now (s .entry)) at) ⌝ }
-{
-    if n == 0 {
-        return Read::Value(0, at);
-    }
-    let end = s.len() * 8;
-    if end <= at {
-        return Read::Refused(Refusal::TooFewBits, at);
-    }
-    if end - at < n * 8 {
-        return Read::Refused(Refusal::TooFewBits, at + (end - at) / 8 * 8);
-    }
-    Read::Value(words::low_at(s, at, n), at + n * 8)
-}
-
-// The next n bytes, the high one first.
-fn read_high(s: &[u8], at: usize, n: usize) -> Read
-    requires { ⌜ (length (now s) ≤ limit) × (n ≤ 8) ⌝ }
-    ensures { λ r. ⌜ r ≡ asRead ((highFirst n) .read (now (s .entry)) at) ⌝ }
-{
-    if n == 0 {
-        return Read::Value(0, at);
-    }
-    let end = s.len() * 8;
-    if end <= at {
-        return Read::Refused(Refusal::TooFewBits, at);
-    }
-    if end - at < n * 8 {
-        return Read::Refused(Refusal::TooFewBits, at + (end - at) / 8 * 8);
-    }
-    Read::Value(words::high_at(s, at, n), at + n * 8)
-}
-
 // Past n bytes, by one comparison.
 pub fn skip_bytes(s: &[u8], at: usize, n: usize) -> Passed
     requires { ⌜ length (now s) ≤ limit ⌝ }
@@ -83,6 +47,34 @@ pub fn skip_bytes(s: &[u8], at: usize, n: usize) -> Passed
         return Passed::Refused(Refusal::TooFewBits, at + whole * 8);
     }
     Passed::To(at + n * 8)
+}
+
+// The next n bytes, the low one first.
+pub fn read_low(s: &[u8], at: usize, n: usize) -> Read
+    requires { ⌜ (length (now s) ≤ limit) × (n ≤ 8) ⌝ }
+    ensures { λ r. ⌜ r ≡ asRead ((lowFirst n) .read (now (s .entry)) at) ⌝ }
+{
+    if n == 0 {
+        return Read::Value(0, at);
+    }
+    match skip_bytes(s, at, n) {
+        Passed::To(p) => Read::Value(words::low_at(s, at, n), p),
+        Passed::Refused(k, p) => Read::Refused(k, p),
+    }
+}
+
+// The next n bytes, the high one first.
+fn read_high(s: &[u8], at: usize, n: usize) -> Read
+    requires { ⌜ (length (now s) ≤ limit) × (n ≤ 8) ⌝ }
+    ensures { λ r. ⌜ r ≡ asRead ((highFirst n) .read (now (s .entry)) at) ⌝ }
+{
+    if n == 0 {
+        return Read::Value(0, at);
+    }
+    match skip_bytes(s, at, n) {
+        Passed::To(p) => Read::Value(words::high_at(s, at, n), p),
+        Passed::Refused(k, p) => Read::Refused(k, p),
+    }
 }
 
 // BS, unsigned.

@@ -2,8 +2,8 @@
 use mathlib.Core.Path.{_≡_, sym, ap, subst, _∙_}
 use native.Mathlib.Omega.{arith}
 use denote.Ref.{now}
-use Rattle.bitcursor.specs.Code.{raw}
-use Rattle.bitcursor.specs.Codes.{B}
+use Rattle.bitcursor.specs.Code.{raw, tabled}
+use Rattle.bitcursor.specs.Codes.{B, B-read}
 use Rattle.bitcursor.specs.Answers.{asBool, boolOf}
 use Rattle.bitcursor.proofs.Steps.{limit-within, limit-above}
 use Rattle.bitcursor.proofs.Calls.{as-bool}
@@ -21,7 +21,7 @@ as-bool-requires : tie.Need-as-bool-requires
 as-bool-requires c κs = search needs
 
 returns-2 : tie.Need-returns-2
-unfolding B
+unfolding B tabled B-read
 returns-2 c =
     let a = c .before .before .before .before .args in
     c .as-bool .ensures ∙ ap boolOf (c .before .read-bits .ensures) ∙ as-bool (raw 1) (now (a .s)) (a .at) ∙ sym (ap asBool (limit-within (B .read) (now (a .s)) (a .at) (omega arith)))
