@@ -37,7 +37,7 @@ fn body(rng: &mut Rng, write: impl Fn(&mut Pen)) -> Bits {
 pub fn tv(rng: &mut Rng) -> Vec<String> {
     let mut lines = Vec::new();
     for release in 1..=7 {
-        let body = body(rng, |pen| encode_text::text(pen, encode_text::width(release)));
+        let body = body(rng, |pen| drop(encode_text::text(pen, encode_text::width(release))));
         let every_bit = Bits { ends: (1..=body.bits.len()).collect(), ..body };
         lines.extend(cuts(rng, &every_bit, &format!("tv {release}")));
     }

@@ -2,6 +2,7 @@
 
 use crate::bits::{Bits, Site};
 use crate::doubles;
+use crate::laid::Laid;
 use crate::rng::Rng;
 
 pub struct Pen {
@@ -9,12 +10,25 @@ pub struct Pen {
     pub out: Bits,
     /// Counts and sizes in the code that holds every value, so that they can be raised afterwards.
     pub full_counts: bool,
+    /// Nothing that is to be refused.
+    pub clean: bool,
+    /// What was written, as an answer has it.
+    pub laid: Laid,
 }
 
 impl Pen {
     pub fn new(rng: &mut Rng) -> Pen {
         let full_counts = rng.one_in(3);
-        Pen { rng: rng.split(), out: Bits::default(), full_counts }
+        Pen { rng: rng.split(), out: Bits::default(), full_counts, clean: false, laid: Laid::default() }
+    }
+
+    pub fn clean(rng: &mut Rng) -> Pen {
+        Pen { clean: true, ..Pen::new(rng) }
+    }
+
+    /// True once in that many, never where only what is accepted is written.
+    pub fn seldom_bad(&mut self, times: u64) -> bool {
+        self.rng.one_in(times) && !self.clean
     }
 
     /// Raw bits: B, BB, 3B.
@@ -33,9 +47,10 @@ impl Pen {
         self.out.end_field();
     }
 
-    pub fn rd(&mut self) {
+    pub fn rd(&mut self) -> u64 {
         let value = doubles::pattern(&mut self.rng);
         self.bytes(value, 8);
+        value
     }
 
     fn tagged(&mut self, tag: u64, value: u64, bytes: usize) {
@@ -88,9 +103,10 @@ impl Pen {
         self.tagged(tag, value, bytes);
     }
 
-    pub fn bd(&mut self) {
+    pub fn bd(&mut self) -> u64 {
         let value = if self.rng.bit() { self.rng.pick(&[0, doubles::ONE]) } else { doubles::pattern(&mut self.rng) };
         self.bd_of(value);
+        value
     }
 
     /// DD: 00 the default, 01 its low four bytes anew, 10 its low six (bytes 4 and 5 first), 11 all eight.

@@ -1,19 +1,25 @@
 //! Texts: a BS length, then 8-bit or 16-bit units, with and without closing zeros.
 
 use crate::encode::Pen;
+use crate::laid::LaidText;
 
 pub fn width(release: u64) -> usize {
     if release >= 4 { 16 } else { 8 }
 }
 
 /// A text of either width; now and then one that is no UTF-16.
-pub fn text(pen: &mut Pen, width: usize) {
-    let units = if width == 8 { narrow(pen) } else { wide(pen) };
+pub fn text(pen: &mut Pen, width: usize) -> LaidText {
+    let mut units = if width == 8 { narrow(pen) } else { wide(pen) };
     pen.size_bs(units.len() as u64);
-    for unit in units {
-        pen.out.put_low_first(u64::from(unit), width / 8);
+    let place = pen.out.place();
+    for unit in &units {
+        pen.out.put_low_first(u64::from(*unit), width / 8);
     }
     pen.out.end_field();
+    if units.last() == Some(&0) {
+        units.pop();
+    }
+    LaidText { width, place, units }
 }
 
 fn length(pen: &mut Pen) -> usize {
@@ -53,7 +59,7 @@ fn wide(pen: &mut Pen) -> Vec<u16> {
             _ => units.push(0x20 + pen.rng.below(0x5f) as u16),
         }
     }
-    if pen.rng.one_in(9) {
+    if pen.seldom_bad(9) {
         break_pairs(pen, &mut units);
     }
     closing_zeros(pen, &mut units);

@@ -1,6 +1,7 @@
 //! Counts at their caps and one above, which take long payloads; few requests are such.
 
 use crate::bits;
+use crate::doubles;
 use crate::encode::Pen;
 use crate::encode_hatch::{self, Texts};
 use crate::encode_path::SEGMENTS;
@@ -42,8 +43,8 @@ fn no_paths(pen: &mut Pen) {
 }
 
 fn pattern_head(pen: &mut Pen) {
-    pen.bd();
-    pen.bd();
+    pen.bd_of(0);
+    pen.bd_of(doubles::ONE);
     pen.b(true);
 }
 

@@ -45,6 +45,8 @@ mod gen_long;
 mod gen_prefix;
 mod gen_strings;
 mod generate;
+mod laid;
+mod layouts;
 mod rng;
 mod spoil;
 
@@ -57,7 +59,8 @@ const USAGE: &str = "usage: oracle answer [--f64] < REQUESTS
        oracle generate [--f64] SEED N [codes|tv|prefix|hatch]...
        oracle stored [--seed SEED] [codes|tv|prefix|hatch]...
        oracle compare-lines REQUESTS ORACLE-ANSWERS PORT-ANSWERS
-       oracle examples";
+       oracle examples
+       oracle layouts SEED N";
 
 fn main() -> ExitCode {
     let all: Vec<String> = std::env::args().skip(1).collect();
@@ -69,6 +72,7 @@ fn main() -> ExitCode {
         Some((&"stored", rest)) => stored::run(rest),
         Some((&"compare-lines", [requests, ours, theirs])) => compare::run(requests, ours, theirs),
         Some((&"examples", [])) => examples::run(),
+        Some((&"layouts", [seed, count])) => layouts::run(seed, count),
         _ => Err(USAGE.to_string()),
     };
     match done {
