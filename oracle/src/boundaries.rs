@@ -1,10 +1,12 @@
-//! Requests that stand at the front of every run: layouts cut at each field's end and one bit short of it.
+//! Requests that stand at the front of every run: layouts cut at each field's end and one bit short of it, a reader's end
+//! bit at every place, long counts at their caps and one above.
 
 use crate::bits::{self, Bits};
 use crate::encode::Pen;
 use crate::encode_hatch::{self, Texts};
 use crate::encode_prefix;
 use crate::encode_text;
+use crate::gen_long;
 use crate::rng::Rng;
 use crate::spoil;
 
@@ -55,6 +57,10 @@ pub fn prefix(rng: &mut Rng) -> Vec<String> {
 
 pub fn hatch(rng: &mut Rng) -> Vec<String> {
     let mut lines = Vec::new();
+    for which in 0..gen_long::CASES {
+        let release = 1 + rng.below(7);
+        lines.extend([0, 1].map(|above| gen_long::case(rng, which, release, above)));
+    }
     for release in 1..=7 {
         let body = body(rng, |pen| encode_hatch::hatch(pen, &mut Texts { strings: None }, release));
         lines.extend(cuts(rng, &body, &format!("hatch {release}")));

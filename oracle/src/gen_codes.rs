@@ -61,7 +61,7 @@ fn short(rng: &mut Rng, code: &str, f64_entries: bool) -> String {
 /// Zero bytes, now and then one more than the limit.
 fn zeros(rng: &mut Rng, code: &str, f64_entries: bool) -> String {
     let many = rng.pick(&[crate::request::LIMIT, crate::request::LIMIT + 1]);
-    let count = if rng.one_in(40) { many } else { rng.below(12) };
+    let count = if rng.one_in(300) { many } else { rng.below(12) };
     let start = rng.below(20);
     request(rng, code, start, &format!("z{count}"), f64_entries)
 }

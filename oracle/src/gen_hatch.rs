@@ -12,7 +12,7 @@ use crate::rng::Rng;
 use crate::spoil;
 
 pub fn any(rng: &mut Rng) -> String {
-    if rng.one_in(400) {
+    if rng.one_in(1000) {
         return gen_long::any(rng);
     }
     let (laid, asked) = gen_prefix::releases(rng);
@@ -36,9 +36,10 @@ pub fn any(rng: &mut Rng) -> String {
 
 /// Zero bytes are a layout of releases 1 and 2 from 40 bytes on; the limit and one byte more.
 fn zeros(rng: &mut Rng, release: u64) -> String {
-    let count = rng.pick(&[0, 1, 38, 39, 40, 41, 300, LIMIT, LIMIT + 1]);
+    let many = rng.pick(&[LIMIT, LIMIT + 1]);
+    let count = if rng.one_in(12) { many } else { rng.pick(&[0, 1, 38, 39, 40, 41, 300]) };
     let start = rng.below(9);
-    let long = rng.pick(&[3, LIMIT, LIMIT + 1]);
+    let long = if rng.one_in(8) { many } else { 3 };
     if rng.bit() {
         format!("hatch {release} {start} z{count}")
     } else {

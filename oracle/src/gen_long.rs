@@ -14,13 +14,13 @@ pub fn any(rng: &mut Rng) -> String {
     case(rng, which, release, above)
 }
 
-pub const CASES: u64 = 7;
+pub const CASES: u64 = 9;
 
 /// One count at its cap (`above` 0) or one above it.
 pub fn case(rng: &mut Rng, which: u64, release: u64, above: u64) -> String {
-    let mut pen = Pen::new(rng);
+    let release = if which == 8 { release.max(5) } else { release }; // fit points are from 5 on
+    let (mut pen, solid) = head(rng, release, which == 0);
     let pen = &mut pen;
-    let solid = encode_hatch::head(pen, &mut Texts { strings: None }, release);
     match which {
         0 => lines(pen, solid, encode_hatch::LINES + above),
         1 => paths(pen, solid, encode_hatch::PATHS + above),
@@ -28,12 +28,25 @@ pub fn case(rng: &mut Rng, which: u64, release: u64, above: u64) -> String {
         3 => seeds(pen, solid, encode_hatch::SEEDS + above),
         4 => vertices(pen, SEGMENTS + above),
         5 => edges(pen, SEGMENTS + above),
+        7 => spline(pen, &[0], SEGMENTS + above),
+        8 => spline(pen, &[0, 0], SEGMENTS + above),
         _ => handles(pen, solid, 1_024 + above),
     }
     let lead = pen.out.bits.len().next_multiple_of(8) - pen.out.bits.len();
     let mut all = bits::random(&mut pen.rng, lead);
     all.extend(&pen.out.bits);
     format!("hatch {release} {lead} {}", bits::hex(&all))
+}
+
+/// A head in a valid text; a solid hatch has no lines.
+fn head(rng: &mut Rng, release: u64, with_lines: bool) -> (Pen, bool) {
+    loop {
+        let mut pen = Pen::clean(rng);
+        let solid = encode_hatch::head(&mut pen, &mut Texts { strings: None }, release);
+        if !(with_lines && solid) {
+            return (pen, solid);
+        }
+    }
 }
 
 fn no_paths(pen: &mut Pen) {
@@ -75,13 +88,27 @@ fn edge_path(pen: &mut Pen) {
     pen.bl(0);
 }
 
-/// A spline with knots of 2 bits each and no controls; the payload ends with them.
-fn knots(pen: &mut Pen, count: u64) {
+fn spline_head(pen: &mut Pen) {
     edge_path(pen);
     pen.bl(1);
     pen.bytes(4, 1);
     pen.bl(3);
     pen.raw(0, 2);
+}
+
+/// A spline with a count of controls (after one of knots) or of fits (after two) and just as many bits.
+fn spline(pen: &mut Pen, before: &[u32], count: u64) {
+    spline_head(pen);
+    for none in before {
+        pen.bl(*none);
+    }
+    pen.count(count, SEGMENTS);
+    random_bits(pen, count);
+}
+
+/// A spline with knots of 2 bits each and no controls; the payload ends with them.
+fn knots(pen: &mut Pen, count: u64) {
+    spline_head(pen);
     pen.count(count, SEGMENTS);
     pen.bl(0);
     for _ in 0..count {
@@ -117,7 +144,7 @@ fn edges(pen: &mut Pen, count: u64) {
     random_bits(pen, count);
 }
 
-/// A handle count with just as many bits after it.
+/// A handle count with as many bits after it at least.
 fn handles(pen: &mut Pen, solid: bool, count: u64) {
     edge_path(pen);
     pen.bl(0);

@@ -22,7 +22,8 @@ pub fn releases(rng: &mut Rng) -> (u64, u64) {
 pub fn any(rng: &mut Rng) -> String {
     let (laid, asked) = releases(rng);
     if rng.one_in(100) {
-        let count = rng.pick(&[0, 1, 2, 9, 40, LIMIT, LIMIT + 1]);
+        let many = rng.pick(&[LIMIT, LIMIT + 1]);
+        let count = if rng.one_in(12) { many } else { rng.pick(&[0, 1, 2, 9, 40]) };
         return format!("prefix {asked} {} z{count}", rng.below(12));
     }
     let mut pen = Pen::new(rng);

@@ -11,7 +11,7 @@ use crate::show::Show;
 /// refusal may be longer.
 const LOOKED_THROUGH: usize = 14_000;
 const LONGEST: usize = 700;
-const LONGEST_RARE: usize = 1_900;
+const LONGEST_RARE: usize = 2_500;
 
 pub fn run(args: &[&str]) -> Result<bool, String> {
     let (seed, names) = match args {
@@ -21,7 +21,7 @@ pub fn run(args: &[&str]) -> Result<bool, String> {
     let groups = generate::groups(names)?;
     let mut seen = BTreeSet::new();
     for (request, _) in examples::all() {
-        if groups.contains(&group_of(&request)) && seen.insert(request.clone()) {
+        if !request.is_empty() && groups.contains(&group_of(&request)) && seen.insert(request.clone()) {
             print(&request);
         }
     }
@@ -88,6 +88,7 @@ fn wanted(group: Group, answer: &str) -> usize {
         (Group::Codes, true) => 10,
         (Group::Codes, false) => 5,
         (_, true) => 4,
+        (_, false) if answer.starts_with("err 8 ") => 1,
         (_, false) => 2,
     }
 }
