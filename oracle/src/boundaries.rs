@@ -1,5 +1,5 @@
-//! Requests that stand at the front of every run: layouts cut at each field's end and one bit short of it, a reader's end
-//! bit at every place, long counts at their caps and one above.
+//! Requests that stand at the front of every run: refusals beside each other, layouts cut at each field's end and one bit
+//! short of it, a reader's end bit at every place, long counts at their caps and one above.
 
 use crate::bits::{self, Bits};
 use crate::encode::Pen;
@@ -46,8 +46,14 @@ pub fn tv(rng: &mut Rng) -> Vec<String> {
     lines
 }
 
+/// One byte more than the limit.
+const TOO_LONG: &str = "z268435457";
+
 pub fn prefix(rng: &mut Rng) -> Vec<String> {
     let mut lines = Vec::new();
+    for (release, start) in [(2, 0), (2, 32), (2, 33), (8, 0), (8, 33)] {
+        lines.extend(["85D08740", TOO_LONG].map(|main| format!("prefix {release} {start} {main}")));
+    }
     for release in 1..=7 {
         let body = body(rng, |pen| encode_prefix::prefix(pen, release));
         lines.extend(cuts(rng, &body, &format!("prefix {release}")));
@@ -55,8 +61,24 @@ pub fn prefix(rng: &mut Rng) -> Vec<String> {
     lines
 }
 
-pub fn hatch(rng: &mut Rng) -> Vec<String> {
+/// The order of refusals: each of release, payloads and starts right and wrong beside the others.
+fn order() -> Vec<String> {
     let mut lines = Vec::new();
+    for (release, start) in [(2, 0), (2, 24), (2, 25), (8, 0), (8, 25)] {
+        for main in ["A9AAA0", TOO_LONG] {
+            lines.push(format!("hatch {release} {start} {main}"));
+            for strings in ["0 16 8080", "16 16 8080", "17 99 8080", "5 99 z268435457", "17 99 z268435457"] {
+                lines.push(format!("hatchs {release} {start} {main} {strings}"));
+            }
+        }
+    }
+    let lists = ["hatch 2 0 A9A406AA80 L 2 0", "hatch 2 99 A9A406AA80 L 2 0", "hatch 2 0 A9A406AAC0 L 0 0"];
+    lines.extend(lists.map(str::to_string));
+    lines
+}
+
+pub fn hatch(rng: &mut Rng) -> Vec<String> {
+    let mut lines = order();
     for which in 0..gen_long::CASES {
         let release = 1 + rng.below(7);
         lines.extend([0, 1].map(|above| gen_long::case(rng, which, release, above)));

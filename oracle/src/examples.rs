@@ -62,7 +62,7 @@ const CASES: &[(&str, &str)] = &[
     ("hatch 2 9 A9", "err 1 9 0"),
     ("hatchs 2 9 A9 17 99 4040", "err 1 9 16"),
     ("hatchs 2 9 A9 16 99 4040", "err 1 9 16"),
-    // A reader at or past its end bit: empty text, nothing moves. A length 0 whose code crosses the end bit: empty, moves.
+    // A reader at or past its end bit: empty text, nothing moves. A length 0 whose code crosses the end bit moves.
     ("hatchs 2 0 A9AA80 3 3 4040", "ok 18 3 .."),
     ("hatchs 2 0 A9AA80 3 2 4040", "ok 18 3 .."),
     ("hatchs 2 0 A9AA80 0 1 80", "ok 18 2 .."),
