@@ -1,7 +1,7 @@
 //! A hatch body, with a string reader and without.
 
 use crate::bitcursor::BitCursor;
-use crate::entities::hatch::{self, GradientFill, Hatch};
+use crate::entities::hatch::{self, GradientFill, Hatch, HatchEdge, HatchPathSegments};
 use crate::lists::Lists;
 use crate::refusal::{self, Refusal};
 use crate::request::{self, HatchRequest};
@@ -15,6 +15,42 @@ pub struct Reading {
     texts: HatchTexts,
     pub lists: Lists,
     main_place: usize,
+}
+
+impl Reading {
+    /// What the body holds, for a choice of requests that shows all of it.
+    pub fn features(&self) -> Vec<&'static str> {
+        let mut found = Vec::new();
+        for path in &self.hatch.paths {
+            match &path.segments {
+                HatchPathSegments::Polyline { has_bulge: true, .. } => found.push("bulge"),
+                HatchPathSegments::Polyline { .. } => found.push("polyline"),
+                HatchPathSegments::Edges(edges) => found.extend(edges.iter().map(edge_feature)),
+            }
+        }
+        let dashed = self.hatch.pattern_lines.iter().any(|line| !line.dashes.is_empty());
+        let others = [
+            ("gradient", self.hatch.gradient.is_some()),
+            ("lines", !self.hatch.pattern_lines.is_empty()),
+            ("dashes", dashed),
+            ("pixel size", self.hatch.pixel_size != 0.0),
+            ("seeds", !self.hatch.seed_points.is_empty()),
+        ];
+        found.extend(others.iter().filter(|(_, here)| *here).map(|(name, _)| *name));
+        found
+    }
+}
+
+fn edge_feature(edge: &HatchEdge) -> &'static str {
+    match edge {
+        HatchEdge::Line { .. } => "line",
+        HatchEdge::Arc { .. } => "arc",
+        HatchEdge::Ellipse { .. } => "ellipse",
+        HatchEdge::Spline { degree, .. } if *degree > i32::MAX as u32 => "spline of a large degree",
+        HatchEdge::Spline { fit_points, .. } if !fit_points.is_empty() => "fits",
+        HatchEdge::Spline { weights, .. } if !weights.is_empty() => "weights",
+        HatchEdge::Spline { .. } => "spline",
+    }
 }
 
 pub fn answer(request: &HatchRequest, show: Show) -> String {

@@ -18,6 +18,7 @@ const CASES: &[(&str, &str)] = &[
     // Document 01, bitcursor.rs.
     ("bsu 2 0 3FFFC0", "ok 18 65535"),
     ("bll 5 0 3180", "ok 11 140"),
+    ("bll 5 0 FFFFFFFFFFFFFFFF", "ok 59 72057594037927935"),
     ("bs 1 0 C0", "ok 2 256"),
     ("bl 1 0 C0", "err 2 2 0"),
     ("handle 1 0 08FFFFFFFFFFFFFFFF", "ok 72 0,8,18446744073709551615"),
@@ -52,6 +53,7 @@ const CASES: &[(&str, &str)] = &[
     ("hatch 8 5 z268435457", "err 9 5 0"),
     ("hatch 2 5 z268435457", "err 10 5 0"),
     ("prefix 2 5 z268435457", "err 10 5 0"),
+    ("prefix 8 5 z268435457", "err 9 5 0"),
     ("hatchs 2 5 - 6 7 z268435457", "err 10 5 6"),
     ("hatch 2 0 A9AA901000000000000000000000000000000000 L 0 1", "err 11 156 0"),
     ("hatch 2 0 A9AA901000000000000000000000000000000000 L 0 2", "ok 156 0 .."),
@@ -123,7 +125,46 @@ fn made() -> Vec<(String, String)> {
 
 /// N blocks of 26 bits (01, a byte 1, a zero handle byte, a zero byte), then more bits, as hexadecimal.
 fn blocks(count: usize, more: &str) -> String {
-    let mut bits = "01000000010000000000000000".repeat(count) + more;
+    hex("01000000010000000000000000".repeat(count) + more)
+}
+
+/// A BS or BL in full: 00 and its bytes, low byte first.
+fn full(value: u32, bytes: usize) -> String {
+    let byte = |low_first: &u8| format!("{low_first:08b}");
+    "00".to_string() + &value.to_le_bytes()[..bytes].iter().map(byte).collect::<String>()
+}
+
+/// Counts at their caps and one above, each with as many zero bits after it (caps of 100,000 are left to the generator).
+fn caps() -> Vec<(String, String)> {
+    let body = |bits: &str, release: u32, count: u32, bytes: usize| {
+        let zeros = "0".repeat(count as usize);
+        format!("hatch {release} 0 {}", hex(bits.to_string() + &full(count, bytes) + &zeros))
+    };
+    let (solid, hollow) = ("101010011010", "101010011000"); // BD 0, 0, 0, 1, empty text, solid or not, not associative
+    let paths = |count| body(solid, 2, count, 4);
+    let handles = |count| body(&format!("{solid}01000000011010"), 2, count, 4); // one path without edges
+    let seeds = |count| body(&format!("{solid}101010"), 2, count, 4);
+    let lines = |count| body(&format!("{hollow}10101010100"), 2, count, 2);
+    let dashes = |count| body(&format!("{hollow}1010101010001000000011010101010"), 2, count, 2);
+    let colours = |count| body("101010101010", 3, count, 4);
+    let cases = [
+        (paths(10_000), "err 1 .."),
+        (paths(10_001), "err 3 46 0"),
+        (handles(1_024), "ok 130 0 .."),
+        (handles(1_025), "err 3 60 0"),
+        (seeds(1_024), "err 1 1076 0"),
+        (seeds(1_025), "err 3 52 0"),
+        (lines(4_096), "err 1 .."),
+        (lines(4_097), "err 3 41 0"),
+        (dashes(64), "err 1 .."),
+        (dashes(65), "err 3 61 0"),
+        (colours(16), "err 1 .."),
+        (colours(17), "err 3 46 0"),
+    ];
+    cases.map(|(request, stated)| (request, stated.to_string())).to_vec()
+}
+
+fn hex(mut bits: String) -> String {
     while bits.len() % 8 != 0 {
         bits.push('0');
     }
@@ -134,7 +175,7 @@ fn blocks(count: usize, more: &str) -> String {
 /// Every example with the answer that the papers state.
 pub fn all() -> Vec<(String, String)> {
     let fixed = CASES.iter().map(|(request, stated)| (request.to_string(), stated.to_string()));
-    fixed.chain(made()).collect()
+    fixed.chain(made()).chain(caps()).collect()
 }
 
 fn agrees(got: &str, stated: &str) -> bool {

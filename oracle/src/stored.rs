@@ -3,8 +3,10 @@
 use std::collections::{BTreeMap, BTreeSet};
 
 use crate::answer;
+use crate::answer_hatch;
 use crate::examples;
 use crate::generate::{self, Group, Source};
+use crate::request::{self, Request};
 use crate::show::Show;
 
 /// How many requests of each group are looked through, and the longest line that is stored; one that shows a rare
@@ -63,11 +65,17 @@ fn selection(group: Group, seed: u64) -> Vec<String> {
             continue; // the limit itself is among the examples
         }
         let answer = ask(&request);
-        let class = class(&request, &answer, group);
-        let count = taken.entry(class).or_default();
         let longest = if answer.starts_with("err 8 ") { LONGEST_RARE } else { LONGEST };
-        if *count < wanted(group, &answer) && request.len() <= longest {
-            *count += 1;
+        if request.len() > longest {
+            continue;
+        }
+        let mut classes = vec![(class(&request, &answer, group), wanted(group, &answer))];
+        classes.extend(features(&request).into_iter().map(|name| (name, 1)));
+        let new = classes.iter().any(|(class, wanted)| taken.get(class).is_none_or(|count| count < wanted));
+        if new {
+            for (class, _) in classes {
+                *taken.entry(class).or_default() += 1;
+            }
             lines.push(request);
         }
     }
@@ -81,6 +89,17 @@ fn class(request: &str, answer: &str, group: Group) -> String {
     let outcome: Vec<&str> = answer.split(' ').take(if answer.starts_with("err") { 2 } else { 1 }).collect();
     let release = if group == Group::Codes { "" } else { release };
     format!("{kind} {release} {}", outcome.join(" "))
+}
+
+/// What an accepted hatch body holds, with the release.
+fn features(request: &str) -> Vec<String> {
+    let Some(Request::Hatch(hatch)) = request::parse(request) else {
+        return Vec::new();
+    };
+    match answer_hatch::read(&hatch) {
+        Ok(reading) => reading.features().iter().map(|name| format!("{name} {}", hatch.release)).collect(),
+        Err(_) => Vec::new(),
+    }
 }
 
 fn wanted(group: Group, answer: &str) -> usize {
