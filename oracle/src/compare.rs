@@ -1,0 +1,93 @@
+//! The comparing part of oracle/compare: two files of answers to one file of requests.
+
+use std::collections::BTreeMap;
+use std::fs;
+
+#[derive(Default)]
+struct Tally {
+    requests: usize,
+    differ: usize,
+    not_yet: usize,
+}
+
+#[derive(Default)]
+struct Run {
+    kinds: BTreeMap<String, Tally>,
+    outcomes: BTreeMap<String, Tally>,
+    first: Option<String>,
+    requests: usize,
+    differ: usize,
+    not_yet: usize,
+    missing: usize,
+}
+
+fn read(path: &str) -> Result<Vec<String>, String> {
+    let text = fs::read_to_string(path).map_err(|e| format!("oracle compare-lines: {path}: {e}"))?;
+    Ok(text.lines().map(str::to_string).collect())
+}
+
+/// `ok`, `err NUMBER` or `bad request`.
+fn outcome(answer: &str) -> String {
+    let words = if answer.starts_with("ok") { 1 } else { 2 };
+    answer.split(' ').take(words).collect::<Vec<&str>>().join(" ")
+}
+
+impl Run {
+    fn add(&mut self, request: &str, ours: &str, theirs: Option<&String>) {
+        let not_yet = theirs.is_some_and(|line| line == "not yet");
+        let differ = !not_yet && theirs.is_none_or(|line| line != ours);
+        let kind = request.split(' ').next().unwrap_or_default().to_string();
+        let known = outcome(ours);
+        for tally in [self.kinds.entry(kind).or_default(), self.outcomes.entry(known).or_default()] {
+            tally.requests += 1;
+            tally.differ += usize::from(differ);
+            tally.not_yet += usize::from(not_yet);
+        }
+        self.requests += 1;
+        self.differ += usize::from(differ);
+        self.not_yet += usize::from(not_yet);
+        self.missing += usize::from(theirs.is_none());
+        if differ && self.first.is_none() {
+            let line = theirs.map_or("(no answer line)", String::as_str);
+            self.first = Some(format!("{request}\n  the Rust: {ours}\n  the port: {line}"));
+        }
+    }
+
+    fn print(&self, extra: usize) {
+        table("kind", &self.kinds);
+        table("the Rust's answer", &self.outcomes);
+        if let Some(first) = &self.first {
+            println!("the first difference: {first}");
+        }
+        if self.missing > 0 {
+            println!("missing answer lines: {} (counted as differences)", self.missing);
+        }
+        if extra > 0 {
+            println!("answer lines that answer no request: {extra} (counted as differences)");
+        }
+        let differ = self.differ + extra;
+        println!("compare: {} requests, {differ} differences, {} not yet", self.requests, self.not_yet);
+    }
+}
+
+fn table(head: &str, rows: &BTreeMap<String, Tally>) {
+    println!("{head:<18} {:>9} {:>9} {:>9}", "requests", "differ", "not yet");
+    for (name, tally) in rows {
+        println!("{name:<18} {:>9} {:>9} {:>9}", tally.requests, tally.differ, tally.not_yet);
+    }
+}
+
+/// True if there is no difference and every request has one answer line.
+pub fn run(requests: &str, ours: &str, theirs: &str) -> Result<bool, String> {
+    let (requests, ours, theirs) = (read(requests)?, read(ours)?, read(theirs)?);
+    if requests.len() != ours.len() {
+        return Err(format!("the oracle answered {} of {} requests", ours.len(), requests.len()));
+    }
+    let mut run = Run::default();
+    for (index, request) in requests.iter().enumerate() {
+        run.add(request, &ours[index], theirs.get(index));
+    }
+    let extra = theirs.len().saturating_sub(requests.len());
+    run.print(extra);
+    Ok(run.differ == 0 && extra == 0)
+}
