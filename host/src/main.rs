@@ -54,7 +54,7 @@ fn main() -> ExitCode {
         Ok(()) => ExitCode::SUCCESS,
         // Who closed the pipe wants no more answers.
         Err(Failure::Io(error)) if error.kind() == ErrorKind::BrokenPipe => ExitCode::SUCCESS,
-        Err(Failure::Io(error)) => failed(1, &error.to_string()),
+        Err(Failure::Io(error)) => failed(1, &format!("reading or writing failed: {error}")),
         Err(Failure::Usage(line)) => failed(2, &line),
     }
 }

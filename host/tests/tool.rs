@@ -59,7 +59,8 @@ fn nans_keep_their_pattern_but_for_f64() {
 #[test]
 fn lines_of_any_bytes_are_answered() {
     assert_eq!(answers(&["answer"], b""), "");
-    assert_eq!(answers(&["answer"], b"\n\xff\xfe\0\nb 1 0 \xc3\xa9\nb\t1\r0 80\r\nb 1 0 80"), "bad request\nbad request\nbad request\nok 1 1\nok 1 1\n");
+    let lines = b"\n\xff\xfe\0\nb 1 0 \xc3\xa9\nb\t1\r0 80\r\nb 1 0 80";
+    assert_eq!(answers(&["answer"], lines), "bad request\nbad request\nbad request\nok 1 1\nok 1 1\n");
 }
 
 #[test]
