@@ -1,0 +1,113 @@
+//! The tool as a person or a script calls it.
+
+use std::ffi::OsStr;
+use std::io::Write;
+use std::os::unix::ffi::OsStrExt;
+use std::process::{Command, Output, Stdio};
+
+fn tool() -> Command {
+    Command::new(env!("CARGO_BIN_EXE_dwg-hatch"))
+}
+
+fn call(words: &[&str], input: &[u8]) -> Output {
+    let mut command = tool();
+    command.args(words).stdin(Stdio::piped()).stdout(Stdio::piped()).stderr(Stdio::piped());
+    let mut child = command.spawn().expect("the tool starts");
+    // A tool that ends without reading its input has closed the pipe; its answer is what is tested.
+    let _ = child.stdin.take().expect("a pipe").write_all(input);
+    child.wait_with_output().expect("the tool ends")
+}
+
+fn answers(words: &[&str], input: &[u8]) -> String {
+    let output = call(words, input);
+    assert!(output.status.success() && output.stderr.is_empty(), "{output:?}");
+    String::from_utf8(output.stdout).expect("answers are ASCII")
+}
+
+/// One line on standard error, nothing on standard output, and the status.
+fn refuses(output: &Output, status: i32) {
+    assert_eq!(output.status.code(), Some(status), "{output:?}");
+    assert!(output.stdout.is_empty(), "{output:?}");
+    let text = String::from_utf8_lossy(&output.stderr);
+    assert!(text.starts_with("dwg-hatch: ") && text.ends_with('\n') && text.lines().count() == 1, "{text}");
+}
+
+#[test]
+fn examples_are_answered() {
+    let list = include_str!("examples.txt");
+    let pairs: Vec<(&str, &str)> = list.lines().map(|line| line.split_once('\t').expect("REQUEST, tab, ANSWER")).collect();
+    let requests: String = pairs.iter().map(|pair| format!("{}\n", pair.0)).collect();
+    let answers = answers(&["answer"], requests.as_bytes());
+    assert_eq!(answers.lines().collect::<Vec<_>>(), pairs.iter().map(|pair| pair.1).collect::<Vec<_>>());
+}
+
+#[test]
+fn what_is_not_there_yet_is_said() {
+    let requests = "tv 2 0 80\nprefix 8 0 -\nhatch 3 0 A9AAA0\nhatchs 2 0 A9 0 16 4040 L 0 0\nhatch 3 0\n";
+    assert_eq!(answers(&["answer"], requests.as_bytes()), "not yet\nnot yet\nnot yet\nnot yet\nbad request\n");
+}
+
+#[test]
+fn nans_keep_their_pattern_but_for_f64() {
+    let requests = "rd 1 0 010000000000F07F\nbd 1 0 0040000000003c3fc0\nrd 1 0 000000000000F8FF\ndd 1 0 00 0000000000000001\n";
+    let bits = "ok 64 7ff0000000000001\nok 66 fff0000000000001\nok 64 fff8000000000000\nok 2 0000000000000001\n";
+    let nan = "ok 64 7ff8000000000000\nok 66 7ff8000000000000\nok 64 7ff8000000000000\nok 2 0000000000000001\n";
+    assert_eq!(answers(&["answer"], requests.as_bytes()), bits);
+    assert_eq!(answers(&["answer", "--f64"], requests.as_bytes()), nan);
+}
+
+#[test]
+fn lines_of_any_bytes_are_answered() {
+    assert_eq!(answers(&["answer"], b""), "");
+    let lines = b"\n\xff\xfe\0\nb 1 0 \xc3\xa9\nb\t1\r0 80\r\nb 1 0 80";
+    assert_eq!(answers(&["answer"], lines), "bad request\nbad request\nbad request\nok 1 1\nok 1 1\n");
+}
+
+#[test]
+fn help_is_there_for_all_commands() {
+    assert!(answers(&["--help"], b"").contains("answer"));
+    assert!(answers(&["answer", "--help"], b"").contains("--f64"));
+}
+
+#[test]
+fn bad_usage_is_one_line_and_status_2() {
+    for words in [&[][..], &["nothing"], &["--f64"], &["--help", "answer"], &["answer", "file"], &["answer", "--f65"], &["", "\n"]] {
+        refuses(&call(words, b"b 1 0 80\n"), 2);
+    }
+    let output = tool().arg(OsStr::from_bytes(b"\xff\n")).output().expect("the tool starts");
+    refuses(&output, 2);
+}
+
+#[test]
+fn an_unreadable_input_is_one_line_and_status_1() {
+    let folder = std::fs::File::open("/").expect("the root folder");
+    refuses(&tool().arg("answer").stdin(folder).output().expect("the tool starts"), 1);
+}
+
+#[test]
+fn a_closed_pipe_ends_quietly() {
+    let mut child = tool().arg("answer").stdin(Stdio::piped()).stdout(Stdio::piped()).stderr(Stdio::piped()).spawn().expect("the tool starts");
+    drop(child.stdout.take());
+    let mut input = child.stdin.take().expect("a pipe");
+    let lines = b"b 1 0 80\n".repeat(1000);
+    while input.write_all(&lines).is_ok() {}
+    drop(input);
+    let output = child.wait_with_output().expect("the tool ends");
+    assert!(output.status.success() && output.stderr.is_empty(), "{output:?}");
+}
+
+#[test]
+fn answers_come_before_the_input_ends() {
+    use std::io::{BufRead, BufReader};
+    let mut child = tool().arg("answer").stdin(Stdio::piped()).stdout(Stdio::piped()).spawn().expect("the tool starts");
+    let mut input = child.stdin.take().expect("a pipe");
+    let mut output = BufReader::new(child.stdout.take().expect("a pipe"));
+    for (request, answer) in [("b 1 0 80\n", "ok 1 1\n"), ("bb 1 0 80\n", "ok 2 2\n")] {
+        input.write_all(request.as_bytes()).expect("the tool reads");
+        let mut line = String::new();
+        output.read_line(&mut line).expect("the tool writes");
+        assert_eq!(line, answer);
+    }
+    drop(input);
+    assert!(child.wait().expect("the tool ends").success());
+}
