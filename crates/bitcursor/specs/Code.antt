@@ -159,6 +159,49 @@ module _ {A B : Type 0} (f : A → B) (c : Code A) where
   unfoldable pub mapped : Code B
   mapped = tabled (c >>= λ a. give (f a)) Mapped mapped-to mapped-from
 
+-- a code's value with the number of its bits
+module _ {A : Type 0} (c : Code A) where
+  abbrev pub Measured : ℕ × A → List Bool → Type 0
+  Measured m cs = c .codes (m .1) cs × (m .0 ≡ length cs)
+
+  abbrev pub measured-out : ℕ → Out ℕ A → Out ℕ (ℕ × A)
+  measured-out p o = andThen o (λ a q. got (q - p, a) q)
+
+  pub measured-sound : (xs : List ℕ) (m : ℕ × A) (p q : ℕ) (o : Out ℕ A) → c .read xs p ≡ o → measured-out p o ≡ got m q → Laid Measured xs m p q
+  measured-sound xs m p q (refused r t) e h = never h
+  measured-sound xs m p q (got a t) e h =
+      let f : m ≡ (t - p, a) = cc in
+      let g : t ≡ q = cc in
+      let l = c .sound xs a p t e in
+      let n : t - p ≡ length (l .code) = omega (arith, l .ends) in
+      record { code = l .code; listed = rw f (l .listed, n); stands = l .stands; ends = sym g ∙ l .ends }
+
+  pub measured-complete : (xs : List ℕ) (m : ℕ × A) (p q : ℕ) → Laid Measured xs m p q → measured-out p (c .read xs p) ≡ got m q
+  measured-complete xs m p q l =
+      let n : q - p ≡ m .0 = omega (arith, l .ends, l .listed .1) in
+      rw (c .complete xs (m .1) p q (record { code = l .code; listed = l .listed .0; stands = l .stands; ends = l .ends }))
+      (ap (λ (k : ℕ). got (k, m .1) q) n)
+
+  pub measured-grows : (xs : List ℕ) (p : ℕ) (o : Out ℕ A) → Moves xs p (place o) → Moves xs p (place (measured-out p o))
+  measured-grows xs p (got a q) h = h
+  measured-grows xs p (refused r q) h = h
+
+  pub measured-frame : (xs ys : List ℕ) (p : ℕ) (o o′ : Out ℕ A) → (Alike xs ys (place o) → o′ ≡ o)
+      → Alike xs ys (place (measured-out p o)) → measured-out p o′ ≡ measured-out p o
+  measured-frame xs ys p (got a q) o′ fr h = rw (fr h)
+  measured-frame xs ys p (refused r q) o′ fr h = rw (fr h)
+
+  unfoldable pub measured : Code (ℕ × A)
+  measured =
+      record {
+        read = λ xs p. measured-out p (c .read xs p);
+        codes = Measured;
+        sound = λ xs m p q e. measured-sound xs m p q (c .read xs p) refl e;
+        complete = λ xs m p q l. measured-complete xs m p q l;
+        grows = λ xs p. measured-grows xs p (c .read xs p) (c .grows xs p);
+        frame = λ xs ys p h. measured-frame xs ys p (c .read xs p) (c .read ys p) (c .frame xs ys p) h;
+      }
+
 -- ---- n raw bits, the number that they spell
 module _ (n : ℕ) where
   abbrev pub raw-out : Bool → List ℕ → ℕ → Out ℕ ℕ

@@ -11,7 +11,7 @@ ghost use Rattle.bitcursor.specs.Answers.{limited, asRead, asBool, asI16
 
 pub mod values;
 pub mod within;
-mod words;
+pub mod words;
 
 // Why a reading stops: the rows of document 01's table, to which `refusalNumber` of specs/Refusals gives their numbers.
 pub enum Refusal {
