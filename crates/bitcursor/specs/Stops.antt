@@ -13,8 +13,8 @@ use Rattle.bitcursor.specs.declared.Refusal.the-variants.{TooFewBits, Re
 use Rattle.bitcursor.specs.declared.Handle.{Handle}
 use Rattle.bitcursor.specs.Bits.{bitsOf, size, window, number, digits}
 use Rattle.bitcursor.specs.BitLaws.{digits-number, window-whole, window-add}
-use Rattle.bitcursor.specs.Reading.{Out, got, refused, andThen, never}
-use Rattle.bitcursor.specs.Code.{Code, give, refuse, raw, _>>=_, tabled, mapped}
+use Rattle.bitcursor.specs.Reading.{Out, got, refused, place, andThen, never}
+use Rattle.bitcursor.specs.Code.{Code, Moves, give, refuse, raw, _>>=_, tabled, mapped}
 use Rattle.bitcursor.specs.Bytes.{lowNumber, bytes, bytesAt, lowFirst, highFirst, skip, raw-there, raw-short, bytes-there, bytes-short, le-or-lt}
 use Rattle.bitcursor.specs.Codes.{RC, RL, RD, byTag, tagged, BS, BS-read, BL, BL-read}
 use Rattle.bitcursor.specs.Doubles.{one-pattern, BD, BD-read, DD, DD-read, low4, low6, four, six}
@@ -77,6 +77,21 @@ past-low k xs p h e =
 pub past-opened : {A : Type 0} (n : ℕ) (g : ℕ → Code A) (xs : List ℕ) (p : ℕ) → 0 < n → size xs ≤ p → (raw n >>= g) .read xs p ≡ refused TooFewBits p
 unfolding _>>=_
 past-opened n g xs p h e = rw (past-raw n xs p h e)
+
+pub BS-past : (xs : List ℕ) (p : ℕ) → size xs ≤ p → BS .read xs p ≡ refused TooFewBits p
+unfolding BS tabled BS-read tagged
+BS-past xs p e = past-opened 2 _ xs p (omega arith) e
+
+-- so what such a code reads ends inside the payload
+pub ends-inside : {A : Type 0} (c : Code A) → ((xs : List ℕ) (p : ℕ) → size xs ≤ p → c .read xs p ≡ refused TooFewBits p)
+    → (xs : List ℕ) (p : ℕ) {a : A} {q : ℕ} → c .read xs p ≡ got a q → (p ≤ q) × (q ≤ size xs)
+ends-inside c past xs p {a} {q} e =
+    ⊎-elim
+    (λ (w : size xs ≤ p). never (sym (past xs p w) ∙ e))
+    (λ (w : p < size xs).
+    let m = subst (λ (o : Out ℕ _). Moves xs p (place o)) e (c .grows xs p) in
+    (omega arith, omega arith))
+    (le-or-lt (size xs) p)
 
 -- ---- how each code can be refused, and where
 -- a refusal r at q of a reading from p

@@ -1,0 +1,4 @@
+pub mod UnitLaws
+pub mod VersionLaws
+pub mod TextLaws
+pub mod FieldLaws

@@ -1,0 +1,121 @@
+-- Laws of the units at a place: their last one, what is left without a closing zero, and one step of a pass over them.
+-- Assumes nothing.
+use mathlib.Core.Path.{_≡_, refl, sym, ap, ap₂, subst, _∙_}
+use mathlib.Core.Bool.{Bool, true, false, not, _&&_, Bool·beq}
+use mathlib.Core.List.{List, [], _∷_}
+use Prim.Native.Nat.{ℕ, zero, suc, _+_, _-_, _*_, _≤_, _<_}
+use native.Mathlib.Nat.{mul-suc, mul-zero}
+use native.Mathlib.Omega.{arith}
+use lib.Dec.{eqb}
+use lib.ListN.{length, getD, take}
+use borrow.Author.Tests.{eq-eqb, ne-eqb, not-true, not-false}
+use Rattle.bitcursor.specs.Bytes.{lowNumber, bytesAt}
+use Rattle.text.specs.Units.{unitsAt}
+use Rattle.text.specs.Utf16.{high, low, pairedFrom}
+use Rattle.text.specs.Texts.{unclosed}
+
+pub length-units : (xs : List ℕ) (p k n : ℕ) → length (unitsAt xs p k n) ≡ n
+unfolding unitsAt
+length-units xs p k zero = refl
+length-units xs p k (suc n) = ap suc (length-units xs (p + 8 * k) k n)
+
+-- k units fewer
+pub one-less : (k n : ℕ) → 0 < n → k * n ≡ k * (n - 1) + k
+one-less k zero h = absurd (omega arith)
+one-less k (suc n) h = let e : suc n - 1 ≡ n = omega arith in rw e (mul-suc k n)
+
+unit-at : (xs : List ℕ) (p k n i : ℕ) → i < n → getD (unitsAt xs p k n) i 0 ≡ lowNumber (bytesAt xs (p + 8 * (k * i)) k)
+unfolding unitsAt
+unit-at xs p k zero i h = absurd (omega arith)
+unit-at xs p k (suc n) zero h = let e : p + 8 * (k * 0) ≡ p = omega (arith, mul-zero k) in rw e
+unit-at xs p k (suc n) (suc i) h =
+    let e : p + 8 * (k * suc i) ≡ p + 8 * k + 8 * (k * i) = omega (arith, mul-suc k i) in
+    rw e (unit-at xs (p + 8 * k) k n i (omega arith))
+
+-- ---- a closing zero
+dropped : (us : List ℕ) (m : ℕ) → length us ≡ suc m → getD us m 0 ≡ 0 → length (unclosed us) ≡ m
+dropped [] m h e = absurd (omega arith)
+dropped (u ∷ []) zero h e = rw (eq-eqb u 0 e, unclosed)
+dropped (u ∷ []) (suc m) h e = absurd (omega arith)
+dropped (u ∷ (v ∷ us)) zero h e = absurd (omega arith)
+dropped (u ∷ (v ∷ us)) (suc m) h e = ap suc (dropped (v ∷ us) m (omega arith) e)
+
+kept : (us : List ℕ) (m : ℕ) → length us ≡ suc m → (getD us m 0 ≡ 0 → ⊥) → length (unclosed us) ≡ suc m
+kept [] m h e = absurd (omega arith)
+kept (u ∷ []) zero h e = rw (ne-eqb u 0 e, unclosed)
+kept (u ∷ []) (suc m) h e = absurd (omega arith)
+kept (u ∷ (v ∷ us)) zero h e = absurd (omega arith)
+kept (u ∷ (v ∷ us)) (suc m) h e = ap suc (kept (v ∷ us) m (omega arith) e)
+
+module _ (xs : List ℕ) (p k n : ℕ) (some : 0 < n) where
+  last : getD (unitsAt xs p k n) (n - 1) 0 ≡ lowNumber (bytesAt xs (p + 8 * (k * (n - 1))) k)
+  last = unit-at xs p k n (n - 1) (omega arith)
+
+  long : length (unitsAt xs p k n) ≡ suc (n - 1)
+  long = length-units xs p k n ∙ omega arith
+
+  pub count-closed : lowNumber (bytesAt xs (p + 8 * (k * (n - 1))) k) ≡ 0 → n - 1 ≡ length (unclosed (unitsAt xs p k n))
+  count-closed e = sym (dropped (unitsAt xs p k n) (n - 1) long (last ∙ e))
+
+  pub count-open : (lowNumber (bytesAt xs (p + 8 * (k * (n - 1))) k) ≡ 0 → ⊥) → n ≡ length (unclosed (unitsAt xs p k n))
+  count-open e = let m : n ≡ suc (n - 1) = omega arith in m ∙ sym (kept (unitsAt xs p k n) (n - 1) long (λ z. e (sym last ∙ z)))
+
+-- what is left of one unit
+abbrev pick : ℕ → Bool → List ℕ
+pick u b = elim b [ true ↦ [] | false ↦ u ∷ [] ]
+
+-- what is left are the first units
+front : (us : List ℕ) → unclosed us ≡ take (length (unclosed us)) us
+front [] = refl
+front (u ∷ []) = go (eqb u 0)
+  where
+    go : (b : Bool) → pick u b ≡ take (length (pick u b)) (u ∷ [])
+    go true = refl
+    go false = refl
+front (u ∷ (v ∷ us)) = ap (λ (l : List ℕ). u ∷ l) (front (v ∷ us))
+
+first-units : (xs : List ℕ) (p k n m : ℕ) → m ≤ n → take m (unitsAt xs p k n) ≡ unitsAt xs p k m
+unfolding unitsAt
+first-units xs p k n zero h = refl
+first-units xs p k zero (suc m) h = absurd (omega arith)
+first-units xs p k (suc n) (suc m) h = ap (λ (l : List ℕ). lowNumber (bytesAt xs p k) ∷ l) (first-units xs (p + 8 * k) k n m (omega arith))
+
+shorter : (us : List ℕ) → length (unclosed us) ≤ length us
+shorter [] = omega arith
+shorter (u ∷ []) = go (eqb u 0)
+  where
+    go : (b : Bool) → length (pick u b) ≤ 1
+    go true = omega arith
+    go false = omega arith
+shorter (u ∷ (v ∷ us)) = omega (arith, shorter (v ∷ us))
+
+pub count-most : (xs : List ℕ) (p k n : ℕ) → length (unclosed (unitsAt xs p k n)) ≤ n
+count-most xs p k n = omega (arith, shorter (unitsAt xs p k n), length-units xs p k n)
+
+pub unclosed-units : (xs : List ℕ) (p k n : ℕ) → unclosed (unitsAt xs p k n) ≡ unitsAt xs p k (length (unclosed (unitsAt xs p k n)))
+unclosed-units xs p k n = front (unitsAt xs p k n) ∙ first-units xs p k n (length (unclosed (unitsAt xs p k n))) (count-most xs p k n)
+
+-- ---- one pass over 16-bit units: the first of the n - i units at i, and the rest
+module _ (xs : List ℕ) (at n i : ℕ) (more : i < n) (half : Bool) where
+  pub pass-step : pairedFrom half (unitsAt xs (at + 16 * i) 2 (n - i))
+      ≡ Bool·beq (low (lowNumber (bytesAt xs (at + 16 * i) 2))) half
+      && pairedFrom (high (lowNumber (bytesAt xs (at + 16 * i) 2))) (unitsAt xs (at + 16 * (i + 1)) 2 (n - (i + 1)))
+  unfolding unitsAt
+  pass-step =
+      let e : n - i ≡ suc (n - (i + 1)) = omega arith in
+      let f : at + 16 * i + 16 ≡ at + 16 * (i + 1) = omega arith in
+      rw (e, f)
+
+  pub pass-stop : (u : ℕ) (l : Bool) → u ≡ lowNumber (bytesAt xs (at + 16 * i) 2) → l ≡ low u → not (Bool·beq l half) ≡ true
+      → false ≡ pairedFrom half (unitsAt xs (at + 16 * i) 2 (n - i))
+  pass-stop u l e f g =
+      let z : Bool·beq (low (lowNumber (bytesAt xs (at + 16 * i) 2))) half ≡ false =
+      ap (λ (v : ℕ). Bool·beq (low v) half) (sym e) ∙ ap (λ (b : Bool). Bool·beq b half) (sym f) ∙ not-true (Bool·beq l half) g in
+      sym (pass-step ∙ rw z)
+
+  pub pass-on : (u : ℕ) (l h : Bool) → u ≡ lowNumber (bytesAt xs (at + 16 * i) 2) → l ≡ low u → not (Bool·beq l half) ≡ false → h ≡ high u
+      → pairedFrom half (unitsAt xs (at + 16 * i) 2 (n - i)) ≡ pairedFrom h (unitsAt xs (at + 16 * (i + 1)) 2 (n - (i + 1)))
+  pass-on u l h e f g k =
+      let z : Bool·beq (low (lowNumber (bytesAt xs (at + 16 * i) 2))) half ≡ true =
+      ap (λ (v : ℕ). Bool·beq (low v) half) (sym e) ∙ ap (λ (b : Bool). Bool·beq b half) (sym f) ∙ not-false (Bool·beq l half) g in
+      pass-step ∙ rw (z, k, e)

@@ -1,0 +1,14 @@
+-- The two bounds are the definition's.
+use mathlib.Core.Path.{_≡_, refl, sym, ap, ap₂, _∙_}
+use borrow.Author.Tests.{le-leb, lt-leb}
+use Rattle.text.proofs.units.is_low.Statement.{statement}
+use Rattle.text.proofs.units.is_low.Tie as tie
+
+returns : tie.Need-returns
+returns c = rw (le-leb 0xdc00 (c .before .args .u) (c .if1 .taken))
+
+returns-2 : tie.Need-returns-2
+returns-2 c = rw (lt-leb 0xdc00 (c .before .args .u) (c .if1 .left))
+
+pub is-low-spec : {M : Type 1} → statement M
+is-low-spec = tie.close (tie.spec returns returns-2)

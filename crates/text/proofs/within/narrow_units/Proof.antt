@@ -1,0 +1,44 @@
+-- The units are passed by one comparison, and the last one says how many are left.
+use mathlib.Core.Path.{_≡_, refl, sym, ap, subst, _∙_}
+use Prim.Native.Nat.{ℕ, _+_, _-_, _*_, _≤_, _<_}
+use native.Mathlib.Omega.{arith}
+use denote.Ref.{now}
+use Rattle.bitcursor.proofs.Steps.{passed-there, passed-short}
+use Rattle.text.specs.declared.Source.the-variants.{Main}
+use Rattle.text.specs.Texts.{narrow}
+use Rattle.text.proofs.TextLaws.{units-found, units-cut}
+use borrow.Author.Needs.{needs}
+use Rattle.text.proofs.within.narrow_units.Statement.{statement}
+use Rattle.text.proofs.within.narrow_units.Tie as tie
+
+skip-bytes-requires : tie.Need-skip-bytes-requires
+skip-bytes-requires c κs = search needs
+
+enum-known-p : tie.Need-enum-known-p
+enum-known-p c = search needs
+
+count-units-requires : tie.Need-count-units-requires
+count-units-requires c κs =
+    let a = c .before .before .before .before .before .args in
+    let t = passed-there (now (a .s)) (a .n) (a .at) (c .before .before .before .skip-bytes .ensures) (c .before .p .given .1) in
+    omega arith
+
+enum-known-k : tie.Need-enum-known-k
+enum-known-k c = search needs
+
+returns : tie.Need-returns
+returns c =
+    let a = c .before .before .before .before .before .before .args in
+    let t = passed-there (now (a .s)) (a .n) (a .at) (c .before .before .before .before .skip-bytes .ensures) (c .before .before .p .given .1) in
+    units-found Main narrow (now (a .s)) (a .at) (a .n) (c .before .before .p .given .0 .0) (omega arith) (omega arith) (c .count-units .result) (c .count-units .ensures) refl
+
+returns-2 : tie.Need-returns-2
+returns-2 c =
+    let a = c .before .before .before .before .before .args in
+    let t = passed-short (now (a .s)) (a .n) (a .at) (c .before .before .before .skip-bytes .ensures) (c .before .k .given .1) in
+    units-cut Main narrow (now (a .s)) (a .at) (a .n) (c .before .k .given .0 .1 .0) (omega arith) (t .why) (t .stop)
+
+pub narrow-units-spec : {M : Type 1} → statement M
+narrow-units-spec =
+    tie.close
+    (tie.spec skip-bytes-requires enum-known-p count-units-requires enum-known-k returns returns-2)

@@ -1,0 +1,74 @@
+-- The units are passed by one comparison, the last one says how many are left, and one pass over those judges them.
+use mathlib.Core.Path.{_≡_, refl, sym, ap, subst, _∙_}
+use Prim.Native.Nat.{ℕ, _+_, _-_, _*_, _≤_, _<_}
+use native.Mathlib.Omega.{arith}
+use denote.Ref.{now}
+use mathlib.Core.Bool.{Bool, true, false}
+use Rattle.bitcursor.proofs.Steps.{passed-there, passed-short}
+use Rattle.text.specs.Units.{unitsAt}
+use Rattle.text.specs.Utf16.{pairedFrom}
+use Rattle.text.specs.Texts.{wide}
+use Rattle.text.proofs.UnitLaws.{count-most, unclosed-units}
+use Rattle.text.proofs.TextLaws.{units-found, units-bad, units-cut}
+use borrow.Author.Needs.{needs}
+use Rattle.text.proofs.within.wide_units.Statement.{statement}
+use Rattle.text.proofs.within.wide_units.Tie as tie
+
+mul-skip-bytes : tie.Need-mul-skip-bytes
+mul-skip-bytes c = search needs
+
+skip-bytes-requires : tie.Need-skip-bytes-requires
+skip-bytes-requires c κs = search needs
+
+enum-known-p : tie.Need-enum-known-p
+enum-known-p c = search needs
+
+count-units-requires : tie.Need-count-units-requires
+count-units-requires c κs =
+    let a = c .before .before .before .before .before .args in
+    let t = passed-there (now (a .s)) (2 * a .n) (a .at) (c .before .before .before .skip-bytes .ensures) (c .before .p .given .1) in
+    omega arith
+
+is-utf16-requires : tie.Need-is-utf16-requires
+is-utf16-requires c κs =
+    let a = c .before .before .before .before .before .before .args in
+    let t = passed-there (now (a .s)) (2 * a .n) (a .at) (c .before .before .before .before .skip-bytes .ensures) (c .before .before .p .given .1) in
+    let m = count-most (now (a .s)) (a .at) 2 (a .n) in
+    omega (arith, c .count-units .ensures)
+
+returns : tie.Need-returns
+returns c =
+    let a = c .before .before .before .before .before .before .before .before .args in
+    let t = passed-there (now (a .s)) (2 * a .n) (a .at) (c .before .before .before .before .before .before .skip-bytes .ensures) (c .before .before .before .before .p .given .1) in
+    let l = c .before .is-utf16 .ensures ∙ ap (λ (m : ℕ). pairedFrom false (unitsAt (now (a .s)) (a .at) 2 m)) (c .before .before .count-units .ensures) ∙ ap (pairedFrom false) (sym (unclosed-units (now (a .s)) (a .at) 2 (a .n))) in
+    units-found (a .source) wide (now (a .s)) (a .at) (a .n) (c .before .before .before .before .p .given .0 .0) (omega arith) (omega arith) (c .before .before .count-units .result) (c .before .before .count-units .ensures) (sym l ∙ c .if1 .taken)
+
+enum-known-k : tie.Need-enum-known-k
+enum-known-k c = search needs
+
+returns-2 : tie.Need-returns-2
+returns-2 c =
+    let a = c .before .before .before .before .before .before .before .before .args in
+    let t = passed-there (now (a .s)) (2 * a .n) (a .at) (c .before .before .before .before .before .before .skip-bytes .ensures) (c .before .before .before .before .p .given .1) in
+    let l = c .before .is-utf16 .ensures ∙ ap (λ (m : ℕ). pairedFrom false (unitsAt (now (a .s)) (a .at) 2 m)) (c .before .before .count-units .ensures) ∙ ap (pairedFrom false) (sym (unclosed-units (now (a .s)) (a .at) 2 (a .n))) in
+    units-bad (a .source) wide (now (a .s)) (a .at) (a .n) (c .before .before .before .before .p .given .0 .0) (omega arith) (omega arith) (sym l ∙ c .if1 .left)
+
+returns-3 : tie.Need-returns-3
+returns-3 c =
+    let a = c .before .before .before .before .before .args in
+    let t = passed-short (now (a .s)) (2 * a .n) (a .at) (c .before .before .before .skip-bytes .ensures) (c .before .k .given .1) in
+    units-cut (a .source) wide (now (a .s)) (a .at) (a .n) (c .before .k .given .0 .1 .0) (omega arith) (t .why) (t .stop)
+
+pub wide-units-spec : {M : Type 1} → statement M
+wide-units-spec =
+    tie.close
+    (tie.spec
+    mul-skip-bytes
+    skip-bytes-requires
+    enum-known-p
+    count-units-requires
+    is-utf16-requires
+    returns
+    enum-known-k
+    returns-2
+    returns-3)

@@ -1,0 +1,70 @@
+-- Texts as fields of a format: inline in the main payload, or from the lent string reader by the reader's rule. Assumes nothing.
+use mathlib.Core.Path.{_≡_, refl, sym, ap, ap₂, _∙_}
+use mathlib.Core.Bool.{Bool, true, false, _||_}
+use mathlib.Core.List.{List, []}
+use Prim.Native.Nat.{ℕ, _+_, _*_}
+use lib.Dec.{leb, eqb}
+use lib.ListN.{length}
+use Rattle.bitcursor.specs.declared.Refusal.the-variants.{TextPastEnd, NotUtf16}
+use Rattle.bitcursor.specs.Reading.{Out, got, refused, andThen}
+use Rattle.bitcursor.specs.Code.{Code, measured}
+use Rattle.bitcursor.specs.Codes.{BS}
+use Rattle.bitcursor.specs.Format.{Places, Payloads, Format, Agree, pure, refuse, _>>=_, peek, either}
+use Rattle.bitcursor.specs.Fields.{Payload, main, string, placeIn, bytesIn, field, lifted, movedIn}
+use Rattle.text.specs.declared.Source.{Source}
+use Rattle.text.specs.declared.Source.the-variants.{Absent, Main, String}
+use Rattle.text.specs.declared.Text.{Text}
+use Rattle.text.specs.declared.version.Version.{Version}
+use Rattle.text.specs.Releases.{releaseNumber}
+use Rattle.text.specs.Units.{units}
+use Rattle.text.specs.Texts.{UnitWidth, narrow, wide, unitBytes, unclosed, lawful, Written, written, judged, TV}
+
+-- document 01's text: payload, unit width, position of the first unit, unit count
+abbrev pub textAt : Source → UnitWidth → ℕ → ℕ → Text
+textAt source w position count = record { source = source; width = 8 * unitBytes w; position = position; count = count }
+
+-- the text whose length code begins at `at`
+abbrev pub textOf : Source → UnitWidth → ℕ → Written → Text
+textOf source w at t = textAt source w (at + t .lead) (length (t .units))
+
+-- the place in a payload
+unfoldable pub here : Payload → Format ℕ
+here w = peek (λ γ p. placeIn w p) (λ γ δ p h. refl)
+
+-- 8-bit units before release 4, 16-bit units from it
+abbrev pub widthOf : Version → UnitWidth
+widthOf v = elim (leb 4 (releaseNumber v)) [ true ↦ wide | false ↦ narrow ]
+
+unfoldable pub inline : UnitWidth → Format Text
+inline w = do
+  at ← here main
+  t ← field main (TV w)
+  pure (textOf Main w at t)
+
+-- the reader's rule: at or past its end bit empty and unmoved; else a length code, and then length 0 or units that end by the end bit
+unfoldable pub past-end : Format Bool
+past-end = peek (λ γ p. leb (γ .end) (p .string)) (λ γ δ p h. rw (h .end))
+
+unfoldable pub room-for : ℕ → Format Bool
+room-for n = peek (λ γ p. eqb n 0 || leb (p .string + 16 * n) (γ .end)) (λ γ δ p h. rw (h .end))
+
+unfoldable pub from-reader : Format Text
+from-reader = do
+  at ← here string
+  over ← past-end
+  either over (pure (textAt String wide at 0)) (do
+    m ← field string (measured BS)
+    room ← room-for (m .1)
+    either room (do
+      laid ← field string (units 2 (m .1))
+      t ← field string (judged wide (m .0) laid)
+      pure (textOf String wide at t)) (refuse TextPastEnd))
+
+-- the reader's text where one is lent, inline text where none is
+unfoldable pub lent : Format Bool
+lent = peek (λ γ p. γ .reader) (λ γ δ p h. h .reader)
+
+unfoldable pub TV-field : Version → Format Text
+TV-field v = do
+  reader ← lent
+  either reader from-reader (inline (widthOf v))

@@ -1,0 +1,59 @@
+// The units of a text that are all there: how many are left once a closing zero is dropped, and whether they are valid UTF-16.
+ghost use mathlib.Core.Path.{_≡_};
+ghost use mathlib.Core.Bool.{true, false};
+ghost use Prim.Native.Nat.{_-_, _*_, _≤_};
+ghost use lib.ListN.{length};
+ghost use Rattle.bitcursor.specs.Answers.{limit};
+ghost use Rattle.text.specs.Units.{unitsAt};
+ghost use Rattle.text.specs.Utf16.{high, low, pairedFrom};
+ghost use Rattle.text.specs.Texts.{unclosed};
+use bitcursor::words;
+
+// How many of the n units of k bytes at `at` are left without a closing zero.
+pub fn count_units(s: &[u8], at: usize, k: usize, n: usize) -> usize
+    requires { ⌜ (length (now s) ≤ limit) × ((1 ≤ k) × ((k ≤ 2) × (8 * (k * n) ≤ 8 * length (now s) - at))) ⌝ }
+    ensures { λ r. ⌜ r ≡ length (unclosed (unitsAt (now (s .entry)) at k n)) ⌝ }
+{
+    if n == 0 {
+        return 0;
+    }
+    let before = k * (n - 1);
+    let last = words::low_at(s, at + 8 * before, k);
+    if last == 0 {
+        return n - 1;
+    }
+    n
+}
+
+// D800 to DBFF.
+fn is_high(u: u64) -> bool
+    ensures { λ r. ⌜ r ≡ high u ⌝ }
+{
+    0xd800 <= u && u <= 0xdbff
+}
+
+// DC00 to DFFF.
+fn is_low(u: u64) -> bool
+    ensures { λ r. ⌜ r ≡ low u ⌝ }
+{
+    0xdc00 <= u && u <= 0xdfff
+}
+
+// Whether the n units of two bytes at `at` are valid UTF-16, in one pass.
+pub fn is_utf16(s: &[u8], at: usize, n: usize) -> bool
+    requires { ⌜ (length (now s) ≤ limit) × (16 * n ≤ 8 * length (now s) - at) ⌝ }
+    ensures { λ r. ⌜ r ≡ pairedFrom false (unitsAt (now (s .entry)) at 2 n) ⌝ }
+{
+    let mut half = false;
+    let mut i: usize = 0;
+    while i < n {
+        let u = words::low_at(s, at + 16 * i, 2);
+        let l = is_low(u);
+        if l != half {
+            return false;
+        }
+        half = is_high(u);
+        i += 1;
+    }
+    !half
+}
