@@ -6,7 +6,9 @@ use lib.IntN.{ℤ}
 use Rattle.bitcursor.specs.declared.Handle.{Handle}
 use Rattle.bitcursor.specs.Reading.{Out, got, refused}
 use Rattle.bitcursor.specs.Answers.{asRead, asBool, asI16, asI32, asF64, asHandle}
-use Rattle.dwg_hatch.specs.Boundary.{codeAnswer, boolAnswer, signedAnswer, doubleAnswer, handleAnswer, readNumbers, boolNumbers, i16Numbers, i32Numbers, f64Numbers, handleNumbers}
+use Rattle.text.specs.declared.Text.{Text}
+use Rattle.text.specs.Answers.{asText}
+use Rattle.dwg_hatch.specs.Boundary.{textAnswer, textNumbers, codeAnswer, boolAnswer, signedAnswer, doubleAnswer, handleAnswer, readNumbers, boolNumbers, i16Numbers, i32Numbers, f64Numbers, handleNumbers}
 
 pub as-read : (o : Out ℕ ℕ) → readNumbers (asRead o) ≡ codeAnswer o
 as-read (got v p) = refl
@@ -31,3 +33,7 @@ as-f64 (refused r p) = refl
 pub as-handle : (o : Out ℕ Handle) → handleNumbers (asHandle o) ≡ handleAnswer o
 as-handle (got v p) = refl
 as-handle (refused r p) = refl
+
+pub as-text : (o : Out ℕ Text) → textNumbers (asText o) ≡ textAnswer o
+as-text (got t p) = refl
+as-text (refused r p) = refl

@@ -18,6 +18,11 @@ use Rattle.bitcursor.specs.declared.ReadF64.{ReadF64}
 use Rattle.bitcursor.specs.declared.ReadF64.the-variants.{Value as ValueF64, Refused as RefusedF64}
 use Rattle.bitcursor.specs.declared.ReadHandle.{ReadHandle}
 use Rattle.bitcursor.specs.declared.ReadHandle.the-variants.{Value as ValueHandle, Refused as RefusedHandle}
+use Rattle.text.specs.declared.Source.{Source}
+use Rattle.text.specs.declared.Source.the-variants.{Absent, Main, String}
+use Rattle.text.specs.declared.Text.{Text}
+use Rattle.text.specs.declared.ReadText.{ReadText}
+use Rattle.text.specs.declared.ReadText.the-variants.{Found as FoundText, Refused as RefusedText}
 use Rattle.bitcursor.specs.Bits.{bit}
 use Rattle.bitcursor.specs.Reading.{Out, got, refused}
 use Rattle.bitcursor.specs.Refusals.{refusalNumber}
@@ -26,6 +31,7 @@ use Rattle.dwg_hatch.specs.declared.CodeAnswer.{CodeAnswer}
 use Rattle.dwg_hatch.specs.declared.SignedAnswer.{SignedAnswer}
 use Rattle.dwg_hatch.specs.declared.DoubleAnswer.{DoubleAnswer}
 use Rattle.dwg_hatch.specs.declared.HandleAnswer.{HandleAnswer}
+use Rattle.dwg_hatch.specs.declared.TextAnswer.{TextAnswer}
 
 -- ---- the answers, from what was read
 abbrev pub codeAnswer : Out ℕ ℕ → CodeAnswer
@@ -48,6 +54,16 @@ doubleAnswer (refused r p) = record { refusal = refusalNumber r; place = p; valu
 abbrev pub handleAnswer : Out ℕ Handle → HandleAnswer
 handleAnswer (got h p) = record { refusal = 0; place = p; code = h .code; counter = h .counter; value = h .value }
 handleAnswer (refused r p) = record { refusal = refusalNumber r; place = p; code = 0; counter = 0; value = 0 }
+
+abbrev pub sourceNumber : Source → ℕ
+sourceNumber Absent = 0
+sourceNumber Main = 1
+sourceNumber String = 2
+
+abbrev pub textAnswer : Out ℕ Text → TextAnswer
+textAnswer (got t p) =
+    record { refusal = 0; place = p; source = sourceNumber (t .source); width = t .width; position = t .position; count = t .count }
+textAnswer (refused r p) = record { refusal = refusalNumber r; place = p; source = 0; width = 0; position = 0; count = 0 }
 
 -- ---- the same from the calls' enums
 abbrev pub readNumbers : Read → CodeAnswer
@@ -73,3 +89,7 @@ f64Numbers (RefusedF64 r p) = doubleAnswer (refused r p)
 abbrev pub handleNumbers : ReadHandle → HandleAnswer
 handleNumbers (ValueHandle h p) = handleAnswer (got h p)
 handleNumbers (RefusedHandle r p) = handleAnswer (refused r p)
+
+abbrev pub textNumbers : ReadText → TextAnswer
+textNumbers (FoundText t p) = textAnswer (got t p)
+textNumbers (RefusedText r p) = textAnswer (refused r p)

@@ -1,11 +1,12 @@
 // The answers of the calls as numbers: what crosses the boundary in place of an enum.
 ghost use mathlib.Core.Path.{_≡_};
 ghost use Rattle.bitcursor.specs.Refusals.{refusalNumber};
-ghost use Rattle.dwg_hatch.specs.Boundary.{boolNumbers, readNumbers, i16Numbers, i32Numbers, f64Numbers, handleNumbers};
+ghost use Rattle.dwg_hatch.specs.Boundary.{boolNumbers, readNumbers, i16Numbers, i32Numbers, f64Numbers, handleNumbers, textNumbers, sourceNumber};
 use crate::CodeAnswer;
 use crate::DoubleAnswer;
 use crate::HandleAnswer;
 use crate::SignedAnswer;
+use crate::TextAnswer;
 use bitcursor::Read;
 use bitcursor::ReadBool;
 use bitcursor::ReadF64;
@@ -13,6 +14,8 @@ use bitcursor::ReadHandle;
 use bitcursor::ReadI16;
 use bitcursor::ReadI32;
 use bitcursor::Refusal;
+use text::ReadText;
+use text::Source;
 
 // A refusal's number, as wide as the boundary has it.
 fn number(r: Refusal) -> u64
@@ -123,6 +126,43 @@ pub fn of_handle(r: ReadHandle) -> HandleAnswer
             code: 0,
             counter: 0,
             value: 0,
+        },
+    }
+}
+
+// Which payload a text lies in, as a number.
+fn source_number(source: Source) -> u8
+    ensures { λ n. ⌜ n ≡ sourceNumber source ⌝ }
+{
+    match source {
+        Source::Absent => 0,
+        Source::Main => 1,
+        Source::String => 2,
+    }
+}
+
+pub fn of_text(r: ReadText) -> TextAnswer
+    ensures { λ x. ⌜ x ≡ textNumbers r ⌝ }
+{
+    match r {
+        ReadText::Found(t, p) => {
+            let source = t.source;
+            TextAnswer {
+                refusal: 0,
+                place: p,
+                source: source_number(source),
+                width: t.width,
+                position: t.position,
+                count: t.count,
+            }
+        }
+        ReadText::Refused(k, p) => TextAnswer {
+            refusal: number(k),
+            place: p,
+            source: 0,
+            width: 0,
+            position: 0,
+            count: 0,
         },
     }
 }

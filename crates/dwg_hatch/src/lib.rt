@@ -7,7 +7,9 @@ ghost use Rattle.bitcursor.specs.Codes.{B, BB, «3B», RC, RS, RL, RD, BS, BL, 
 ghost use Rattle.bitcursor.specs.Doubles.{BD, DD};
 ghost use Rattle.bitcursor.specs.Handles.{BLL, HANDLE};
 ghost use Rattle.bitcursor.specs.Answers.{limited};
-ghost use Rattle.dwg_hatch.specs.Boundary.{boolAnswer, codeAnswer, signedAnswer, doubleAnswer, handleAnswer};
+ghost use Rattle.text.specs.Releases.{versionOf};
+ghost use Rattle.text.specs.Answers.{inlineText, readerText, released};
+ghost use Rattle.dwg_hatch.specs.Boundary.{boolAnswer, codeAnswer, signedAnswer, doubleAnswer, handleAnswer, textAnswer};
 
 mod answers;
 
@@ -40,6 +42,18 @@ pub struct HandleAnswer {
     pub code: u8,
     pub counter: u8,
     pub value: u64,
+}
+
+// What a text gives: the refusal's number or 0, the final place, and document 01's text: the payload (1 main, 2 string, 0 none),
+// the bits of a unit, the bit position of the first unit and the unit count, or 0 for each.
+#[repr(C)]
+pub struct TextAnswer {
+    pub refusal: u64,
+    pub place: usize,
+    pub source: u8,
+    pub width: u8,
+    pub position: usize,
+    pub count: usize,
 }
 
 // B: one bit, 0 or 1.
@@ -184,4 +198,20 @@ pub extern "C" fn dwg_read_handle(s: &[u8], at: usize) -> HandleAnswer
     ensures { λ r. ⌜ r ≡ handleAnswer (limited (HANDLE .read) (now (s .entry)) at) ⌝ }
 {
     answers::of_handle(bitcursor::read_handle(s, at))
+}
+
+// TV: inline text of a release.
+#[no_mangle]
+pub extern "C" fn dwg_read_tv(s: &[u8], at: usize, release: u64) -> TextAnswer
+    ensures { λ r. ⌜ r ≡ textAnswer (released (λ v. limited (inlineText v)) (versionOf release) (now (s .entry)) at) ⌝ }
+{
+    answers::of_text(text::read_tv(s, at, release))
+}
+
+// Text from a string reader that stands at `at` and ends at the bit `end`.
+#[no_mangle]
+pub extern "C" fn dwg_read_string_tv(s: &[u8], at: usize, end: usize) -> TextAnswer
+    ensures { λ r. ⌜ r ≡ textAnswer (limited (readerText end) (now (s .entry)) at) ⌝ }
+{
+    answers::of_text(text::read_string_tv(s, at, end))
 }

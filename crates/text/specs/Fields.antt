@@ -59,12 +59,3 @@ from-reader = do
       laid ← field string (units 2 (m .1))
       t ← field string (judged wide (m .0) laid)
       pure (textOf String wide at t)) (refuse TextPastEnd))
-
--- the reader's text where one is lent, inline text where none is
-unfoldable pub lent : Format Bool
-lent = peek (λ γ p. γ .reader) (λ γ δ p h. h .reader)
-
-unfoldable pub TV-field : Version → Format Text
-TV-field v = do
-  reader ← lent
-  either reader from-reader (inline (widthOf v))

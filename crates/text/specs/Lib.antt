@@ -4,3 +4,7 @@ pub mod Utf16
 pub mod Texts
 pub mod Fields
 pub mod Answers
+pub mod Steps
+pub mod FieldReads
+pub mod Layouts
+pub mod TextField

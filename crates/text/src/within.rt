@@ -6,7 +6,7 @@ ghost use Rattle.bitcursor.specs.Answers.{limit};
 ghost use Rattle.text.specs.Units.{units};
 ghost use Rattle.text.specs.Texts.{narrow, wide};
 ghost use Rattle.text.specs.Answers.{asText, unitsText, inlineText, readerText, asField, payloads, placesOf};
-ghost use Rattle.text.specs.Fields.{TV-field};
+ghost use Rattle.text.specs.TextField.{TV-field};
 use crate::Places;
 use crate::ReadField;
 use crate::ReadText;

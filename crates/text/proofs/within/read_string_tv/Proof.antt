@@ -9,7 +9,7 @@ use Rattle.bitcursor.specs.Ranges.{read-below, BS-below}
 use Rattle.bitcursor.specs.Stops.{ends-inside, BS-past}
 use Rattle.bitcursor.proofs.Steps.{read-value, read-refused}
 use Rattle.text.specs.Answers.{asText}
-use Rattle.text.proofs.TextLaws.{reader-over, reader-refused, reader-past, reader-empty, reader-units}
+use Rattle.text.specs.Steps.{reader-over, reader-refused, reader-past, reader-empty, reader-units}
 use borrow.Author.Needs.{needs}
 use Rattle.text.proofs.within.read_string_tv.Statement.{statement}
 use Rattle.text.proofs.within.read_string_tv.Tie as tie

@@ -14,7 +14,7 @@ use Rattle.text.specs.Releases.{releaseNumber}
 use Rattle.text.specs.Answers.{asText, inlineText, placed}
 use Rattle.text.specs.declared.Source.the-variants.{Main}
 use Rattle.text.specs.Fields.{widthOf}
-use Rattle.text.proofs.TextLaws.{width-wide, width-narrow, inline-got, inline-refused}
+use Rattle.text.specs.Steps.{width-wide, width-narrow, inline-got, inline-refused}
 use borrow.Author.Needs.{needs}
 use Rattle.text.proofs.within.read_tv.Statement.{statement}
 use Rattle.text.proofs.within.read_tv.Tie as tie

@@ -4,7 +4,8 @@ use native.Mathlib.Omega.{arith}
 use denote.Ref.{now}
 use Rattle.bitcursor.specs.Fields.{main, string, lifted}
 use Rattle.text.specs.Answers.{payloads, placesOf, asField, inlineText, readerText}
-use Rattle.text.proofs.FieldLaws.{field-reader, field-inline, text-found, text-refused}
+use Rattle.text.specs.TextField.{field-reader, field-inline}
+use Rattle.text.proofs.FieldLaws.{text-found, text-refused}
 use borrow.Author.Needs.{needs}
 use Rattle.text.proofs.within.read_tv_field.Statement.{statement}
 use Rattle.text.proofs.within.read_tv_field.Tie as tie

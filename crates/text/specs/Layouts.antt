@@ -1,0 +1,184 @@
+-- The layouts of a reader's text, said directly: empty at or past the end bit; else an inline text of 16-bit units that ends by
+-- the end bit, or is a length code of 0 alone. Assumes nothing.
+use mathlib.Core.Path.{_≡_, refl, sym, ap, ap₂, subst, _∙_}
+use mathlib.Core.Bool.{Bool, true, false, _||_}
+use mathlib.Core.List.{List, []}
+use mathlib.Core.Logic.{⊎-elim, _⊎_, inl, inr}
+use Prim.Native.Nat.{ℕ, _+_, _-_, _*_, _≤_, _<_}
+use native.Mathlib.Omega.{arith}
+use lib.ListN.{length}
+use Rattle.bitcursor.specs.declared.Refusal.the-variants.{TextPastEnd, NotUtf16}
+use Rattle.bitcursor.specs.Bits.{size}
+use Rattle.bitcursor.specs.Reading.{Out, got, refused, place, andThen, never}
+use Rattle.bitcursor.specs.Code.{Code, Moves, give, refuse, _>>=_, tabled, measured, measured-out}
+use Rattle.bitcursor.specs.Codes.{BS}
+use Rattle.bitcursor.specs.Handles.{checked}
+use Rattle.bitcursor.specs.Bytes.{le-or-lt}
+use Rattle.bitcursor.specs.Format.{Places, Payloads, Format, relay}
+use Rattle.bitcursor.specs.Fields.{string, Field, field, lifted, movedIn}
+use Rattle.text.specs.declared.Source.the-variants.{String}
+use Rattle.text.specs.declared.Text.{Text}
+use Rattle.text.specs.Units.{units, units-there, units-short}
+use Rattle.text.specs.Texts.{wide, unclosed, lawful, Written, written, judged, TV, TV-read}
+use Rattle.text.specs.Fields.{textAt, textOf, from-reader}
+use Rattle.text.specs.Answers.{placed, unitsText, readerText}
+use Rattle.text.specs.Steps.{reader-over, reader-refused, reader-past, reader-empty, reader-units}
+use Rattle.text.specs.FieldReads.{reader-reads}
+
+pub data ReaderText (γ : Payloads) (t : Text) (p q : Places) : Type 0 where
+  over : γ .end ≤ p .string → t ≡ textAt String wide (p .string) 0 → q ≡ p → ReaderText γ t p q
+  laid : (u : Written) → p .string < γ .end → Field string (TV wide) γ u p q → (q .string ≤ γ .end) ⊎ (q .string ≡ p .string + u .lead)
+      → t ≡ textOf String wide (p .string) u → ReaderText γ t p q
+
+-- ---- the parts of a text of 16-bit units
+record Parts (xs : List ℕ) (p : ℕ) (u : Written) (s : ℕ) : Type 0 where
+  n : ℕ
+  r : ℕ
+  units-laid : List ℕ
+  length-code : BS .read xs p ≡ got n r
+  units-read : (units 2 n) .read xs r ≡ got units-laid s
+  lawful-units : lawful wide (unclosed units-laid) ≡ true
+  whole : u ≡ written (r - p) (unclosed units-laid)
+
+module _ (xs : List ℕ) (p : ℕ) where
+  parts : (u : Written) (s : ℕ) → (TV wide) .read xs p ≡ got u s → Parts xs p u s
+  unfolding TV tabled TV-read _>>=_ measured judged checked give refuse
+  parts u s e = from-length (BS .read xs p) refl e
+    where
+      judge : (n r : ℕ) (l : List ℕ) (t : ℕ) → BS .read xs p ≡ got n r → (units 2 n) .read xs r ≡ got l t → (b : Bool) → lawful wide (unclosed l) ≡ b
+          → (checked b (give (written (r - p) (unclosed l))) (refuse NotUtf16)) .read xs t ≡ got u s → Parts xs p u s
+      judge n r l t f g true h k =
+          let eu : u ≡ written (r - p) (unclosed l) = cc in
+          let es : t ≡ s = cc in
+          record { n = n; r = r; units-laid = l; length-code = f; units-read = g ∙ ap (got l) es; lawful-units = h; whole = eu }
+      judge n r l t f g false h k = never k
+
+      from-units : (n r : ℕ) → BS .read xs p ≡ got n r → (o : Out ℕ (List ℕ)) → (units 2 n) .read xs r ≡ o
+          → andThen o (λ l t. (checked (lawful wide (unclosed l)) (give (written (r - p) (unclosed l))) (refuse NotUtf16)) .read xs t) ≡ got u s → Parts xs p u s
+      from-units n r f (got l t) g k = judge n r l t f g (lawful wide (unclosed l)) refl k
+      from-units n r f (refused a t) g k = never k
+
+      from-length : (o : Out ℕ ℕ) → BS .read xs p ≡ o
+          → andThen (measured-out BS p o) (λ m r. andThen ((units 2 (m .1)) .read xs r) (λ l t. (checked (lawful wide (unclosed l)) (give (written (m .0) (unclosed l))) (refuse NotUtf16)) .read xs t)) ≡ got u s
+          → Parts xs p u s
+      from-length (got n r) f k = from-units n r f ((units 2 n) .read xs r) refl k
+      from-length (refused a r) f k = never k
+
+  -- where the length code and the units end
+  code-on : {n r : ℕ} → BS .read xs p ≡ got n r → p ≤ r
+  code-on e = subst (λ (o : Out ℕ ℕ). Moves xs p (place o)) e (BS .grows xs p) .onward
+
+  units-end : (n r : ℕ) {l : List ℕ} {s : ℕ} → (units 2 n) .read xs r ≡ got l s → s ≡ r + 16 * n
+  units-end n r {l} {s} e =
+      ⊎-elim
+      (λ (w : 8 * (2 * n) ≤ size xs - r). let h = sym e ∙ units-there 2 n xs r w in let f : s ≡ r + 8 * (2 * n) = cc in f ∙ omega arith)
+      (λ (w : size xs - r < 8 * (2 * n)). never (sym (units-short 2 n xs r w) ∙ e))
+      (le-or-lt (8 * (2 * n)) (size xs - r))
+
+  judged-got : (k : ℕ) (l : List ℕ) (t : ℕ) → lawful wide (unclosed l) ≡ true → (judged wide k l) .read xs t ≡ got (written k (unclosed l)) t
+  unfolding judged checked give
+  judged-got k l t e = go (lawful wide (unclosed l)) e
+    where
+      go : (b : Bool) → b ≡ true → (checked b (give (written k (unclosed l))) (refuse NotUtf16)) .read xs t ≡ got (written k (unclosed l)) t
+      go true e = refl
+      go false e = let z : _≡_ {A = ℕ} 0 1 = cc in absurd (omega arith)
+
+  -- the text from its parts, and what the reader's rule makes of them
+  join : {u : Written} {s : ℕ} → Parts xs p u s → (TV wide) .read xs p ≡ got u s
+  unfolding TV tabled TV-read _>>=_ measured
+  join {u} {s} t =
+      rw (t .length-code, t .units-read) (judged-got (t .r - p) (t .units-laid) s (t .lawful-units) ∙ ap (λ (v : Written). got v s) (sym (t .whole)))
+
+  ruled : (end : ℕ) {u : Written} {s : ℕ} → Parts xs p u s → p < end → (s ≤ end) ⊎ (s ≡ p + u .lead) → readerText end xs p ≡ got (textOf String wide p u) s
+  ruled end {u} {s} t h f =
+      let on = code-on (t .length-code) in
+      let e = units-end (t .n) (t .r) (t .units-read) in
+      let lead : u .lead ≡ t .r - p = ap (λ (v : Written). v .lead) (t .whole) in
+      let text : unitsText String wide (t .r) ((units 2 (t .n)) .read xs (t .r)) ≡ got (textOf String wide p u) s =
+      ap (unitsText String wide (t .r)) (t .units-read) ∙ shown (t .r) (t .units-laid) s u (t .lawful-units) (t .whole) on in
+      ⊎-elim
+      (λ (z : t .n ≤ 0).
+      let y : t .n ≡ 0 = omega arith in
+      reader-empty end xs p h (t .length-code) on y ∙ ap (λ (m : ℕ). unitsText String wide (t .r) ((units 2 m) .read xs (t .r))) (sym y) ∙ text)
+      (λ (z : 0 < t .n).
+      let room : t .r + 16 * t .n ≤ end = ⊎-elim (λ (w : s ≤ end). omega arith) (λ (w : s ≡ p + u .lead). absurd (omega arith)) f in
+      reader-units end xs p h (t .length-code) on (λ y. omega arith) room ∙ text)
+      (le-or-lt (t .n) 0)
+    where
+      shown : (r : ℕ) (l : List ℕ) (s : ℕ) (u : Written) → lawful wide (unclosed l) ≡ true → u ≡ written (r - p) (unclosed l) → p ≤ r
+          → unitsText String wide r (got l s) ≡ got (textOf String wide p u) s
+      shown r l s u e f on =
+          let m : p + (r - p) ≡ r = omega arith in
+          rw (e, unitsText) (ap (λ (k : ℕ). got (textAt String wide k (length (unclosed l))) s) (sym m) ∙ ap (λ (v : Written). got (textOf String wide p v) s) (sym f))
+
+-- ---- the rule's readings are these layouts
+module _ (γ : Payloads) (t : Text) (p q : Places) where
+  -- units that were read and judged after a length code
+  finish : (n r : ℕ) → BS .read (γ .string) (p .string) ≡ got n r → p .string < γ .end → (n ≡ 0) ⊎ (r + 16 * n ≤ γ .end)
+      → lifted string p (unitsText String wide r ((units 2 n) .read (γ .string) r)) ≡ got t q → ReaderText γ t p q
+  finish n r f h room e = by-units ((units 2 n) .read (γ .string) r) refl e
+    where
+      by-law : (l : List ℕ) (s : ℕ) → (units 2 n) .read (γ .string) r ≡ got l s → (b : Bool) → lawful wide (unclosed l) ≡ b
+          → lifted string p (elim b [ true ↦ got (textAt String wide r (length (unclosed l))) s | false ↦ refused NotUtf16 s ]) ≡ got t q → ReaderText γ t p q
+      by-law l s g false k m = never m
+      by-law l s g true k m =
+          let u = written (r - p .string) (unclosed l) in
+          let et : t ≡ textAt String wide r (length (unclosed l)) = cc in
+          let eq : q ≡ movedIn string p s = cc in
+          let on = code-on (γ .string) (p .string) f in
+          let ends = units-end (γ .string) (p .string) n r g in
+          let lead : p .string + (r - p .string) ≡ r = omega arith in
+          let es : q .string ≡ s = ap (λ (w : Places). w .string) eq in
+          let read = join (γ .string) (p .string) (record { n = n; r = r; units-laid = l; length-code = f; units-read = g; lawful-units = k; whole = refl }) in
+          laid u h (record { end = s; laid = (TV wide) .sound (γ .string) u (p .string) s read; moved = eq })
+          (⊎-elim (λ (z : n ≡ 0). inr (omega arith)) (λ (z : r + 16 * n ≤ γ .end). inl (omega arith)) room)
+          (et ∙ ap (λ (k : ℕ). textAt String wide k (length (unclosed l))) (sym lead))
+
+      by-units : (o : Out ℕ (List ℕ)) → (units 2 n) .read (γ .string) r ≡ o → lifted string p (unitsText String wide r o) ≡ got t q → ReaderText γ t p q
+      by-units (refused a s) g m = never m
+      by-units (got l s) g m = by-law l s g (lawful wide (unclosed l)) refl m
+
+  -- by the length code that was read
+  by-length : (o : Out ℕ ℕ) → BS .read (γ .string) (p .string) ≡ o → p .string < γ .end
+      → lifted string p (readerText (γ .end) (γ .string) (p .string)) ≡ got t q → ReaderText γ t p q
+  by-length (refused a r) f h e = never (sym (ap (lifted string p) (reader-refused (γ .end) (γ .string) (p .string) h f)) ∙ e)
+  by-length (got n r) f h e =
+      let on = code-on (γ .string) (p .string) f in
+      ⊎-elim
+      (λ (z : n ≤ 0).
+      let y : n ≡ 0 = omega arith in
+      finish n r f h (inl y)
+      (sym (ap (lifted string p) (reader-empty (γ .end) (γ .string) (p .string) h f on y ∙ ap (λ (m : ℕ). unitsText String wide r ((units 2 m) .read (γ .string) r)) (sym y))) ∙ e))
+      (λ (z : 0 < n).
+      let y : n ≡ 0 → ⊥ = λ x. omega arith in
+      ⊎-elim
+      (λ (w : r + 16 * n ≤ γ .end). finish n r f h (inr w) (sym (ap (lifted string p) (reader-units (γ .end) (γ .string) (p .string) h f on y w)) ∙ e))
+      (λ (w : γ .end < r + 16 * n). never (sym (ap (lifted string p) (reader-past (γ .end) (γ .string) (p .string) h f on y w)) ∙ e))
+      (le-or-lt (r + 16 * n) (γ .end)))
+      (le-or-lt n 0)
+
+  pub reader-to : from-reader .lays γ t p q → ReaderText γ t p q
+  reader-to l =
+      let e : lifted string p (readerText (γ .end) (γ .string) (p .string)) ≡ got t q = sym (reader-reads γ p) ∙ from-reader .complete γ t p q l in
+      ⊎-elim
+      (λ (w : γ .end ≤ p .string).
+      let f : got (textAt String wide (p .string) 0) p ≡ got t q = sym (ap (lifted string p) (reader-over (γ .end) (γ .string) (p .string) w)) ∙ e in
+      over w (cc) (cc))
+      (λ (w : p .string < γ .end). by-length (BS .read (γ .string) (p .string)) refl w e)
+      (le-or-lt (γ .end) (p .string))
+
+  pub reader-from : ReaderText γ t p q → from-reader .lays γ t p q
+  reader-from (over h e f) =
+      from-reader .sound γ t p q
+      (reader-reads γ p ∙ ap (lifted string p) (reader-over (γ .end) (γ .string) (p .string) h) ∙ ap₂ got (sym e) (sym f))
+  reader-from (laid u h l f e) =
+      let r = (TV wide) .complete (γ .string) u (p .string) (l .end) (l .laid) in
+      let m : q .string ≡ l .end = ap (λ (s : Places). s .string) (l .moved) in
+      from-reader .sound γ t p q
+      (reader-reads γ p
+      ∙ ap (lifted string p) (ruled (γ .string) (p .string) (γ .end) (parts (γ .string) (p .string) u (l .end) r) h (⊎-elim (λ (w : q .string ≤ γ .end). inl (omega arith)) (λ (w : q .string ≡ p .string + u .lead). inr (omega arith)) f))
+      ∙ ap₂ got (sym e) (sym (l .moved)))
+
+-- text from the lent reader, with its layouts said so
+unfoldable pub reader-text : Format Text
+reader-text = relay from-reader ReaderText reader-to reader-from
