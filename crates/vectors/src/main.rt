@@ -1,8 +1,7 @@
 // Replays answers of the Rust through the Rattle calls and compares: src/bitcursor.rs of dwg-rs, section 2 of the ODA's specification.
 // data/list has the requests with the Rust's answers, data/packed the same as 64-bit words; oracle/pack makes both and says how they lie.
 // It promises nothing of its own: it tests that the definitions, which the calls' contracts equate with, answer as the Rust does.
-ghost use Prim.Native.Nat.{_<_, _≤_};
-ghost use lib.ListN.{length};
+ghost use Rattle.io.specs.Counts.{Counts};
 
 mod answers;
 mod codes;
@@ -11,27 +10,37 @@ mod record;
 mod report;
 mod words;
 
-// The longest packed list that is read.
-const SPACE: usize = 1_048_576;
-
-// The record at `at`, and the counts with it.
-fn step(s: &[u8], at: usize, end: usize, index: u64, counts: &mut [u64; 32])
-    requires { ⌜ (at < end) × (end ≤ length (now s)) ⌝ }
+// Reads the words of a record, if there is room for so many; the number of bytes read.
+fn read_words(fd: i32, s: &mut [u8], count: u64) -> usize
+    ensures { λ r. ⌜ Counts r (now (s .exit)) ⌝ }
 {
-    let found = record::replay(&s[at..end], index);
-    report::count(found, counts);
+    let room = (s.len() / 8) as u64;
+    if room < count {
+        return 0;
+    }
+    let end = 8 * (count as usize);
+    io::read_full(fd, &mut s[0..end])
 }
 
-// Every record, and then what was compared.
-fn replay_all(s: &[u8]) {
+// The next record, the index-th, and the counts with it; whether to go on.
+fn step(fd: i32, index: u64, counts: &mut [u64; 32]) -> bool {
+    let mut first = [0u8; 8];
+    let got = io::read_full(fd, &mut first);
+    if got == 0 {
+        return false;
+    }
+    let mut space = io::large_buffer();
+    let n = read_words(fd, &mut space, words::word(&first, 0));
+    let found = record::replay(&space[..n], index);
+    report::count(found, counts)
+}
+
+// Every record, and then what was compared. A loop has to end, and nothing says that a file does: so it stops after a million.
+fn replay_all(fd: i32) {
     let mut counts = [0u64; 32];
-    let mut at: usize = 0;
-    let mut index: u64 = 0;
-    while at < s.len() {
-        let end = record::end(s, at);
-        index = std::num::wrapping_add_u64(index, 1);
-        step(s, at, end, index, &mut counts);
-        at = end;
+    let mut index: u64 = 1;
+    while index < 1_000_000 && step(fd, index, &mut counts) {
+        index += 1;
     }
     report::summary(&counts);
 }
@@ -43,11 +52,6 @@ fn main() {
         os::fail(path);
         return;
     }
-    let mut space = [0u8; SPACE];
-    let n = io::read_full(fd, &mut space);
+    replay_all(fd);
     libc::close(fd);
-    if n == SPACE {
-        io::write_all(1, b"differs: the list is longer than the program reads\n");
-    }
-    replay_all(&space[..n]);
 }

@@ -1,10 +1,11 @@
 // The records of the packed list, and what replaying one finds. The words of a record, each eight bytes:
-//   0  how many words follow                   1  the line of data/list        2  the kind of request
-//   3  the release                             4  the start                    5 to 8  further numbers of the request
-//   9  the payload's length in bytes          10  how many of them are stored: all, or none, and then all are zero
-//  11  the strings' length in bytes           12  how many of them are stored
-// then the stored bytes of both, each padded to whole words, and the answer: refusal or 0, place, second place, how many values, values.
-ghost use Prim.Native.Nat.{_+_, _/_, _<_, _≤_};
+//   0  the line of data/list           1  the kind of request           2  the release           3  the start
+//   4 to 7  further numbers of the request, the first of a DD being its default
+//   8  the payload's length in bytes   9  how many of them are stored: all, or none, and then all are zero
+//  10  the strings' length in bytes   11  how many of them are stored
+// then the stored bytes of both, each padded to whole words, and the answer: refusal or 0, place, second place, how many values,
+// the values. Before each record stands the number of its words.
+ghost use Prim.Native.Nat.{_+_, _/_, _≤_};
 ghost use lib.ListN.{length};
 use crate::codes;
 use crate::compare;
@@ -15,14 +16,21 @@ use crate::words::word;
 pub const ROOM: usize = 1024;
 
 // The first byte of the payload, and where in the head each number lies.
-const PAYLOAD: usize = 104;
-const LINE: usize = 8;
-const KIND: usize = 16;
-const START: usize = 32;
-const MORE: usize = 40;
-const LENGTH: usize = 72;
-const STORED: usize = 80;
-const STRINGS: usize = 96;
+const PAYLOAD: usize = 96;
+
+const LINE: usize = 0;
+
+const KIND: usize = 8;
+
+const START: usize = 24;
+
+const MORE: usize = 32;
+
+const LENGTH: usize = 64;
+
+const STORED: usize = 72;
+
+const STRINGS: usize = 88;
 
 // The longest payload of zeros that is not stored and is still replayed.
 const ZEROS: usize = 4096;
@@ -33,22 +41,6 @@ pub enum Found {
     Differs(u64),
     LeftOut,
     Malformed,
-}
-
-// The end of the record at `at`: past as many words as its first says, or the end of the list where that has fewer.
-pub fn end(s: &[u8], at: usize) -> usize
-    requires { ⌜ at < length (now s) ⌝ }
-    ensures { λ r. ⌜ (at < r) × (r ≤ length (now (s .entry))) ⌝ }
-{
-    let left = s.len() - at;
-    if left < 8 {
-        return s.len();
-    }
-    let count = word(s, at) as usize;
-    if (left - 8) / 8 < count {
-        return s.len();
-    }
-    at + 8 + 8 * count
 }
 
 // How many words hold so many bytes.
@@ -63,7 +55,7 @@ fn words_for(bytes: usize) -> usize
 
 // The first byte of the answer, or the end of the record where it has fewer bytes than it says.
 fn answer_at(r: &[u8]) -> usize
-    requires { ⌜ 104 ≤ length (now r) ⌝ }
+    requires { ⌜ 96 ≤ length (now r) ⌝ }
     ensures { λ at. ⌜ at ≤ length (now (r .entry)) ⌝ }
 {
     let a = words_for(word(r, STORED) as usize);
@@ -79,8 +71,8 @@ fn answer_at(r: &[u8]) -> usize
 }
 
 // Compares the n numbers found with the record's answer.
-fn judged(r: &[u8], kind: u64, found: &[u64], n: usize) -> Found
-    requires { ⌜ (104 ≤ length (now r)) × (n ≤ length (now found)) ⌝ }
+fn judged(r: &[u8], kind: u64, found: &[u64; ROOM], n: usize) -> Found
+    requires { ⌜ (96 ≤ length (now r)) × (n ≤ 1024) ⌝ }
 {
     let at = answer_at(r);
     if 0 < n {
@@ -96,12 +88,28 @@ fn judged(r: &[u8], kind: u64, found: &[u64], n: usize) -> Found
 
 // Replays the record's request on its payload.
 fn replay_on(r: &[u8], payload: &[u8]) -> Found
-    requires { ⌜ 104 ≤ length (now r) ⌝ }
+    requires { ⌜ 96 ≤ length (now r) ⌝ }
 {
     let kind = word(r, KIND);
     let mut found = [0u64; ROOM];
-    let n = codes::replay(kind, payload, word(r, START) as usize, word(r, MORE), &mut found);
+    let n = codes::replay(
+        kind,
+        payload,
+        word(r, START) as usize,
+        word(r, MORE),
+        &mut found,
+    );
     judged(r, kind, &found, n)
+}
+
+// Replays the record's request on so many zeros, where there are that many here.
+fn replay_zeros(r: &[u8], zeros: &[u8], size: usize) -> Found
+    requires { ⌜ 96 ≤ length (now r) ⌝ }
+{
+    if zeros.len() < size {
+        return Found::LeftOut;
+    }
+    replay_on(r, &zeros[0..size])
 }
 
 // Replays the record, which is the index-th.
@@ -124,9 +132,5 @@ pub fn replay(r: &[u8], index: u64) -> Found {
         report::malformed(index);
         return Found::Malformed;
     }
-    if ZEROS < length {
-        return Found::LeftOut;
-    }
-    let zeros = [0u8; ZEROS];
-    replay_on(r, &zeros[..length])
+    replay_zeros(r, &[0u8; ZEROS], length)
 }

@@ -2,12 +2,15 @@
 ghost use Prim.Native.Nat.{_≤_};
 ghost use lib.ListN.{length};
 use crate::record::Found;
+use crate::record::ROOM;
 use crate::words::word;
 use libc::STDOUT_FILENO;
 
 // Where `counts` has what is no kind: the requests left out, all that were compared, and those that differ.
 const LEFT_OUT: usize = 29;
+
 const COMPARED: usize = 30;
+
 const DIFFER: usize = 31;
 
 fn bump(counts: &mut [u64; 32], k: usize) {
@@ -23,16 +26,26 @@ fn compared(counts: &mut [u64; 32], kind: u64) {
     }
 }
 
-// Adds what replaying a record found.
-pub fn count(found: Found, counts: &mut [u64; 32]) {
+// Adds what replaying a record found; whether to go on, which is not known to make sense past a malformed record.
+pub fn count(found: Found, counts: &mut [u64; 32]) -> bool {
     match found {
-        Found::Same(kind) => compared(counts, kind),
+        Found::Same(kind) => {
+            compared(counts, kind);
+            true
+        }
         Found::Differs(kind) => {
             compared(counts, kind);
             bump(counts, DIFFER);
+            true
         }
-        Found::LeftOut => bump(counts, LEFT_OUT),
-        Found::Malformed => bump(counts, DIFFER),
+        Found::LeftOut => {
+            bump(counts, LEFT_OUT);
+            true
+        }
+        Found::Malformed => {
+            bump(counts, DIFFER);
+            false
+        }
     }
 }
 
@@ -44,13 +57,30 @@ fn decimal(n: u64) {
     io::print_decimal(STDOUT_FILENO, n);
 }
 
+fn write_ten(text: &[u8], at: usize) {
+    if text.len() < 10 {
+        return;
+    }
+    if at <= text.len() - 10 {
+        let end = at + 10;
+        write(&text[at..end]);
+    }
+}
+
+// Where the name of a kind is in the names below.
+fn name_at(kind: u64) -> usize {
+    if kind < 19 {
+        return 10 * (kind as usize);
+    }
+    0
+}
+
 // The name of a kind, ten characters wide.
 fn name(kind: u64) {
-    let names = b"unknown   b         bb        3b        bs        bsu       bl        blu       bd        bll       rc        rs        rl        rd        handle    dd        bd f64    rd f64    dd f64    ";
-    let known = if kind < 19 { kind as usize } else { 0 };
-    let at = 10 * known;
-    let end = at + 10;
-    write(&names[at..end]);
+    write_ten(
+        b"unknown   b         bb        3b        bs        bsu       bl        blu       bd        bll       rc        rs        rl        rd        handle    dd        bd f64    rd f64    dd f64    ",
+        name_at(kind),
+    );
 }
 
 pub fn malformed(index: u64) {
@@ -79,8 +109,8 @@ pub fn stored(s: &[u8], at: usize)
     }
 }
 
-pub fn found(numbers: &[u64], n: usize)
-    requires { ⌜ n ≤ length (now numbers) ⌝ }
+pub fn found(numbers: &[u64; ROOM], n: usize)
+    requires { ⌜ n ≤ 1024 ⌝ }
 {
     write(b" found");
     let mut k: usize = 0;
