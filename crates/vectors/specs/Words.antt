@@ -5,10 +5,13 @@ use mathlib.Core.List.{List}
 use Prim.Native.Nat.{ℕ, _+_, _-_, _*_, _/_, _<_}
 use lib.ListN.{length, getD}
 
+-- the four bytes from byte `at`, the low one first
+unfoldable pub halfAt : List ℕ → ℕ → ℕ
+halfAt s at = getD s at 0 + 0x100 * getD s (at + 1) 0 + 0x1_0000 * getD s (at + 2) 0 + 0x100_0000 * getD s (at + 3) 0
+
 -- the eight bytes from byte `at`, the low one first
 unfoldable pub wordAt : List ℕ → ℕ → ℕ
-wordAt s at =
-    getD s at 0 + 256 * (getD s (at + 1) 0 + 256 * (getD s (at + 2) 0 + 256 * (getD s (at + 3) 0 + 256 * (getD s (at + 4) 0 + 256 * (getD s (at + 5) 0 + 256 * (getD s (at + 6) 0 + 256 * getD s (at + 7) 0))))))
+wordAt s at = halfAt s at + 0x1_0000_0000 * halfAt s (at + 4)
 
 -- true: each of the n stored words from byte `at` is the found number; false: one of them is not
 abbrev pub Agree : List ℕ → ℕ → List ℕ → ℕ → Bool → Type 0

@@ -29,10 +29,11 @@ fn step(fd: i32, index: u64, counts: &mut [u64; 32]) -> bool {
     if got == 0 {
         return false;
     }
+    let count = words::word(&first, 0);
     let mut space = io::large_buffer();
-    let n = read_words(fd, &mut space, words::word(&first, 0));
-    let found = record::replay(&space[..n], index);
-    report::count(found, counts)
+    let n = read_words(fd, &mut space, count);
+    let found = record::replay(&space[..n], count);
+    report::count(found, index, counts)
 }
 
 // Every record, and then what was compared. A loop has to end, and nothing says that a file does: so it stops after a million.

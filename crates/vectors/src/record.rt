@@ -112,24 +112,24 @@ fn replay_zeros(r: &[u8], zeros: &[u8], size: usize) -> Found
     replay_on(r, &zeros[0..size])
 }
 
-// Replays the record, which is the index-th.
-pub fn replay(r: &[u8], index: u64) -> Found {
+// Replays the record, which is to have so many words.
+pub fn replay(r: &[u8], words: u64) -> Found {
+    if (r.len() / 8) as u64 != words {
+        return Found::Malformed;
+    }
     if r.len() < PAYLOAD {
-        report::malformed(index);
         return Found::Malformed;
     }
     let length = word(r, LENGTH) as usize;
     let stored = word(r, STORED) as usize;
     if stored == length {
         if r.len() - PAYLOAD < length {
-            report::malformed(index);
             return Found::Malformed;
         }
         let end = PAYLOAD + length;
         return replay_on(r, &r[PAYLOAD..end]);
     }
     if 0 < stored {
-        report::malformed(index);
         return Found::Malformed;
     }
     replay_zeros(r, &[0u8; ZEROS], length)

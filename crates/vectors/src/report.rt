@@ -26,29 +26,6 @@ fn compared(counts: &mut [u64; 32], kind: u64) {
     }
 }
 
-// Adds what replaying a record found; whether to go on, which is not known to make sense past a malformed record.
-pub fn count(found: Found, counts: &mut [u64; 32]) -> bool {
-    match found {
-        Found::Same(kind) => {
-            compared(counts, kind);
-            true
-        }
-        Found::Differs(kind) => {
-            compared(counts, kind);
-            bump(counts, DIFFER);
-            true
-        }
-        Found::LeftOut => {
-            bump(counts, LEFT_OUT);
-            true
-        }
-        Found::Malformed => {
-            bump(counts, DIFFER);
-            false
-        }
-    }
-}
-
 fn write(text: &[u8]) {
     io::write_all(STDOUT_FILENO, text);
 }
@@ -83,10 +60,34 @@ fn name(kind: u64) {
     );
 }
 
-pub fn malformed(index: u64) {
+fn malformed(index: u64) {
     write(b"differs: record ");
     decimal(index);
     write(b" is malformed\n");
+}
+
+// Adds what replaying the index-th record found; whether to go on: behind a malformed record nothing says where the next begins.
+pub fn count(found: Found, index: u64, counts: &mut [u64; 32]) -> bool {
+    match found {
+        Found::Same(kind) => {
+            compared(counts, kind);
+            true
+        }
+        Found::Differs(kind) => {
+            compared(counts, kind);
+            bump(counts, DIFFER);
+            true
+        }
+        Found::LeftOut => {
+            bump(counts, LEFT_OUT);
+            true
+        }
+        Found::Malformed => {
+            malformed(index);
+            bump(counts, DIFFER);
+            false
+        }
+    }
 }
 
 // A difference is written as these three: the request, the stored answer, the answer found.

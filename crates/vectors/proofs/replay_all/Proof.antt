@@ -3,10 +3,6 @@ use Prim.Native.Nat.{_-_}
 use borrow.Author.Needs.{needs}
 use Rattle.vectors.proofs.replay_all.Statement.{statement}
 use Rattle.vectors.proofs.replay_all.Tie as tie
-use Rattle.vectors.proofs.replay_all.Reads as reads
-use Rattle.vectors.proofs.replay_all.Lts as lts
-use Rattle.vectors.proofs.report.summary.Reads as summary-reads
-use Rattle.vectors.proofs.step.Reads as step-reads
 
 abbrev Inv-loop : tie.InvT-loop
 Inv-loop fd counts₀ index₀ counts index = Unit {0}
@@ -14,31 +10,24 @@ Inv-loop fd counts₀ index₀ counts index = Unit {0}
 abbrev μ-loop : tie.MeasureT-loop
 μ-loop fd counts₀ index₀ counts index = 1000000 - index
 
--- src/main.rt:42:5
 loop-holds : tie.Need-loop-holds Inv-loop μ-loop
 loop-holds c = search needs
 
--- src/main.rt:42:32
 step-requires : tie.Need-step-requires Inv-loop μ-loop
 step-requires c κs = search needs
 
--- src/main.rt:43:9
 add-index : tie.Need-add-index Inv-loop μ-loop
 add-index c = search needs
 
--- src/main.rt:42:5
 loop-less : tie.Need-loop-less Inv-loop μ-loop
 loop-less c = search needs
 
--- src/main.rt:42:5
 loop-again : tie.Need-loop-again Inv-loop μ-loop
 loop-again c = search needs
 
--- src/main.rt:45:5
 summary-requires : tie.Need-summary-requires Inv-loop μ-loop
 summary-requires c κs = search needs
 
--- src/main.rt:39:1
 returns : tie.Need-returns Inv-loop μ-loop
 returns c = search needs
 

@@ -8,9 +8,6 @@ use Rattle.vectors.specs.Words.{wordAt}
 use borrow.Author.Needs.{needs}
 use Rattle.vectors.proofs.compare.same.Statement.{statement}
 use Rattle.vectors.proofs.compare.same.Tie as tie
-use Rattle.vectors.proofs.compare.same.Reads as reads
-use Rattle.vectors.proofs.compare.same.Lts as lts
-use Rattle.vectors.proofs.words.word.Reads as word-reads
 
 abbrev Inv-loop : tie.InvT-loop
 Inv-loop s at found n k₀ k = (k ≤ n) × ((j : ℕ) → j < k → wordAt s (at + 8 * j) ≡ getD found j 0)
@@ -18,49 +15,38 @@ Inv-loop s at found n k₀ k = (k ≤ n) × ((j : ℕ) → j < k → wordAt s (a
 abbrev μ-loop : tie.MeasureT-loop
 μ-loop s at found n k₀ k = n - k
 
--- src/compare.rt:14:5
 loop-holds : tie.Need-loop-holds Inv-loop μ-loop
 loop-holds c = search needs
 
--- src/compare.rt:15:25
 mul-word : tie.Need-mul-word Inv-loop μ-loop
 mul-word c = search needs
 
--- src/compare.rt:15:20
 add-word : tie.Need-add-word Inv-loop μ-loop
 add-word c = search needs
 
--- src/compare.rt:15:12
 word-requires : tie.Need-word-requires Inv-loop μ-loop
 word-requires c κs = search needs
 
--- src/compare.rt:15:35
 mul-if1 : tie.Need-mul-if1 Inv-loop μ-loop
 mul-if1 c = search needs
 
--- src/compare.rt:15:35
 element-copy-out-if1 : tie.Need-element-copy-out-if1 Inv-loop μ-loop
 element-copy-out-if1 c = search needs
 
--- src/compare.rt:16:13
 returns : tie.Need-returns Inv-loop μ-loop
 returns c =
     (c .before .before .before .before .loop .k, omega arith, λ e. c .if1 .taken (c .before .before .word .ensures ∙ e))
 
--- src/compare.rt:18:9
 add-k : tie.Need-add-k Inv-loop μ-loop
 add-k c = search needs
 
--- src/compare.rt:14:5
 loop-less : tie.Need-loop-less Inv-loop μ-loop
 loop-less c = search needs
 
--- src/compare.rt:14:5
 loop-again : tie.Need-loop-again Inv-loop μ-loop
 loop-again c =
     (search needs, below-more _ _ (c .before .before .before .before .loop .inv .1) (sym (c .before .before .word .ensures) ∙ c .if1 .left))
 
--- src/compare.rt:9:1
 returns-2 : tie.Need-returns-2 Inv-loop μ-loop
 returns-2 c = λ k h. c .before .loop .inv .1 k (omega arith)
 

@@ -5,10 +5,6 @@ use lib.ListN.{length, getD}
 use borrow.Author.Needs.{needs}
 use Rattle.vectors.proofs.report.found.Statement.{statement}
 use Rattle.vectors.proofs.report.found.Tie as tie
-use Rattle.vectors.proofs.report.found.Reads as reads
-use Rattle.vectors.proofs.report.found.Lts as lts
-use Rattle.vectors.proofs.report.decimal.Reads as decimal-reads
-use Rattle.vectors.proofs.report.write.Reads as write-reads
 
 abbrev Inv-loop : tie.InvT-loop
 Inv-loop numbers n k₀ t5 t6 k = Unit {0}
@@ -16,59 +12,45 @@ Inv-loop numbers n k₀ t5 t6 k = Unit {0}
 abbrev μ-loop : tie.MeasureT-loop
 μ-loop numbers n k₀ t5 t6 k = n - k
 
--- src/report.rt:96:11
 slice-aggregate-write : tie.Need-slice-aggregate-write Inv-loop μ-loop
 slice-aggregate-write c = search needs
 
--- src/report.rt:96:5
 write-requires : tie.Need-write-requires Inv-loop μ-loop
 write-requires c κs = search needs
 
--- src/report.rt:98:5
 loop-holds : tie.Need-loop-holds Inv-loop μ-loop
 loop-holds c = search needs
 
--- src/report.rt:99:15
 slice-aggregate-write-2 : tie.Need-slice-aggregate-write-2 Inv-loop μ-loop
 slice-aggregate-write-2 c = search needs
 
--- src/report.rt:99:9
 write-requires-2 : tie.Need-write-requires-2 Inv-loop μ-loop
 write-requires-2 c κs = search needs
 
--- src/report.rt:100:17
 mul-decimal : tie.Need-mul-decimal Inv-loop μ-loop
 mul-decimal c = search needs
 
--- src/report.rt:100:17
 element-copy-out-decimal : tie.Need-element-copy-out-decimal Inv-loop μ-loop
 element-copy-out-decimal c = search needs
 
--- src/report.rt:100:9
 decimal-requires : tie.Need-decimal-requires Inv-loop μ-loop
 decimal-requires c κs = search needs
 
--- src/report.rt:101:9
 add-k : tie.Need-add-k Inv-loop μ-loop
 add-k c = search needs
 
--- src/report.rt:98:5
 loop-less : tie.Need-loop-less Inv-loop μ-loop
 loop-less c = search needs
 
--- src/report.rt:98:5
 loop-again : tie.Need-loop-again Inv-loop μ-loop
 loop-again c = search needs
 
--- src/report.rt:103:11
 slice-aggregate-write-3 : tie.Need-slice-aggregate-write-3 Inv-loop μ-loop
 slice-aggregate-write-3 c = search needs
 
--- src/report.rt:103:5
 write-requires-3 : tie.Need-write-requires-3 Inv-loop μ-loop
 write-requires-3 c κs = search needs
 
--- src/report.rt:93:1
 returns : tie.Need-returns Inv-loop μ-loop
 returns c = search needs
 

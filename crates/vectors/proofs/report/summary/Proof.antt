@@ -5,11 +5,6 @@ use lib.ListN.{length, getD}
 use borrow.Author.Needs.{needs}
 use Rattle.vectors.proofs.report.summary.Statement.{statement}
 use Rattle.vectors.proofs.report.summary.Tie as tie
-use Rattle.vectors.proofs.report.summary.Reads as reads
-use Rattle.vectors.proofs.report.summary.Lts as lts
-use Rattle.vectors.proofs.report.decimal.Reads as decimal-reads
-use Rattle.vectors.proofs.report.line.Reads as line-reads
-use Rattle.vectors.proofs.report.write.Reads as write-reads
 
 abbrev Inv-loop : tie.InvT-loop
 Inv-loop counts kind₀ t3 t4 t5 t6 kind = Unit {0}
@@ -17,91 +12,69 @@ Inv-loop counts kind₀ t3 t4 t5 t6 kind = Unit {0}
 abbrev μ-loop : tie.MeasureT-loop
 μ-loop counts kind₀ t3 t4 t5 t6 kind = 29 - kind
 
--- src/report.rt:118:5
 loop-holds : tie.Need-loop-holds Inv-loop μ-loop
 loop-holds c = search needs
 
--- src/report.rt:119:27
 mul-line : tie.Need-mul-line Inv-loop μ-loop
 mul-line c = search needs
 
--- src/report.rt:119:27
 element-copy-out-line : tie.Need-element-copy-out-line Inv-loop μ-loop
 element-copy-out-line c = search needs
 
--- src/report.rt:119:9
 line-requires : tie.Need-line-requires Inv-loop μ-loop
 line-requires c κs = search needs
 
--- src/report.rt:120:9
 add-kind : tie.Need-add-kind Inv-loop μ-loop
 add-kind c = search needs
 
--- src/report.rt:118:5
 loop-less : tie.Need-loop-less Inv-loop μ-loop
 loop-less c = search needs
 
--- src/report.rt:118:5
 loop-again : tie.Need-loop-again Inv-loop μ-loop
 loop-again c = search needs
 
--- src/report.rt:122:11
 slice-aggregate-write : tie.Need-slice-aggregate-write Inv-loop μ-loop
 slice-aggregate-write c = search needs
 
--- src/report.rt:122:5
 write-requires : tie.Need-write-requires Inv-loop μ-loop
 write-requires c κs = search needs
 
--- src/report.rt:123:13
 element-copy-out-decimal : tie.Need-element-copy-out-decimal Inv-loop μ-loop
 element-copy-out-decimal c = search needs
 
--- src/report.rt:123:5
 decimal-requires : tie.Need-decimal-requires Inv-loop μ-loop
 decimal-requires c κs = search needs
 
--- src/report.rt:124:11
 slice-aggregate-write-2 : tie.Need-slice-aggregate-write-2 Inv-loop μ-loop
 slice-aggregate-write-2 c = search needs
 
--- src/report.rt:124:5
 write-requires-2 : tie.Need-write-requires-2 Inv-loop μ-loop
 write-requires-2 c κs = search needs
 
--- src/report.rt:125:13
 element-copy-out-decimal-2 : tie.Need-element-copy-out-decimal-2 Inv-loop μ-loop
 element-copy-out-decimal-2 c = search needs
 
--- src/report.rt:125:5
 decimal-requires-2 : tie.Need-decimal-requires-2 Inv-loop μ-loop
 decimal-requires-2 c κs = search needs
 
--- src/report.rt:126:11
 slice-aggregate-write-3 : tie.Need-slice-aggregate-write-3 Inv-loop μ-loop
 slice-aggregate-write-3 c = search needs
 
--- src/report.rt:126:5
 write-requires-3 : tie.Need-write-requires-3 Inv-loop μ-loop
 write-requires-3 c κs = search needs
 
--- src/report.rt:127:13
 element-copy-out-decimal-3 : tie.Need-element-copy-out-decimal-3 Inv-loop μ-loop
 element-copy-out-decimal-3 c = search needs
 
--- src/report.rt:127:5
 decimal-requires-3 : tie.Need-decimal-requires-3 Inv-loop μ-loop
 decimal-requires-3 c κs = search needs
 
--- src/report.rt:128:11
 slice-aggregate-write-4 : tie.Need-slice-aggregate-write-4 Inv-loop μ-loop
 slice-aggregate-write-4 c = search needs
 
--- src/report.rt:128:5
 write-requires-4 : tie.Need-write-requires-4 Inv-loop μ-loop
 write-requires-4 c κs = search needs
 
--- src/report.rt:116:1
 returns : tie.Need-returns Inv-loop μ-loop
 returns c = search needs
 
