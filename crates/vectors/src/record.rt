@@ -32,9 +32,6 @@ const STORED: usize = 72;
 
 const STRINGS: usize = 88;
 
-// The longest payload of zeros that is not stored and is still replayed.
-const ZEROS: usize = 4096;
-
 // What replaying a record finds, with its kind.
 pub enum Found {
     Same(u64),
@@ -86,12 +83,17 @@ fn judged(r: &[u8], kind: u64, found: &[u64; ROOM], n: usize) -> Found
     Found::Differs(kind)
 }
 
+// A function of its own, so that no proof of a caller counts the array's elements.
+fn room() -> [u64; ROOM] {
+    [0; ROOM]
+}
+
 // Replays the record's request on its payload.
 fn replay_on(r: &[u8], payload: &[u8]) -> Found
     requires { ⌜ 96 ≤ length (now r) ⌝ }
 {
     let kind = word(r, KIND);
-    let mut found = [0u64; ROOM];
+    let mut found = room();
     let n = codes::replay(
         kind,
         payload,
@@ -102,7 +104,7 @@ fn replay_on(r: &[u8], payload: &[u8]) -> Found
     judged(r, kind, &found, n)
 }
 
-// Replays the record's request on so many zeros, where there are that many here.
+// Replays the record's request on so many of the zeros, where there are that many.
 fn replay_zeros(r: &[u8], zeros: &[u8], size: usize) -> Found
     requires { ⌜ 96 ≤ length (now r) ⌝ }
 {
@@ -132,5 +134,5 @@ pub fn replay(r: &[u8], words: u64) -> Found {
     if 0 < stored {
         return Found::Malformed;
     }
-    replay_zeros(r, &[0u8; ZEROS], length)
+    replay_zeros(r, &io::buffer(), length)
 }
