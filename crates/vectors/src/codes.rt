@@ -1,0 +1,64 @@
+// The requests for one code: which call each kind is, and its answer as a list of numbers.
+ghost use Prim.Native.Nat.{_≤_};
+use crate::answers;
+use crate::answers::Code;
+use crate::record::ROOM;
+
+// The kinds, numbered as oracle/pack.rs has them. `more` is a DD's default, as its 64 bits.
+fn call(kind: u64, s: &[u8], at: usize, more: u64) -> Code {
+    match kind {
+        1 => answers::of_bool(bitcursor::read_b(s, at)),
+        2 => answers::of_read(bitcursor::read_bb(s, at)),
+        3 => answers::of_read(bitcursor::read_3b(s, at)),
+        4 => answers::of_i16(bitcursor::read_bs(s, at)),
+        5 => answers::of_read(bitcursor::read_bs_u(s, at)),
+        6 => answers::of_i32(bitcursor::read_bl(s, at)),
+        7 => answers::of_read(bitcursor::read_bl_u(s, at)),
+        8 => answers::of_read(bitcursor::read_bd_bits(s, at)),
+        9 => answers::of_read(bitcursor::read_bll(s, at)),
+        10 => answers::of_read(bitcursor::read_rc(s, at)),
+        11 => answers::of_i16(bitcursor::read_rs(s, at)),
+        12 => answers::of_read(bitcursor::read_rl(s, at)),
+        13 => answers::of_read(bitcursor::read_rd_bits(s, at)),
+        14 => answers::of_handle(bitcursor::read_handle(s, at)),
+        15 => answers::of_read(bitcursor::read_dd_bits(s, at, more)),
+        16 => answers::of_f64(bitcursor::read_bd(s, at)),
+        17 => answers::of_f64(bitcursor::read_rd(s, at)),
+        18 => answers::of_f64(bitcursor::read_dd(s, at, bitcursor::values::double_of(more))),
+        _ => Code::Unknown,
+    }
+}
+
+// The answer's first four numbers: the refusal or 0, the place, the second place, which a code does not have, and how many
+// values follow.
+fn open(found: &mut [u64; ROOM], refusal: u64, place: usize, values: u64) {
+    found[0] = refusal;
+    found[1] = place as u64;
+    found[2] = 0;
+    found[3] = values;
+}
+
+// Calls the code and puts its answer at the start of `found`; how many numbers that are, or 0 where there is no such kind.
+pub fn replay(kind: u64, s: &[u8], at: usize, more: u64, found: &mut [u64; ROOM]) -> usize
+    ensures { λ r. ⌜ r ≤ 7 ⌝ }
+{
+    match call(kind, s, at, more) {
+        Code::Refused(k, p) => {
+            open(found, k, p, 0);
+            4
+        }
+        Code::Number(v, p) => {
+            open(found, 0, p, 1);
+            found[4] = v;
+            5
+        }
+        Code::Handle(code, counter, value, p) => {
+            open(found, 0, p, 3);
+            found[4] = code;
+            found[5] = counter;
+            found[6] = value;
+            7
+        }
+        Code::Unknown => 0,
+    }
+}

@@ -1,0 +1,138 @@
+// The records of the packed list, and what replaying one finds. The words of a record, each eight bytes:
+//   0  the line of data/list           1  the kind of request           2  the release           3  the start
+//   4 to 7  further numbers of the request, the first of a DD being its default
+//   8  the payload's length in bytes   9  how many of them are stored: all, or none, and then all are zero
+//  10  the strings' length in bytes   11  how many of them are stored
+// then the stored bytes of both, each padded to whole words, and the answer: refusal or 0, place, second place, how many values,
+// the values. Before each record stands the number of its words.
+ghost use Prim.Native.Nat.{_+_, _/_, _≤_};
+ghost use lib.ListN.{length};
+use crate::codes;
+use crate::compare;
+use crate::report;
+use crate::words::word;
+
+// Room for the numbers of an answer.
+pub const ROOM: usize = 1024;
+
+// The first byte of the payload, and where in the head each number lies.
+const PAYLOAD: usize = 96;
+
+const LINE: usize = 0;
+
+const KIND: usize = 8;
+
+const START: usize = 24;
+
+const MORE: usize = 32;
+
+const LENGTH: usize = 64;
+
+const STORED: usize = 72;
+
+const STRINGS: usize = 88;
+
+// What replaying a record finds, with its kind.
+pub enum Found {
+    Same(u64),
+    Differs(u64),
+    LeftOut,
+    Malformed,
+}
+
+// How many words hold so many bytes.
+fn words_for(bytes: usize) -> usize
+    ensures { λ r. ⌜ r ≤ bytes / 8 + 1 ⌝ }
+{
+    if bytes % 8 == 0 {
+        return bytes / 8;
+    }
+    bytes / 8 + 1
+}
+
+// The first byte of the answer, or the end of the record where it has fewer bytes than it says.
+fn answer_at(r: &[u8]) -> usize
+    requires { ⌜ 96 ≤ length (now r) ⌝ }
+    ensures { λ at. ⌜ at ≤ length (now (r .entry)) ⌝ }
+{
+    let a = words_for(word(r, STORED) as usize);
+    let b = words_for(word(r, STRINGS) as usize);
+    let all = (r.len() - PAYLOAD) / 8;
+    if all < a {
+        return r.len();
+    }
+    if all - a < b {
+        return r.len();
+    }
+    PAYLOAD + 8 * (a + b)
+}
+
+// Compares the n numbers found with the record's answer.
+fn judged(r: &[u8], kind: u64, found: &[u64; ROOM], n: usize) -> Found
+    requires { ⌜ (96 ≤ length (now r)) × (n ≤ 1024) ⌝ }
+{
+    let at = answer_at(r);
+    if 0 < n {
+        if compare::same_answer(r, at, found, n) {
+            return Found::Same(kind);
+        }
+    }
+    report::difference(word(r, LINE), kind);
+    report::stored(r, at);
+    report::found(found, n);
+    Found::Differs(kind)
+}
+
+// A function of its own, so that no proof of a caller counts the array's elements.
+fn room() -> [u64; ROOM] {
+    [0; ROOM]
+}
+
+// Replays the record's request on its payload.
+fn replay_on(r: &[u8], payload: &[u8]) -> Found
+    requires { ⌜ 96 ≤ length (now r) ⌝ }
+{
+    let kind = word(r, KIND);
+    let mut found = room();
+    let n = codes::replay(
+        kind,
+        payload,
+        word(r, START) as usize,
+        word(r, MORE),
+        &mut found,
+    );
+    judged(r, kind, &found, n)
+}
+
+// Replays the record's request on so many of the zeros, where there are that many.
+fn replay_zeros(r: &[u8], zeros: &[u8], size: usize) -> Found
+    requires { ⌜ 96 ≤ length (now r) ⌝ }
+{
+    if zeros.len() < size {
+        return Found::LeftOut;
+    }
+    replay_on(r, &zeros[0..size])
+}
+
+// Replays the record, which is to have so many words.
+pub fn replay(r: &[u8], words: u64) -> Found {
+    if (r.len() / 8) as u64 != words {
+        return Found::Malformed;
+    }
+    if r.len() < PAYLOAD {
+        return Found::Malformed;
+    }
+    let length = word(r, LENGTH) as usize;
+    let stored = word(r, STORED) as usize;
+    if stored == length {
+        if r.len() - PAYLOAD < length {
+            return Found::Malformed;
+        }
+        let end = PAYLOAD + length;
+        return replay_on(r, &r[PAYLOAD..end]);
+    }
+    if 0 < stored {
+        return Found::Malformed;
+    }
+    replay_zeros(r, &io::buffer(), length)
+}

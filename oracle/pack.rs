@@ -1,0 +1,173 @@
+//! Standard input: lines REQUEST, tab, ANSWER, as `oracle stored` prints them. Standard output: a record of 64-bit words, low byte
+//! first, for each line and each call that serves it:
+//!   how many words follow; the line's number from 1; the kind; the release; the start; four further numbers of the request;
+//!   the payload's length in bytes, how many of them are stored; the same two for the strings (0 and 0 without a reader);
+//!   the payload's stored bytes, and the strings', each padded to whole words;
+//!   the refusal's number or 0, the place, the second place, how many values, the values (signed ones in two's complement).
+//! A payload of zeros (`zN`) is not stored: its length is N and its stored bytes are 0.
+//!
+//! To add a kind: its number in KINDS and in the program's src/, its further numbers in `request`, its values in `values`.
+
+use std::io::{Read, Write};
+
+/// The name in a request, the number of the kind, and whether this is the call that hands over f64, whose NaN is 7ff8000000000000.
+const KINDS: [(&str, u64, bool); 18] = [
+    ("b", 1, false),
+    ("bb", 2, false),
+    ("3b", 3, false),
+    ("bs", 4, false),
+    ("bsu", 5, false),
+    ("bl", 6, false),
+    ("blu", 7, false),
+    ("bd", 8, false),
+    ("bll", 9, false),
+    ("rc", 10, false),
+    ("rs", 11, false),
+    ("rl", 12, false),
+    ("rd", 13, false),
+    ("handle", 14, false),
+    ("dd", 15, false),
+    ("bd", 16, true),
+    ("rd", 17, true),
+    ("dd", 18, true),
+];
+
+/// Which further number is which: a default, or the string start and end; then the lent lengths, of words and of numbers.
+const FIRST: usize = 0;
+
+struct Payload {
+    length: u64,
+    stored: Vec<u8>,
+}
+
+struct Request {
+    release: u64,
+    start: u64,
+    further: [u64; 4],
+    main: Payload,
+    strings: Payload,
+}
+
+fn decimal(text: &str) -> Result<u64, String> {
+    match text.parse::<u64>() {
+        Ok(number) => Ok(number),
+        Err(_) => text.parse::<i64>().map(|number| number as u64).map_err(|_| format!("no number: {text}")),
+    }
+}
+
+fn hex(text: &str) -> Result<u64, String> {
+    u64::from_str_radix(text, 16).map_err(|_| format!("no hexadecimal number: {text}"))
+}
+
+fn payload(text: &str) -> Result<Payload, String> {
+    if let Some(zeros) = text.strip_prefix('z') {
+        return Ok(Payload { length: decimal(zeros)?, stored: Vec::new() });
+    }
+    if text == "-" {
+        return Ok(Payload { length: 0, stored: Vec::new() });
+    }
+    if !text.is_ascii() || text.len() % 2 != 0 {
+        return Err(format!("no bytes: {text}"));
+    }
+    let pairs = (0..text.len()).step_by(2).map(|i| hex(&text[i..i + 2]).map(|byte| byte as u8));
+    let stored = pairs.collect::<Result<Vec<u8>, String>>()?;
+    Ok(Payload { length: stored.len() as u64, stored })
+}
+
+/// NAME REL START MAIN, and what the kind has beside these.
+fn request(words: &[&str]) -> Result<Request, String> {
+    let [name, release, start, main, rest @ ..] = words else {
+        return Err("too few words".to_string());
+    };
+    let mut further = [0; 4];
+    match (*name, rest) {
+        ("dd", [default]) => further[FIRST] = hex(default)?,
+        (_, []) => {}
+        _ => return Err("words left over".to_string()),
+    }
+    let strings = Payload { length: 0, stored: Vec::new() };
+    Ok(Request { release: decimal(release)?, start: decimal(start)?, further, main: payload(main)?, strings })
+}
+
+fn values(name: &str, answer: &str) -> Result<Vec<u64>, String> {
+    match name {
+        "bd" | "rd" | "dd" => Ok(vec![hex(answer)?]),
+        "handle" => answer.split(',').map(decimal).collect(),
+        _ => Ok(vec![decimal(answer)?]),
+    }
+}
+
+/// Refusal, places, how many values, values.
+fn outcome(name: &str, answer: &str) -> Result<Vec<u64>, String> {
+    let words: Vec<&str> = answer.split(' ').collect();
+    match words[..] {
+        ["err", number, place, second] => Ok(vec![decimal(number)?, decimal(place)?, decimal(second)?, 0]),
+        ["ok", place, value] => {
+            let values = values(name, value)?;
+            let mut outcome = vec![0, decimal(place)?, 0, values.len() as u64];
+            outcome.extend(values);
+            Ok(outcome)
+        }
+        _ => Err(format!("no answer: {answer}")),
+    }
+}
+
+fn is_nan(bits: u64) -> bool {
+    f64::from_bits(bits).is_nan()
+}
+
+/// The answer of the call that hands over f64. It has no answer to a NaN as a default, since an f64 carries no NaN's pattern in.
+fn as_f64(name: &str, request: &Request, mut outcome: Vec<u64>) -> Option<Vec<u64>> {
+    if name == "dd" && is_nan(request.further[FIRST]) {
+        return None;
+    }
+    for value in &mut outcome[4..] {
+        if is_nan(*value) {
+            *value = 0x7ff8_0000_0000_0000;
+        }
+    }
+    Some(outcome)
+}
+
+fn record(line: u64, kind: u64, request: &Request, outcome: &[u64]) -> Vec<u64> {
+    let (main, strings) = (&request.main, &request.strings);
+    let mut words = vec![line, kind, request.release, request.start];
+    words.extend(request.further);
+    words.extend([main.length, main.stored.len() as u64, strings.length, strings.stored.len() as u64]);
+    for stored in [&main.stored, &strings.stored] {
+        for part in stored.chunks(8) {
+            let mut bytes = [0; 8];
+            bytes[..part.len()].copy_from_slice(part);
+            words.push(u64::from_le_bytes(bytes));
+        }
+    }
+    words.extend(outcome);
+    words.insert(0, words.len() as u64);
+    words
+}
+
+fn pack(line: u64, text: &str, out: &mut Vec<u8>) -> Result<(), String> {
+    let (asked, answer) = text.split_once('\t').ok_or("no tab")?;
+    let words: Vec<&str> = asked.split(' ').collect();
+    let request = request(&words)?;
+    let outcome = outcome(words[0], answer)?;
+    let before = out.len();
+    for (_, kind, is_f64) in KINDS.into_iter().filter(|(name, ..)| *name == words[0]) {
+        let expected = if is_f64 { as_f64(words[0], &request, outcome.clone()) } else { Some(outcome.clone()) };
+        if let Some(expected) = expected {
+            out.extend(record(line, kind, &request, &expected).iter().flat_map(|word| word.to_le_bytes()));
+        }
+    }
+    if out.len() == before { Err(format!("no such kind: {}", words[0])) } else { Ok(()) }
+}
+
+fn main() -> Result<(), String> {
+    let mut text = String::new();
+    std::io::stdin().read_to_string(&mut text).map_err(|error| error.to_string())?;
+    let mut out = Vec::new();
+    for (index, line) in text.lines().enumerate() {
+        let number = index as u64 + 1;
+        pack(number, line, &mut out).map_err(|error| format!("line {number}: {error}"))?;
+    }
+    std::io::stdout().write_all(&out).map_err(|error| error.to_string())
+}
