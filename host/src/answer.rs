@@ -5,8 +5,10 @@ use std::io::{self, BufRead, BufReader, BufWriter, Read, Write};
 
 use crate::codes;
 use crate::payload::Zeros;
+use crate::prefixes::{self, CommonEntityData};
 use crate::refusal::Refusal;
-use crate::request::{self, Code, CodeRequest, Request};
+use crate::request::{self, Code, CodeRequest, PrefixRequest, Request, TextRequest};
+use crate::texts::{self, Source, Text};
 
 const BAD_REQUEST: &str = "bad request";
 const NOT_YET: &str = "not yet";
@@ -17,6 +19,8 @@ const NOT_YET: &str = "not yet";
 /// let mut answerer = dwg_hatch::answer::Answerer::new(false);
 /// assert_eq!(answerer.line(b"bs 2 0 3FFFC0"), "ok 18 -1");
 /// assert_eq!(answerer.line(b"bd 2 0 C0"), "err 2 2 0");
+/// assert_eq!(answerer.line(b"tv 2 0 40905080"), "ok 26 m:8:10:2:4142");
+/// assert_eq!(answerer.line(b"prefix 2 0 404240"), "err 5 18 0");
 /// assert_eq!(answerer.line(b"bd 2 0"), "bad request");
 /// ```
 pub struct Answerer {
@@ -34,7 +38,9 @@ impl Answerer {
     pub fn line(&mut self, line: &[u8]) -> String {
         match request::parse(line) {
             Some(Request::Code(request)) => self.code(&request),
-            Some(Request::Text(_) | Request::Prefix(_) | Request::Hatch(_)) => NOT_YET.to_string(),
+            Some(Request::Text(request)) => self.text(&request),
+            Some(Request::Prefix(request)) => self.prefix(&request),
+            Some(Request::Hatch(_)) => NOT_YET.to_string(),
             None => BAD_REQUEST.to_string(),
         }
     }
@@ -62,6 +68,62 @@ impl Answerer {
             })),
         }
     }
+
+    fn text(&mut self, request: &TextRequest) -> String {
+        self.zeros.reserve(&request.payload);
+        let payload = self.zeros.lend(&request.payload);
+        let reading = texts::read_tv(payload, request.start, request.release);
+        written(reading.map(|(text, place)| (text_form(&text, payload), place)))
+    }
+
+    fn prefix(&mut self, request: &PrefixRequest) -> String {
+        self.zeros.reserve(&request.payload);
+        let payload = self.zeros.lend(&request.payload);
+        written(self.doubles.read_prefix(payload, request.start, request.release))
+    }
+}
+
+/// The protocol's T, SOURCE:WIDTH:POSITION:COUNT:UNITS, of a text in its payload. A text that a reading gave lies in that reading's
+/// payload; if it does not, no answer is better than a wrong one.
+fn text_form(text: &Text, payload: &[u8]) -> String {
+    let source = match text.source {
+        Source::None => '-',
+        Source::Main => 'm',
+        Source::String => 's',
+    };
+    let digits = usize::from(text.width / 4);
+    let units = text.units(payload).unwrap_or_else(|| panic!("{}", codes::OUTSIDE));
+    let mut form = format!("{source}:{}:{}:{}:", text.width, text.position, text.count);
+    if units.is_empty() {
+        form.push('-');
+    }
+    form.extend(units.iter().map(|unit| format!("{unit:0digits$x}")));
+    form
+}
+
+/// The fields of a prefix's answer after its first place, the second place among them: there is no reader, so it is 0.
+fn prefix_form<Scale>(data: &CommonEntityData<Scale>, scale: u64) -> String {
+    let bit = u8::from;
+    let [full, face, edge] = data.visual_style_flags.map(bit);
+    let fields = [
+        format!("0 rawmode={} mode={:?}", data.raw_mode, data.mode),
+        format!("reactors={} nodict={}", data.num_reactors, bit(data.no_xdictionary)),
+        format!("chain={} onlayer={}", bit(data.binary_chain), bit(data.is_on_layer)),
+        format!("nonfixed={} plot={}", bit(data.non_fixed_ltype), data.plotstyle_flag),
+        format!("material={} shadow={}", data.material_flag, data.shadow_flags),
+        format!("invis={} nolinks={}", data.invisibility, bit(data.nolinks)),
+        format!("color={} rgb={}", data.color_raw, presence(data.color_rgb)),
+        format!("alpha={} scale={}", presence(data.color_alpha), digits(scale)),
+        format!("ltype={} vis={full},{face},{edge}", data.ltype_flags),
+        format!("weight={} gfx={}", data.lineweight, bit(data.had_graphics)),
+        format!("xdata={} dataend={}", bit(data.had_extended_data), presence(data.data_end_bits)),
+    ];
+    fields.join(" ")
+}
+
+/// The protocol's P: whether there is a number, and the number or 0.
+fn presence(number: Option<u32>) -> String {
+    format!("{}:{}", u8::from(number.is_some()), number.unwrap_or(0))
 }
 
 /// Which entries read doubles. Both hand over the 16 digits that an answer has.
@@ -92,16 +154,38 @@ impl Doubles {
             Doubles::F64 => double(codes::read_dd(payload, start, f64::from_bits(default))),
         }
     }
+
+    fn read_prefix(self, payload: &[u8], start: usize, release: u64) -> codes::Reading<String> {
+        Ok(match self {
+            Doubles::Bits => {
+                let (data, place) = prefixes::read_common_entity_bits(payload, start, release)?;
+                (prefix_form(&data, data.ltype_scale), place)
+            }
+            Doubles::F64 => {
+                let (data, place) = prefixes::read_common_entity_data(payload, start, release)?;
+                (prefix_form(&data, one_nan(data.ltype_scale)), place)
+            }
+        })
+    }
 }
 
 fn pattern(reading: codes::Reading<u64>) -> codes::Reading<String> {
-    reading.map(|(bits, place)| (format!("{bits:016x}"), place))
+    reading.map(|(bits, place)| (digits(bits), place))
+}
+
+fn double(reading: codes::Reading<f64>) -> codes::Reading<String> {
+    pattern(reading.map(|(value, place)| (one_nan(value), place)))
+}
+
+/// The protocol's D, of a double's 64 bits.
+fn digits(bits: u64) -> String {
+    format!("{bits:016x}")
 }
 
 /// Every NaN is written as one, since an f64 entry promises no NaN's pattern.
-fn double(reading: codes::Reading<f64>) -> codes::Reading<String> {
+fn one_nan(value: f64) -> u64 {
     const NAN: u64 = 0x7ff8_0000_0000_0000;
-    pattern(reading.map(|(value, place)| (if value.is_nan() { NAN } else { value.to_bits() }, place)))
+    if value.is_nan() { NAN } else { value.to_bits() }
 }
 
 fn written<T: Display>(reading: codes::Reading<T>) -> String {
@@ -138,5 +222,21 @@ pub fn run(input: impl Read, output: impl Write, f64_entries: bool) -> io::Resul
             return output.flush();
         }
         writeln!(output, "{}", answerer.line(&line))?;
+    }
+}
+
+#[cfg(test)]
+mod tests {
+    use super::*;
+
+    // Today's library hands over this very NaN, but no contract of its f64 entries promises a pattern, so no request can test this.
+    #[test]
+    fn every_nan_becomes_the_one() {
+        for bits in [0x7ff0_0000_0000_0001, 0xfff0_0000_0000_0001, 0xfff8_0000_0000_0000, u64::MAX] {
+            assert_eq!(one_nan(f64::from_bits(bits)), 0x7ff8_0000_0000_0000, "{bits:x}");
+        }
+        for bits in [0, 1, 1 << 63, 0x7ff0_0000_0000_0000, 0xfff0_0000_0000_0000] {
+            assert_eq!(one_nan(f64::from_bits(bits)), bits, "{bits:x}");
+        }
     }
 }

@@ -224,15 +224,15 @@ fn double(entry: unsafe extern "C" fn(*const u8, usize, usize) -> DoubleAnswer, 
     reading(answer.refusal, answer.place, answer.value)
 }
 
-/// Refusal number 0 is a reading. A code has no string reader, so its second place is 0.
-fn reading<T>(refusal: u64, place: usize, value: T) -> Reading<T> {
+/// Refusal number 0 is a reading. A call over one payload has one place, so the second place is 0.
+pub(crate) fn reading<T>(refusal: u64, place: usize, value: T) -> Reading<T> {
     match refusal {
         0 => Ok((value, place)),
         number => Err(Refusal { number, place, second_place: 0 }),
     }
 }
 
-const OUTSIDE: &str = "the library gave a value outside its contract: ffi.rs and the library differ";
+pub(crate) const OUTSIDE: &str = "the library gave a value outside its contract: ffi.rs and the library differ";
 
 /// The proved ranges make this lossless. It is not a plain `as`, so that a wrong declaration in ffi.rs cannot pass as a value.
 fn narrow<W, T: TryFrom<W>>(wide: W) -> T {

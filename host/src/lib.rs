@@ -13,14 +13,19 @@
 //! # Ok::<(), dwg_hatch::Refusal>(())
 //! ```
 //!
-//! So far there are the codes of document 01's section on bitcursor.rs.
+//! So far there are the codes of document 01's section on bitcursor.rs ([`codes`]), texts ([`texts`]), and the entity prefix
+//! ([`prefixes`]).
 
 pub mod answer;
 pub mod codes;
 mod ffi;
 pub mod payload;
+pub mod prefixes;
 pub mod refusal;
 pub mod request;
+pub mod texts;
 
 pub use codes::*;
+pub use prefixes::*;
 pub use refusal::Refusal;
+pub use texts::*;

@@ -24,8 +24,14 @@ usage: dwg-hatch answer [--f64]
 
   b|bb|3b|bs|bsu|bl|blu|bd|bll|rc|rs|rl|rd|handle REL START HEX    one code
   dd REL START HEX DEFAULT                                         DEFAULT is 16 hexadecimal digits
+  tv REL START HEX                                                 one inline text of the release
+  prefix REL START HEX                                             one entity prefix of the release
 
-REL is the release, 1 to 7, START the start bit. HEX is bytes in hexadecimal, - for no bytes, zN for N zero bytes.
+REL is the release, 1 to 7 (of a prefix any number), START the start bit. HEX is bytes in hexadecimal, - for no bytes,
+zN for N zero bytes.
+A text's value is m:WIDTH:POSITION:COUNT:UNITS: the bits of a unit, the bit position of the first unit, how many
+there are, and the units in hexadecimal, - for none.
+A prefix's value is 0 and its fields, each NAME=VALUE; rgb, alpha and dataend are 0:0 if absent, else 1:NUMBER.
 A reading is answered `ok PLACE VALUE`, a refusal `err NUMBER PLACE 0`, what is not offered yet `not yet`,
 and a line that is no request `bad request`.
 ";

@@ -19,7 +19,7 @@ use std::fmt;
 pub struct Refusal {
     /// The number in document 01's table, 1 to 11.
     pub number: u64,
-    /// Where the main payload's reading stopped.
+    /// Where the main payload's reading stopped; of a call over one payload, where that payload's did.
     pub place: usize,
     /// Where the string payload's reading stopped; 0 without a string reader.
     pub second_place: usize,
@@ -61,7 +61,8 @@ impl Refusal {
         match self.number {
             1 => "check that the payload is whole, the release and the start bit",
             2..=5 | 8 => CHECK,
-            6 | 7 => "check the string payload, its start bit and its end bit",
+            6 => "check the string payload, its start bit and its end bit",
+            7 => "check the release, and the start bit of the payload that holds the text, else that payload is damaged",
             9 => "name a release from 1 (R14) to 7 (R2018)",
             10 => "lend only the object's own bytes",
             11 => "lend longer lists and read again",

@@ -233,6 +233,12 @@ mod tests {
     }
 
     #[test]
+    fn each_part_of_a_prefix_request_is_kept() {
+        let payload = Payload::Bytes(vec![0xa9]);
+        assert_eq!(parse(b"prefix 9 3 A9"), Some(Request::Prefix(PrefixRequest { release: 9, start: 3, payload })));
+    }
+
+    #[test]
     fn each_part_of_a_hatch_request_is_kept() {
         let Some(Request::Hatch(hatch)) = parse(b"hatchs 9 1 A9 2 16 z3 L 4 5") else { panic!("no hatch request") };
         assert_eq!((hatch.release, hatch.start, hatch.payload), (9, 1, Payload::Bytes(vec![0xa9])));

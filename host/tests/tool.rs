@@ -43,8 +43,54 @@ fn examples_are_answered() {
 
 #[test]
 fn what_is_not_there_yet_is_said() {
-    let requests = "tv 2 0 80\nprefix 8 0 -\nhatch 3 0 A9AAA0\nhatchs 2 0 A9 0 16 4040 L 0 0\nhatch 3 0\n";
-    assert_eq!(answers(&["answer"], requests.as_bytes()), "not yet\nnot yet\nnot yet\nnot yet\nbad request\n");
+    let requests = "hatch 3 0 A9AAA0\nhatchs 2 0 A9 0 16 4040 L 0 0\nhatch 3 0\n";
+    assert_eq!(answers(&["answer"], requests.as_bytes()), "not yet\nnot yet\nbad request\n");
+}
+
+/// Lengths whose texts are too long for the list of examples: 256, which has a tag of its own, with one closing zero of all zeros dropped;
+/// and the greatest that a length code can name.
+#[test]
+fn long_texts_are_answered() {
+    let zeros = |count| "00".repeat(count);
+    let requests = [
+        format!("tv 3 0 C0{}", zeros(256)),
+        format!("tv 4 0 C0{}", zeros(512)),
+        format!("tv 4 0 C0{}", zeros(511)),
+        format!("tv 7 6 00FFFF{}", "41FF".repeat(65_535)),
+    ];
+    let expected = [
+        format!("ok 2050 m:8:2:255:{}", zeros(255)),
+        format!("ok 4098 m:16:2:255:{}", zeros(510)),
+        "err 1 4090 0".to_string(),
+        format!("ok 1048584 m:16:24:65535:{}", "ff41".repeat(65_535)),
+    ];
+    let given = answers(&["answer"], format!("{}\n", requests.join("\n")).as_bytes());
+    assert!(given.lines().eq(expected.iter()), "{}", given.lines().map(|line| format!("{line:.60}\n")).collect::<String>());
+}
+
+/// Document 01's refusal 8: four XDATA blocks (size 1, empty handle, one zero) are 13 bytes, and 256 are refused whatever follows. From
+/// the second block on there are 255, which are read.
+#[test]
+fn xdata_blocks_are_counted() {
+    let blocks = "40400010100004040001010000".repeat(64);
+    let requests = format!("prefix 2 0 {blocks}\nprefix 2 0 {blocks}85D08740\nprefix 2 26 {blocks}85D08740\n");
+    let given = answers(&["answer"], requests.as_bytes());
+    let given: Vec<&str> = given.lines().collect();
+    assert_eq!(given[..2], ["err 8 6656 0", "err 8 6656 0"]);
+    assert!(given[2].starts_with("ok 6682 0 rawmode=0 ") && given[2].contains(" color=256 "), "{given:?}");
+    assert!(given[2].contains(" xdata=1 "), "{given:?}");
+}
+
+/// Both entries give the same answers but for a NaN as scale.
+#[test]
+fn prefixes_are_answered_by_both_entries() {
+    let prefixes: Vec<&str> = include_str!("examples.txt").lines().filter(|line| line.starts_with("prefix ")).collect();
+    let requests: String = prefixes.iter().filter_map(|line| line.split('\t').next()).map(|request| format!("{request}\n")).collect();
+    let expected: Vec<String> = prefixes.iter().filter_map(|line| line.split('\t').nth(1)).map(|answer| {
+        answer.replace("scale=fff0000000000001", "scale=7ff8000000000000")
+    }).collect();
+    assert!(expected.iter().any(|answer| answer.contains("scale=7ff8")), "no NaN among the examples");
+    assert_eq!(answers(&["answer", "--f64"], requests.as_bytes()).lines().collect::<Vec<_>>(), expected);
 }
 
 #[test]

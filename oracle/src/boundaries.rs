@@ -57,8 +57,17 @@ pub fn prefix(rng: &mut Rng) -> Vec<String> {
     for release in 1..=7 {
         let body = body(rng, |pen| encode_prefix::prefix(pen, release));
         lines.extend(cuts(rng, &body, &format!("prefix {release}")));
+        // Sizes whose second or third byte counts, and an XDATA size that would be negative with a sign.
+        lines.extend([(257, 256), (32_768, 65_537)].map(|(xdata, graphics)| long_prefix(rng, release, xdata, graphics)));
     }
     lines
+}
+
+fn long_prefix(rng: &mut Rng, release: u64, xdata: u64, graphics: u64) -> String {
+    let mut pen = Pen::clean(rng);
+    encode_prefix::long(&mut pen, release, xdata, graphics);
+    let made = spoil::whole(rng, &pen.out);
+    format!("prefix {release} {} {}", made.start, bits::hex(&made.bits))
 }
 
 /// The order of refusals: each of release, payloads and starts right and wrong beside the others.

@@ -7,6 +7,24 @@ use crate::encode_text;
 pub fn prefix(pen: &mut Pen, release: u64) {
     xdata(pen);
     graphics(pen, release);
+    after_graphics(pen, release);
+}
+
+/// One block of XDATA and graphics, of so many bytes each, and the other fields.
+pub fn long(pen: &mut Pen, release: u64, xdata: u64, graphics: u64) {
+    pen.size_bs(xdata);
+    pen.handle();
+    random_bytes(pen, xdata);
+    pen.bs(0);
+    pen.laid.number("xdata", 1);
+    pen.b(true);
+    graphics_size(pen, release, graphics);
+    random_bytes(pen, graphics);
+    pen.laid.number("gfx", 1);
+    after_graphics(pen, release);
+}
+
+fn after_graphics(pen: &mut Pen, release: u64) {
     if release == 1 {
         let end = pen.rng.next() & 0xffff_ffff;
         pen.bytes(end, 4);
@@ -34,13 +52,17 @@ fn xdata(pen: &mut Pen) {
         } else {
             pen.handle();
         }
-        for _ in 0..size {
-            let byte = pen.rng.below(256);
-            pen.out.put(byte, 8);
-        }
-        pen.out.end_field();
+        random_bytes(pen, size);
     }
     pen.bs(0);
+}
+
+fn random_bytes(pen: &mut Pen, count: u64) {
+    for _ in 0..count {
+        let byte = pen.rng.below(256);
+        pen.out.put(byte, 8);
+    }
+    pen.out.end_field();
 }
 
 /// B; if set, RL to release 4 or BLL from 5, and that many bytes.
@@ -54,17 +76,17 @@ fn graphics(pen: &mut Pen, release: u64) {
     let stored = pen.rng.pick(&[0, 1, 2, 3, 5, 20]);
     let too_long = pen.rng.pick(&[stored + 1, 255, 65_535, 0xffff_ffff, (1 << 56) - 1]);
     let size = if pen.seldom_bad(6) { too_long } else { stored };
+    graphics_size(pen, release, size);
+    random_bytes(pen, stored);
+}
+
+fn graphics_size(pen: &mut Pen, release: u64, size: u64) {
     if release >= 5 {
         pen.bll(size);
     } else {
         pen.out.sites.push(Site::Size { value_at: pen.out.place(), bytes: 4 });
         pen.bytes(size.min(0xffff_ffff), 4);
     }
-    for _ in 0..stored {
-        let byte = pen.rng.below(256);
-        pen.out.put(byte, 8);
-    }
-    pen.out.end_field();
 }
 
 /// BB mode; BL reactors; from 3 B; 6 and 7 B; 1 B; 1 and 2 B.

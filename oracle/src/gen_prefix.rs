@@ -10,7 +10,8 @@ use crate::spoil;
 /// A release that is laid out and the one that is asked for: mostly the same, sometimes another or an unknown one.
 pub fn releases(rng: &mut Rng) -> (u64, u64) {
     let laid = 1 + rng.below(7);
-    let unknown = rng.pick(&[0, 8, 9, 255, 256, 258, 65_537, 4_294_967_295]);
+    // Some are a known release in their low 8, 16 or 32 bits.
+    let unknown = rng.pick(&[0, 8, 9, 255, 256, 258, 65_537, 4_294_967_295, 4_294_967_298, u64::MAX]);
     let asked = match rng.below(40) {
         0 | 1 => unknown,
         2..=4 => 1 + rng.below(7),
