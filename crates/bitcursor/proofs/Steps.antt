@@ -1,7 +1,7 @@
 -- From what a call answered to what the definition reads, and through a code's tag: the steps of the readers' proofs.
 -- Assumes nothing.
 use mathlib.Core.Path.{_≡_, refl, sym, ap, ap₂, _∙_}
-use mathlib.Core.Bool.{true, false}
+use mathlib.Core.Bool.{Bool, true, false}
 use mathlib.Core.List.{List}
 use mathlib.Core.Logic.{⊎-elim}
 use Prim.Native.Nat.{ℕ, zero, suc, _+_, _-_, _*_, _/_, _≤_, _<_}
@@ -20,7 +20,12 @@ use Rattle.bitcursor.specs.Code.{Code, raw, _>>=_, mapped, tabled, give}
 use Rattle.bitcursor.specs.Codes.{byTag, tagged}
 use Rattle.bitcursor.specs.Bytes.{skip, le-or-lt}
 use Rattle.bitcursor.specs.Stops.{skip-there, skip-short}
-use Rattle.bitcursor.specs.Answers.{asRead, asPassed, limit, limited}
+use Rattle.bitcursor.specs.declared.Handle.{Handle}
+use Rattle.bitcursor.specs.declared.ReadHandle.{ReadHandle}
+use Rattle.bitcursor.specs.declared.ReadHandle.the-variants.{Value as ValueHandle, Refused as RefusedHandle}
+use Rattle.bitcursor.specs.Handles.{checked}
+use Rattle.bitcursor.specs.Sequence.{thenRead}
+use Rattle.bitcursor.specs.Answers.{asRead, asPassed, asHandle, limit, limited}
 
 -- what was read, from what the call answered
 pub read-value : (o : Out ℕ ℕ) {x : Read} {v p : ℕ} → x ≡ asRead o → x ≡ Value v p → o ≡ got v p
@@ -133,3 +138,51 @@ module _ {A : Type 0} (f : List ℕ → ℕ → Out ℕ A) (xs : List ℕ) (p : 
   pub limit-above : limit < length xs → limited f xs p ≡ refused PayloadTooLong p
   unfolding limited
   limit-above h = rw (lt-leb _ _ h, limited)
+
+-- ---- other answers
+pub handle-value : (o : Out ℕ Handle) {x : ReadHandle} {v : Handle} {p : ℕ} → x ≡ asHandle o → x ≡ ValueHandle v p → o ≡ got v p
+handle-value (got a q) {x} {v} {p} e h =
+    let ev : a ≡ v = cc in
+    let ep : q ≡ p = cc in
+    ap₂ got ev ep
+handle-value (refused n q) {x} {v} {p} e h = let z : _≡_ {A = ℕ} 0 1 = cc in absurd (omega arith)
+
+pub handle-refused : (o : Out ℕ Handle) {x : ReadHandle} {r : Refusal} {p : ℕ} → x ≡ asHandle o → x ≡ RefusedHandle r p → o ≡ refused r p
+handle-refused (got a q) {x} {r} {p} e h = let z : _≡_ {A = ℕ} 0 1 = cc in absurd (omega arith)
+handle-refused (refused n q) {x} {r} {p} e h =
+    let en : n ≡ r = cc in
+    let ep : q ≡ p = cc in
+    ap₂ refused en ep
+
+pub passed-got : (o : Out ℕ (Unit {0})) {x : Passed} {p : ℕ} → x ≡ asPassed o → x ≡ To p → o ≡ got tt p
+passed-got (got a q) {x} {p} e h = let ep : q ≡ p = cc in ap (got tt) ep
+passed-got (refused n q) {x} {p} e h = let z : _≡_ {A = ℕ} 0 1 = cc in absurd (omega arith)
+
+pub passed-refused : (o : Out ℕ (Unit {0})) {x : Passed} {r : Refusal} {p : ℕ} → x ≡ asPassed o → x ≡ RefusedPassed r p → o ≡ refused r p
+passed-refused (got a q) {x} {r} {p} e h = let z : _≡_ {A = ℕ} 0 1 = cc in absurd (omega arith)
+passed-refused (refused n q) {x} {r} {p} e h =
+    let en : n ≡ r = cc in
+    let ep : q ≡ p = cc in
+    ap₂ refused en ep
+
+-- ---- a field that goes on from an answer, code after code: x is what its first code's step answered
+module _ (f : Code ℕ) (g : ℕ → Code ℕ) (xs : List ℕ) where
+  pub then-on : (prior : Read) {x : Read} {v p : ℕ} → x ≡ thenRead (f .read xs) prior → x ≡ Value v p
+      → thenRead ((f >>= g) .read xs) prior ≡ asRead ((g v) .read xs p)
+  then-on (Value u q) e h = ap asRead (then-got f g xs q (read-value (f .read xs q) e h))
+  then-on (Refused r q) {x} e h = let z : _≡_ {A = ℕ} 0 1 = cc in absurd (omega arith)
+
+  pub then-off : (prior : Read) {x : Read} {r : Refusal} {p : ℕ} → x ≡ thenRead (f .read xs) prior → x ≡ Refused r p
+      → thenRead ((f >>= g) .read xs) prior ≡ Refused r p
+  then-off (Value u q) e h = ap asRead (then-refused f g xs q (read-refused (f .read xs q) e h))
+  then-off (Refused n q) e h = sym e ∙ h
+
+-- ---- by a test
+module _ {A : Type 0} (c d : Code A) where
+  pub checked-yes : {b : Bool} → b ≡ true → checked b c d ≡ c
+  unfolding checked
+  checked-yes e = ap (λ (t : Bool). checked t c d) e
+
+  pub checked-no : {b : Bool} → b ≡ false → checked b c d ≡ d
+  unfolding checked
+  checked-no e = ap (λ (t : Bool). checked t c d) e

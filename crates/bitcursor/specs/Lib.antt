@@ -10,6 +10,7 @@ pub mod Handles
 pub mod Stops
 pub mod Ranges
 pub mod Answers
+pub mod Sequence
 pub mod Format
 pub mod Whole
 pub mod Fields

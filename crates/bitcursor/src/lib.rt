@@ -9,6 +9,7 @@ ghost use Rattle.bitcursor.specs.Doubles.{BD, DD};
 ghost use Rattle.bitcursor.specs.Handles.{BLL, HANDLE};
 ghost use Rattle.bitcursor.specs.Answers.{limited, asRead, asBool, asI16, asI32, asF64, asHandle};
 
+pub mod sequence;
 pub mod values;
 pub mod within;
 pub mod words;

@@ -31,9 +31,13 @@ textOf source w at t = textAt source w (at + t .lead) (length (t .units))
 unfoldable pub here : Payload → Format ℕ
 here w = peek (λ γ p. placeIn w p) (λ γ δ p h. refl)
 
+abbrev pub widthBy : Bool → UnitWidth
+widthBy true = wide
+widthBy false = narrow
+
 -- 8-bit units before release 4, 16-bit units from it
 abbrev pub widthOf : Version → UnitWidth
-widthOf v = elim (leb 4 (releaseNumber v)) [ true ↦ wide | false ↦ narrow ]
+widthOf v = widthBy (leb 4 (releaseNumber v))
 
 unfoldable pub inline : UnitWidth → Format Text
 inline w = do

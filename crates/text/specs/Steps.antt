@@ -15,11 +15,9 @@ use Rattle.bitcursor.specs.Codes.{BS}
 use Rattle.bitcursor.specs.Handles.{checked}
 use Rattle.text.specs.declared.Source.{Source}
 use Rattle.text.specs.declared.Source.the-variants.{Main, String}
-use Rattle.text.specs.declared.version.Version.{Version}
-use Rattle.text.specs.Releases.{releaseNumber}
 use Rattle.text.specs.Units.{units}
-use Rattle.text.specs.Texts.{UnitWidth, narrow, wide, unitBytes, unclosed, lawful, judged, written, TV, TV-read}
-use Rattle.text.specs.Fields.{textAt, widthOf}
+use Rattle.text.specs.Texts.{UnitWidth, wide, unitBytes, unclosed, lawful, judged, written, TV, TV-read}
+use Rattle.text.specs.Fields.{textAt}
 use Rattle.text.specs.Answers.{placed, unitsText, readerText}
 
 -- ---- after a length code that ends at p
@@ -43,13 +41,6 @@ module _ (source : Source) (w : UnitWidth) (xs : List ℕ) (at p : ℕ) (on : at
   pub reader-rest : (o : Out ℕ (List ℕ)) → andThen o (λ laid q. placed source w at ((judged w (p - at) laid) .read xs q)) ≡ unitsText source w p o
   reader-rest (got laid q) = judged-text laid q
   reader-rest (refused r q) = refl
-
--- ---- the release's width
-pub width-wide : (v : Version) → leb 4 (releaseNumber v) ≡ true → widthOf v ≡ wide
-width-wide v e = rw (e, widthOf)
-
-pub width-narrow : (v : Version) → leb 4 (releaseNumber v) ≡ false → widthOf v ≡ narrow
-width-narrow v e = rw (e, widthOf)
 
 -- ---- inline text, by its length code
 module _ (w : UnitWidth) (xs : List ℕ) (at : ℕ) where

@@ -4,8 +4,9 @@ ghost use Prim.Native.Nat.{_^_, _≤_, _<_};
 ghost use lib.ListN.{length};
 ghost use Rattle.bitcursor.specs.Answers.{limit};
 ghost use Rattle.text.specs.Units.{units};
-ghost use Rattle.text.specs.Texts.{narrow, wide};
-ghost use Rattle.text.specs.Answers.{asText, unitsText, inlineText, readerText, asField, payloads, placesOf};
+ghost use Rattle.text.specs.Texts.{narrow, wide, TV};
+ghost use Rattle.text.specs.Answers.{asText, placed, unitsText, inlineText, readerText, asField, payloads, placesOf};
+ghost use Rattle.text.specs.Fields.{widthBy};
 ghost use Rattle.text.specs.TextField.{TV-field};
 use crate::Places;
 use crate::ReadField;
@@ -63,20 +64,28 @@ fn wide_units(s: &[u8], at: usize, n: usize, source: Source) -> ReadText
     }
 }
 
-// Inline text (TV): a length, and units of one byte before release 4, of two from it.
-pub fn read_tv(s: &[u8], at: usize, v: Version) -> ReadText
+// Inline text (TV): a length, and units of two bytes or of one.
+pub fn read_tv_by(s: &[u8], at: usize, two_bytes: bool) -> ReadText
     requires { ⌜ length (now s) ≤ limit ⌝ }
-    ensures { λ r. ⌜ r ≡ asText (inlineText v (now (s .entry)) at) ⌝ }
+    ensures { λ r. ⌜ r ≡ asText (placed Source.Main (widthBy «two_bytes») at ((TV (widthBy «two_bytes»)) .read (now (s .entry)) at)) ⌝ }
 {
     match bitcursor::within::read_bs_u(s, at) {
         Read::Value(n, p) => {
-            if version::is_r2007_plus(v) {
+            if two_bytes {
                 return wide_units(s, p, n as usize, Source::Main);
             }
             narrow_units(s, p, n as usize)
         }
         Read::Refused(k, p) => ReadText::Refused(k, p),
     }
+}
+
+// Inline text of a release: units of one byte before release 4, of two from it.
+pub fn read_tv(s: &[u8], at: usize, v: Version) -> ReadText
+    requires { ⌜ length (now s) ≤ limit ⌝ }
+    ensures { λ r. ⌜ r ≡ asText (inlineText v (now (s .entry)) at) ⌝ }
+{
+    read_tv_by(s, at, version::is_r2007_plus(v))
 }
 
 // Text from a string reader that stands at `at` and ends at the bit `end`.

@@ -1,0 +1,31 @@
+-- A value before is gone on from; a refusal stays.
+use mathlib.Core.Path.{_≡_, sym, ap, _∙_}
+use denote.Ref.{now}
+use Rattle.bitcursor.specs.Codes.{BS}
+use Rattle.bitcursor.specs.Sequence.{thenRead}
+use borrow.Author.Needs.{needs}
+use Rattle.bitcursor.proofs.sequence.then_bs.Statement.{statement}
+use Rattle.bitcursor.proofs.sequence.then_bs.Tie as tie
+
+enum-known-prior : tie.Need-enum-known-prior
+enum-known-prior c = search needs
+
+read-bs-u-requires : tie.Need-read-bs-u-requires
+read-bs-u-requires c κs = search needs
+
+enum-known-prior-2 : tie.Need-enum-known-prior-2
+enum-known-prior-2 c = search needs
+
+returns : tie.Need-returns
+returns c =
+    let a = c .before .before .before .before .before .args in
+    c .read-bs-u .ensures ∙ sym (ap (thenRead (BS .read (now (a .s)))) (c .before .before .prior .given .1))
+
+returns-2 : tie.Need-returns-2
+returns-2 c =
+    let a = c .before .before .before .before .args in
+    sym (ap (thenRead (BS .read (now (a .s)))) (c .before .prior2 .given .1))
+
+pub then-bs-spec : {M : Type 1} → statement M
+then-bs-spec =
+    tie.close (tie.spec enum-known-prior read-bs-u-requires enum-known-prior-2 returns returns-2)
