@@ -1,0 +1,56 @@
+-- What the prefix reader's proofs share: a name that is read past, and the release numbers. Assumes nothing.
+use mathlib.Core.Path.{_≡_, refl, sym, ap, ap₂, _∙_}
+use mathlib.Core.List.{List}
+use Prim.Native.Nat.{ℕ, zero, suc, _≤_}
+use native.Mathlib.Omega.{arith}
+use Rattle.bitcursor.specs.declared.Refusal.{Refusal}
+use Rattle.bitcursor.specs.Reading.{Out, got, refused, andThen}
+use Rattle.bitcursor.specs.Code.{mapped, tabled, _>>=_, give}
+use Rattle.text.specs.declared.Source.the-variants.{Main}
+use Rattle.text.specs.declared.Text.{Text}
+use Rattle.text.specs.declared.ReadText.{ReadText}
+use Rattle.text.specs.declared.ReadText.the-variants.{Found, Refused}
+use Rattle.text.specs.declared.version.Version.{Version}
+use Rattle.text.specs.declared.version.Version.the-variants.{R14, R2000, R2004, R2007, R2010, R2013, R2018}
+use Rattle.text.specs.Releases.{releaseNumber}
+use Rattle.text.specs.Texts.{UnitWidth, Written, TV}
+use Rattle.text.specs.Fields.{widthBy}
+use Rattle.text.specs.Answers.{asText, placed}
+use mathlib.Core.Bool.{Bool}
+use Rattle.common_entity.specs.declared.EntityMode.the-variants.{Reserved}
+use Rattle.common_entity.specs.Prefix.{name, modeOf}
+
+module _ (b : Bool) (xs : List ℕ) (p : ℕ) {x : ReadText} (e : x ≡ asText (placed Main (widthBy b) p ((TV (widthBy b)) .read xs p))) where
+  pub name-found : {t : Text} {q : ℕ} → x ≡ Found t q → (name b) .read xs p ≡ got 0 q
+  unfolding name mapped tabled _>>=_ give
+  name-found {t} {q} h = go ((TV (widthBy b)) .read xs p) (sym e ∙ h)
+    where
+      go : (o : Out ℕ Written) → asText (placed Main (widthBy b) p o) ≡ Found t q → andThen {B = ℕ} o (λ u r. got 0 r) ≡ got 0 q
+      go (got u r) k = let f : r ≡ q = cc in ap (got 0) f
+      go (refused n r) k = let z : _≡_ {A = ℕ} 0 1 = cc in absurd (omega arith)
+
+  pub name-refused : {n : Refusal} {q : ℕ} → x ≡ Refused n q → (name b) .read xs p ≡ refused n q
+  unfolding name mapped tabled _>>=_ give
+  name-refused {n} {q} h = go ((TV (widthBy b)) .read xs p) (sym e ∙ h)
+    where
+      go : (o : Out ℕ Written) → asText (placed Main (widthBy b) p o) ≡ Refused n q → andThen {B = ℕ} o (λ u r. got 0 r) ≡ refused n q
+      go (got u r) k = let z : _≡_ {A = ℕ} 0 1 = cc in absurd (omega arith)
+      go (refused m r) k =
+          let f : m ≡ n = cc in
+          let g : r ≡ q = cc in
+          ap₂ refused f g
+
+pub release-range : (v : Version) → (1 ≤ releaseNumber v) × (releaseNumber v ≤ 7)
+release-range R14 = (omega arith, omega arith)
+release-range R2000 = (omega arith, omega arith)
+release-range R2004 = (omega arith, omega arith)
+release-range R2007 = (omega arith, omega arith)
+release-range R2010 = (omega arith, omega arith)
+release-range R2013 = (omega arith, omega arith)
+release-range R2018 = (omega arith, omega arith)
+
+pub mode-other : (v : ℕ) → (v ≡ 0 → ⊥) → (v ≡ 1 → ⊥) → (v ≡ 2 → ⊥) → modeOf v ≡ Reserved
+mode-other zero a b c = absurd (a refl)
+mode-other (suc zero) a b c = absurd (b refl)
+mode-other (suc (suc zero)) a b c = absurd (c refl)
+mode-other (suc (suc (suc v))) a b c = refl

@@ -1,0 +1,39 @@
+-- Without flags nothing follows; with them each test is the definition's.
+use mathlib.Core.Path.{_≡_, refl, sym, ap, _∙_}
+use borrow.Author.Tests.{not-true, not-false}
+use borrow.Author.Needs.{needs}
+use Rattle.common_entity.proofs.parts.announced_by.Statement.{statement}
+use Rattle.common_entity.proofs.parts.announced_by.Tie as tie
+
+returns : tie.Need-returns
+returns c = rw (not-true (c .before .before .args .row .«color_flags») (c .if1 .taken))
+
+flag-requires : tie.Need-flag-requires
+flag-requires c κs = search needs
+
+flag-requires-2 : tie.Need-flag-requires-2
+flag-requires-2 c κs = search needs
+
+flag-requires-3 : tie.Need-flag-requires-3
+flag-requires-3 c κs = search needs
+
+flag-requires-4 : tie.Need-flag-requires-4
+flag-requires-4 c κs = search needs
+
+flag-requires-5 : tie.Need-flag-requires-5
+flag-requires-5 c κs = search needs
+
+returns-2 : tie.Need-returns-2
+returns-2 c = rw (not-false (c .before .before .before .before .before .before .before .args .row .«color_flags») (c .before .before .before .before .before .if1 .left), c .flag5 .ensures, c .before .flag4 .ensures, c .before .before .flag3 .ensures, c .before .before .before .flag2 .ensures, c .before .before .before .before .flag .ensures)
+
+pub announced-by-spec : {M : Type 1} → statement M
+announced-by-spec =
+    tie.close
+    (tie.spec
+    returns
+    flag-requires
+    flag-requires-2
+    flag-requires-3
+    flag-requires-4
+    flag-requires-5
+    returns-2)

@@ -1,0 +1,43 @@
+-- Each step goes on from the one before it.
+use mathlib.Core.Path.{_≡_, refl, sym, ap, _∙_}
+use Rattle.bitcursor.specs.Codes.{RL}
+use Rattle.common_entity.specs.Prefix.{extended}
+use Rattle.common_entity.specs.Blocks.{chainFrom}
+use Rattle.common_entity.specs.Parts.{headOf}
+use borrow.Author.Needs.{needs}
+use Rattle.common_entity.proofs.parts.read_head.Statement.{statement}
+use Rattle.common_entity.proofs.parts.read_head.Tie as tie
+
+skip-extended-data-requires : tie.Need-skip-extended-data-requires
+skip-extended-data-requires c κs = search needs
+
+then-graphics-requires : tie.Need-then-graphics-requires
+then-graphics-requires c κs = search needs
+
+then-low-requires : tie.Need-then-low-requires
+then-low-requires c κs = search needs
+
+value-of-requires : tie.Need-value-of-requires
+value-of-requires c κs = search needs
+
+value-of-requires-2 : tie.Need-value-of-requires-2
+value-of-requires-2 c κs = search needs
+
+value-of-requires-3 : tie.Need-value-of-requires-3
+value-of-requires-3 c κs = search needs
+
+returns : tie.Need-returns
+unfolding headOf RL extended chainFrom
+returns c = rw (c .value-of3 .ensures, c .before .value-of2 .ensures, c .before .before .value-of .ensures, c .before .before .before .then-low .ensures, c .before .before .before .before .then-graphics .ensures, c .before .before .before .before .before .skip-extended-data .ensures)
+
+pub read-head-spec : {M : Type 1} → statement M
+read-head-spec =
+    tie.close
+    (tie.spec
+    skip-extended-data-requires
+    then-graphics-requires
+    then-low-requires
+    value-of-requires
+    value-of-requires-2
+    value-of-requires-3
+    returns)

@@ -1,0 +1,68 @@
+-- Each part continues behind the one before it, and the last part says whether all were read.
+use mathlib.Core.Path.{_≡_, refl, sym, ap, _∙_}
+use denote.Ref.{now}
+use Rattle.common_entity.specs.Call.{asBits}
+use Rattle.common_entity.specs.Reads.{parts-in-range, parts-whole, parts-stopped}
+use borrow.Author.Needs.{needs}
+use Rattle.common_entity.proofs.read_by_row.Statement.{statement}
+use Rattle.common_entity.proofs.read_by_row.Tie as tie
+
+read-head-requires : tie.Need-read-head-requires
+read-head-requires c κs = search needs
+
+read-modes-requires : tie.Need-read-modes-requires
+read-modes-requires c κs = search needs
+
+read-colours-requires : tie.Need-read-colours-requires
+read-colours-requires c κs = search needs
+
+read-styles-requires : tie.Need-read-styles-requires
+read-styles-requires c κs = search needs
+
+read-tail-requires : tie.Need-read-tail-requires
+read-tail-requires c κs = search needs
+
+enum-known-last : tie.Need-enum-known-last
+enum-known-last c = search needs
+
+common-bits-requires : tie.Need-common-bits-requires
+common-bits-requires c κs =
+    let a = c .before .before .before .before .before .before .before .before .before .args in
+    parts-in-range (a .row) (now (a .s)) (a .start) (c .before .before .before .before .before .before .before .read-head .result) (c .before .before .before .before .before .before .read-modes .result) (c .before .before .before .before .before .read-colours .result) (c .before .before .before .before .read-styles .result) (c .before .before .before .read-tail .result)
+    (c .before .before .before .before .before .before .before .read-head .ensures) (c .before .before .before .before .before .before .read-modes .ensures) (c .before .before .before .before .before .read-colours .ensures) (c .before .before .before .before .read-styles .ensures) (c .before .before .before .read-tail .ensures)
+
+enum-known-last-2 : tie.Need-enum-known-last-2
+enum-known-last-2 c = search needs
+
+refused-requires : tie.Need-refused-requires
+refused-requires c κs = search needs
+
+returns : tie.Need-returns
+returns c =
+    let a = c .before .before .before .before .before .before .before .before .before .before .args in
+    let l = c .before .before .last .given in
+    rw (c .common-bits .ensures) (sym (ap asBits (parts-whole (a .row) (now (a .s)) (a .start) (c .before .before .before .before .before .before .before .before .read-head .result) (c .before .before .before .before .before .before .before .read-modes .result) (c .before .before .before .before .before .before .read-colours .result) (c .before .before .before .before .before .read-styles .result) (c .before .before .before .before .read-tail .result)
+    (c .before .before .before .before .before .before .before .before .read-head .ensures) (c .before .before .before .before .before .before .before .read-modes .ensures) (c .before .before .before .before .before .before .read-colours .ensures) (c .before .before .before .before .before .read-styles .ensures) (c .before .before .before .before .read-tail .ensures) (l .1))))
+
+returns-2 : tie.Need-returns-2
+returns-2 c =
+    let a = c .before .before .before .before .before .before .before .before .before .before .args in
+    let l = c .before .before .last2 .given in
+    c .refused .ensures ∙ sym (ap asBits (parts-stopped (a .row) (now (a .s)) (a .start) (c .before .before .before .before .before .before .before .before .read-head .result) (c .before .before .before .before .before .before .before .read-modes .result) (c .before .before .before .before .before .before .read-colours .result) (c .before .before .before .before .before .read-styles .result) (c .before .before .before .before .read-tail .result)
+    (c .before .before .before .before .before .before .before .before .read-head .ensures) (c .before .before .before .before .before .before .before .read-modes .ensures) (c .before .before .before .before .before .before .read-colours .ensures) (c .before .before .before .before .before .read-styles .ensures) (c .before .before .before .before .read-tail .ensures) (l .1)))
+
+pub read-by-row-spec : {M : Type 1} → statement M
+read-by-row-spec =
+    tie.close
+    (tie.spec
+    read-head-requires
+    read-modes-requires
+    read-colours-requires
+    read-styles-requires
+    read-tail-requires
+    enum-known-last
+    common-bits-requires
+    enum-known-last-2
+    refused-requires
+    returns
+    returns-2)

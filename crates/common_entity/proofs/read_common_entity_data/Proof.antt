@@ -1,0 +1,33 @@
+-- The record of `read_common_entity_bits` with its scale as a double.
+use mathlib.Core.Path.{_≡_, refl, sym, ap, _∙_}
+use Prim.Native.Nat.{ℕ}
+use denote.Ref.{now}
+use Rattle.bitcursor.specs.Reading.{Out, got, refused}
+use Rattle.common_entity.specs.declared.CommonEntityBits.{CommonEntityBits}
+use Rattle.common_entity.specs.declared.Prefix.{Prefix}
+use Rattle.common_entity.specs.declared.PrefixBits.{PrefixBits}
+use Rattle.common_entity.specs.Record.{dataOf}
+use Rattle.common_entity.specs.Call.{asBits, asData, prefixCall}
+use borrow.Author.Needs.{needs}
+use Rattle.common_entity.proofs.read_common_entity_data.Statement.{statement}
+use Rattle.common_entity.proofs.read_common_entity_data.Tie as tie
+
+read-common-entity-bits-requires : tie.Need-read-common-entity-bits-requires
+read-common-entity-bits-requires c κs = search needs
+
+common-data-requires : tie.Need-common-data-requires
+common-data-requires c κs = search needs
+
+as-data : (o : Out ℕ CommonEntityBits) → record { outcome = (asBits o) .outcome; place = (asBits o) .place; fields = dataOf ((asBits o) .fields) } ≡ asData o
+as-data (got d p) = refl
+as-data (refused r p) = refl
+
+returns : tie.Need-returns
+returns c =
+    let a = c .before .before .before .before .args in
+    let o = prefixCall (a .release) (now (a .s)) (a .start) in
+    rw (c .common-data .ensures, c .before .before .read-common-entity-bits .ensures) (as-data o)
+
+pub read-common-entity-data-spec : {M : Type 1} → statement M
+read-common-entity-data-spec =
+    tie.close (tie.spec read-common-entity-bits-requires common-data-requires returns)

@@ -1,0 +1,68 @@
+-- The size, and then the bytes are passed by one comparison.
+use mathlib.Core.Path.{_≡_, refl, sym, ap, _∙_}
+use Prim.Native.Nat.{ℕ, _+_, _-_, _≤_, _<_}
+use denote.Ref.{now}
+use Rattle.bitcursor.specs.Code.{Code, _>>=_, give}
+use Rattle.bitcursor.specs.Bytes.{skip}
+use Rattle.bitcursor.specs.Codes.{RL}
+use Rattle.bitcursor.specs.Handles.{BLL, checked}
+use Rattle.bitcursor.specs.Answers.{asRead}
+use Rattle.bitcursor.proofs.Steps.{read-value, read-refused, passed-got, passed-refused, then-got, then-refused}
+use Rattle.common_entity.specs.Prefix.{drawing}
+use borrow.Author.Needs.{needs}
+use Rattle.common_entity.proofs.steps.read_drawn.Statement.{statement}
+use Rattle.common_entity.proofs.steps.read_drawn.Tie as tie
+
+read-size-requires : tie.Need-read-size-requires
+read-size-requires c κs = search needs
+
+enum-known-size : tie.Need-enum-known-size
+enum-known-size c = search needs
+
+skip-bytes-requires : tie.Need-skip-bytes-requires
+skip-bytes-requires c κs = search needs
+
+enum-known-e : tie.Need-enum-known-e
+enum-known-e c = search needs
+
+enum-known-k : tie.Need-enum-known-k
+enum-known-k c = search needs
+
+enum-known-size-2 : tie.Need-enum-known-size-2
+enum-known-size-2 c = search needs
+
+returns : tie.Need-returns
+unfolding drawing give
+returns c =
+    let a = c .before .before .before .before .before .before .before .before .before .args in
+    let m = c .before .before .before .before .before .size .given in
+    sym (ap asRead (then-got (checked (a .bll) BLL RL) (λ size. skip size >>= λ passed. give 1) (now (a .s)) (a .at) (read-value _ (c .before .before .before .before .before .before .before .read-size .ensures) (m .1))
+    ∙ then-got (skip (m .0 .0)) (λ passed. give 1) (now (a .s)) (m .0 .1 .0) (passed-got _ (c .before .before .before .skip-bytes .ensures) (c .before .e .given .1))))
+
+returns-2 : tie.Need-returns-2
+unfolding drawing
+returns-2 c =
+    let a = c .before .before .before .before .before .before .before .before .before .args in
+    let m = c .before .before .before .before .before .size .given in
+    sym (ap asRead (then-got (checked (a .bll) BLL RL) (λ size. skip size >>= λ passed. give 1) (now (a .s)) (a .at) (read-value _ (c .before .before .before .before .before .before .before .read-size .ensures) (m .1))
+    ∙ then-refused (skip (m .0 .0)) (λ passed. give 1) (now (a .s)) (m .0 .1 .0) (passed-refused _ (c .before .before .before .skip-bytes .ensures) (c .before .k .given .1))))
+
+returns-3 : tie.Need-returns-3
+unfolding drawing
+returns-3 c =
+    let a = c .before .before .before .before .before .args in
+    sym (ap asRead (then-refused (checked (a .bll) BLL RL) (λ size. skip size >>= λ passed. give 1) (now (a .s)) (a .at) (read-refused _ (c .before .before .before .read-size .ensures) (c .before .size2 .given .1))))
+
+pub read-drawn-spec : {M : Type 1} → statement M
+read-drawn-spec =
+    tie.close
+    (tie.spec
+    read-size-requires
+    enum-known-size
+    skip-bytes-requires
+    enum-known-e
+    enum-known-k
+    enum-known-size-2
+    returns
+    returns-2
+    returns-3)

@@ -1,0 +1,62 @@
+-- The bit says whether graphics follow.
+use mathlib.Core.Path.{_≡_, refl, sym, ap, _∙_}
+use Prim.Native.Nat.{ℕ, _+_, _-_, _≤_, _<_}
+use denote.Ref.{now}
+use lib.Dec.{eqb}
+use borrow.Author.Tests.{eq-eqb, ne-eqb}
+use Rattle.bitcursor.specs.Code.{Code, raw, give}
+use Rattle.bitcursor.specs.Handles.{checked}
+use Rattle.bitcursor.specs.Answers.{asRead}
+use Rattle.bitcursor.specs.Sequence.{held, thenRead}
+use Rattle.bitcursor.proofs.Steps.{then-on, then-off, checked-yes, checked-no}
+use Rattle.common_entity.specs.Prefix.{BIT, drawing, graphics}
+use borrow.Author.Needs.{needs}
+use Rattle.common_entity.proofs.steps.then_graphics.Statement.{statement}
+use Rattle.common_entity.proofs.steps.then_graphics.Tie as tie
+
+then-bits-requires : tie.Need-then-bits-requires
+then-bits-requires c κs = search needs
+
+enum-known-had : tie.Need-enum-known-had
+enum-known-had c = search needs
+
+read-drawn-requires : tie.Need-read-drawn-requires
+read-drawn-requires c κs = search needs
+
+returns : tie.Need-returns
+unfolding graphics held
+returns c =
+    let a = c .before .before .before .before .before .before .before .args in
+    let m = c .before .before .before .had .given in
+    c .read-drawn .ensures
+    ∙ sym (then-on BIT (λ had. checked (eqb had 1) (drawing (a .bll)) (give 0)) (now (a .s)) (a .prior) (c .before .before .before .before .before .then-bits .ensures) (m .1)
+    ∙ ap (λ (d : Code ℕ). asRead (d .read (now (a .s)) (m .0 .1 .0))) (checked-yes (drawing (a .bll)) (give 0) (eq-eqb (m .0 .0) 1 (c .before .if1 .taken))))
+
+enum-known-k : tie.Need-enum-known-k
+enum-known-k c = search needs
+
+returns-2 : tie.Need-returns-2
+unfolding graphics held give
+returns-2 c =
+    let a = c .before .before .before .before .before .before .args in
+    let m = c .before .before .had .given in
+    sym (then-on BIT (λ had. checked (eqb had 1) (drawing (a .bll)) (give 0)) (now (a .s)) (a .prior) (c .before .before .before .before .then-bits .ensures) (m .1)
+    ∙ ap (λ (d : Code ℕ). asRead (d .read (now (a .s)) (m .0 .1 .0))) (checked-no (drawing (a .bll)) (give 0) (ne-eqb (m .0 .0) 1 (c .if1 .left))))
+
+returns-3 : tie.Need-returns-3
+unfolding graphics held
+returns-3 c =
+    let a = c .before .before .before .before .before .args in
+    sym (then-off BIT (λ had. checked (eqb had 1) (drawing (a .bll)) (give 0)) (now (a .s)) (a .prior) (c .before .before .before .then-bits .ensures) (c .before .k .given .1))
+
+pub then-graphics-spec : {M : Type 1} → statement M
+then-graphics-spec =
+    tie.close
+    (tie.spec
+    then-bits-requires
+    enum-known-had
+    read-drawn-requires
+    returns
+    enum-known-k
+    returns-2
+    returns-3)

@@ -1,0 +1,67 @@
+-- A name that is announced is read past; one that is not takes no bit; a refusal stays.
+use mathlib.Core.Path.{_≡_, refl, sym, ap, _∙_}
+use Prim.Native.Nat.{ℕ, _+_, _-_, _≤_, _<_}
+use denote.Ref.{now}
+use Rattle.bitcursor.specs.Code.{Code, give}
+use Rattle.bitcursor.specs.Answers.{asRead}
+use Rattle.bitcursor.specs.Sequence.{held, thenRead, held-yes, held-no}
+use Rattle.common_entity.specs.Prefix.{name}
+use Rattle.common_entity.proofs.Laws.{name-found, name-refused}
+use borrow.Author.Needs.{needs}
+use Rattle.common_entity.proofs.steps.then_name.Statement.{statement}
+use Rattle.common_entity.proofs.steps.then_name.Tie as tie
+
+enum-known-prior : tie.Need-enum-known-prior
+enum-known-prior c = search needs
+
+read-tv-by-requires : tie.Need-read-tv-by-requires
+read-tv-by-requires c κs = search needs
+
+enum-known-q : tie.Need-enum-known-q
+enum-known-q c = search needs
+
+enum-known-k : tie.Need-enum-known-k
+enum-known-k c = search needs
+
+returns : tie.Need-returns
+returns c =
+    let a = c .before .before .before .before .before .before .before .before .before .args in
+    let m = c .before .before .before .before .before .before .prior .given in
+    let h = ap (thenRead ((held (a .has) (name (a .two-bytes)) 0) .read (now (a .s)))) (m .1) ∙ ap (λ (d : Code ℕ). asRead (d .read (now (a .s)) (m .0 .1 .0))) (held-yes (name (a .two-bytes)) 0 (c .before .before .before .before .if1 .taken)) in
+    sym (h ∙ ap asRead (name-found (a .two-bytes) (now (a .s)) (m .0 .1 .0) (c .before .before .before .read-tv-by .ensures) (c .before .q .given .1)))
+
+returns-2 : tie.Need-returns-2
+returns-2 c =
+    let a = c .before .before .before .before .before .before .before .before .before .args in
+    let m = c .before .before .before .before .before .before .prior .given in
+    let h = ap (thenRead ((held (a .has) (name (a .two-bytes)) 0) .read (now (a .s)))) (m .1) ∙ ap (λ (d : Code ℕ). asRead (d .read (now (a .s)) (m .0 .1 .0))) (held-yes (name (a .two-bytes)) 0 (c .before .before .before .before .if1 .taken)) in
+    sym (h ∙ ap asRead (name-refused (a .two-bytes) (now (a .s)) (m .0 .1 .0) (c .before .before .before .read-tv-by .ensures) (c .before .k .given .1)))
+
+enum-known-prior-2 : tie.Need-enum-known-prior-2
+enum-known-prior-2 c = search needs
+
+returns-3 : tie.Need-returns-3
+unfolding give
+returns-3 c =
+    let a = c .before .before .before .before .before .args in
+    let m = c .before .before .prior .given in
+    sym (ap (thenRead ((held (a .has) (name (a .two-bytes)) 0) .read (now (a .s)))) (m .1) ∙ ap (λ (d : Code ℕ). asRead (d .read (now (a .s)) (m .0 .1 .0))) (held-no (name (a .two-bytes)) 0 (c .if1 .left)))
+
+returns-4 : tie.Need-returns-4
+returns-4 c =
+    let a = c .before .before .before .before .args in
+    sym (ap (thenRead ((held (a .has) (name (a .two-bytes)) 0) .read (now (a .s)))) (c .before .prior2 .given .1))
+
+pub then-name-spec : {M : Type 1} → statement M
+then-name-spec =
+    tie.close
+    (tie.spec
+    enum-known-prior
+    read-tv-by-requires
+    enum-known-q
+    enum-known-k
+    returns
+    returns-2
+    enum-known-prior-2
+    returns-3
+    returns-4)
