@@ -18,7 +18,7 @@ use text::ReadText;
 use text::Source;
 
 // A refusal's number, as wide as the boundary has it.
-fn number(r: Refusal) -> u64
+pub fn number(r: Refusal) -> u64
     ensures { λ n. ⌜ n ≡ refusalNumber r ⌝ }
 {
     bitcursor::refusal_number(r) as u64

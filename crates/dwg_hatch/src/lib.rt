@@ -9,9 +9,12 @@ ghost use Rattle.bitcursor.specs.Handles.{BLL, HANDLE};
 ghost use Rattle.bitcursor.specs.Answers.{limited};
 ghost use Rattle.text.specs.Releases.{versionOf};
 ghost use Rattle.text.specs.Answers.{inlineText, readerText, released};
+ghost use Rattle.common_entity.specs.Call.{asBits, prefixCall};
+ghost use Rattle.dwg_hatch.specs.PrefixBoundary.{bitsAnswer, doubleAnswer as prefixDoubleAnswer};
 ghost use Rattle.dwg_hatch.specs.Boundary.{boolAnswer, codeAnswer, signedAnswer, doubleAnswer, handleAnswer, textAnswer};
 
 mod answers;
+mod prefixes;
 
 // What one code gives: the refusal's number or 0, the final place, and the value or 0.
 #[repr(C)]
@@ -54,6 +57,55 @@ pub struct TextAnswer {
     pub width: u8,
     pub position: usize,
     pub count: usize,
+}
+
+// The fields of a prefix but its linetype scale, under the Rust's names; a number that may be absent has its `has` beside it.
+#[repr(C)]
+pub struct PrefixFields {
+    pub raw_mode: u8,
+    pub mode: u8,
+    pub num_reactors: u32,
+    pub no_xdictionary: bool,
+    pub binary_chain: bool,
+    pub is_on_layer: bool,
+    pub non_fixed_ltype: bool,
+    pub plotstyle_flag: u8,
+    pub material_flag: u8,
+    pub shadow_flags: u8,
+    pub invisibility: i16,
+    pub nolinks: bool,
+    pub color_raw: u16,
+    pub has_color_rgb: bool,
+    pub color_rgb: u32,
+    pub has_color_alpha: bool,
+    pub color_alpha: u32,
+    pub ltype_flags: u8,
+    pub full_visual_style: bool,
+    pub face_visual_style: bool,
+    pub edge_visual_style: bool,
+    pub lineweight: u8,
+    pub had_graphics: bool,
+    pub had_extended_data: bool,
+    pub has_data_end_bits: bool,
+    pub data_end_bits: u32,
+}
+
+// What a prefix gives: the refusal's number or 0, the final place, and the fields or 0 for each. The mode's number is 0 by layer,
+// 1 by the previous entity, 2 in a block, 3 reserved.
+#[repr(C)]
+pub struct PrefixAnswer {
+    pub refusal: u64,
+    pub place: usize,
+    pub ltype_scale: f64,
+    pub fields: PrefixFields,
+}
+
+#[repr(C)]
+pub struct PrefixBitsAnswer {
+    pub refusal: u64,
+    pub place: usize,
+    pub ltype_scale: u64,
+    pub fields: PrefixFields,
 }
 
 // B: one bit, 0 or 1.
@@ -214,4 +266,20 @@ pub extern "C" fn dwg_read_string_tv(s: &[u8], at: usize, end: usize) -> TextAns
     ensures { λ r. ⌜ r ≡ textAnswer (limited (readerText end) (now (s .entry)) at) ⌝ }
 {
     answers::of_text(text::read_string_tv(s, at, end))
+}
+
+// The entity prefix, the linetype scale as the double.
+#[no_mangle]
+pub extern "C" fn dwg_read_common_entity_data(s: &[u8], at: usize, release: u64) -> PrefixAnswer
+    ensures { λ r. ⌜ r ≡ prefixDoubleAnswer (asBits (prefixCall release (now (s .entry)) at)) ⌝ }
+{
+    prefixes::of_prefix(common_entity::read_common_entity_bits(s, at, release))
+}
+
+// The entity prefix, the linetype scale as its 64 bits.
+#[no_mangle]
+pub extern "C" fn dwg_read_common_entity_bits(s: &[u8], at: usize, release: u64) -> PrefixBitsAnswer
+    ensures { λ r. ⌜ r ≡ bitsAnswer (asBits (prefixCall release (now (s .entry)) at)) ⌝ }
+{
+    prefixes::of_prefix_bits(common_entity::read_common_entity_bits(s, at, release))
 }
