@@ -11,7 +11,7 @@
 use std::io::{Read, Write};
 
 /// The name in a request, the number of the kind, and whether this is the call that hands over f64, whose NaN is 7ff8000000000000.
-const KINDS: [(&str, u64, bool); 18] = [
+const KINDS: [(&str, u64, bool); 19] = [
     ("b", 1, false),
     ("bb", 2, false),
     ("3b", 3, false),
@@ -30,6 +30,7 @@ const KINDS: [(&str, u64, bool); 18] = [
     ("bd", 16, true),
     ("rd", 17, true),
     ("dd", 18, true),
+    ("prefix", 19, false),
 ];
 
 /// Which further number is which: a default, or the string start and end; then the lent lengths, of words and of numbers.
@@ -89,6 +90,42 @@ fn request(words: &[&str]) -> Result<Request, String> {
     Ok(Request { release: decimal(release)?, start: decimal(start)?, further, main: payload(main)?, strings })
 }
 
+/// What each field of a prefix's answer is called, in the answer's order.
+const FIELDS: [&str; 22] = [
+    "rawmode", "mode", "reactors", "nodict", "chain", "onlayer", "nonfixed", "plot", "material", "shadow", "invis", "nolinks", "color",
+    "rgb", "alpha", "scale", "ltype", "vis", "weight", "gfx", "xdata", "dataend",
+];
+
+/// The modes, each numbered by its place here.
+const MODES: [&str; 4] = ["ByLayer", "ByPreviousEntity", "InBlock", "Reserved"];
+
+/// A field's numbers: the scale as its 64 bits, the three of `vis`, and whether a number is there before the number itself.
+fn field(name: &str, text: &str) -> Result<Vec<u64>, String> {
+    match name {
+        "mode" => match MODES.iter().position(|mode| *mode == text) {
+            Some(number) => Ok(vec![number as u64]),
+            None => Err(format!("no mode: {text}")),
+        },
+        "scale" => Ok(vec![hex(text)?]),
+        _ => text.split([',', ':']).map(decimal).collect(),
+    }
+}
+
+/// The numbers of a prefix's fields.
+fn fields(words: &[&str]) -> Result<Vec<u64>, String> {
+    if words.len() != FIELDS.len() {
+        return Err(format!("{} fields", words.len()));
+    }
+    let mut numbers = Vec::new();
+    for (name, word) in FIELDS.into_iter().zip(words) {
+        match word.split_once('=') {
+            Some((found, text)) if found == name => numbers.extend(field(name, text)?),
+            _ => return Err(format!("no {name}: {word}")),
+        }
+    }
+    Ok(numbers)
+}
+
 fn values(name: &str, answer: &str) -> Result<Vec<u64>, String> {
     match name {
         "bd" | "rd" | "dd" => Ok(vec![hex(answer)?]),
@@ -97,17 +134,19 @@ fn values(name: &str, answer: &str) -> Result<Vec<u64>, String> {
     }
 }
 
+fn reading(place: u64, second: u64, values: Vec<u64>) -> Vec<u64> {
+    let mut outcome = vec![0, place, second, values.len() as u64];
+    outcome.extend(values);
+    outcome
+}
+
 /// Refusal, places, how many values, values.
 fn outcome(name: &str, answer: &str) -> Result<Vec<u64>, String> {
     let words: Vec<&str> = answer.split(' ').collect();
     match words[..] {
         ["err", number, place, second] => Ok(vec![decimal(number)?, decimal(place)?, decimal(second)?, 0]),
-        ["ok", place, value] => {
-            let values = values(name, value)?;
-            let mut outcome = vec![0, decimal(place)?, 0, values.len() as u64];
-            outcome.extend(values);
-            Ok(outcome)
-        }
+        ["ok", place, value] if name != "prefix" => Ok(reading(decimal(place)?, 0, values(name, value)?)),
+        ["ok", place, second, ref rest @ ..] if name == "prefix" => Ok(reading(decimal(place)?, decimal(second)?, fields(rest)?)),
         _ => Err(format!("no answer: {answer}")),
     }
 }

@@ -27,6 +27,10 @@ fn signed(v: i64) -> u64 {
     v as u64
 }
 
+pub fn of_short(v: i16) -> u64 {
+    signed(v as i64)
+}
+
 pub fn of_read(r: Read) -> Code {
     match r {
         Read::Value(v, p) => Code::Number(v, p),
@@ -43,7 +47,7 @@ pub fn of_bool(r: ReadBool) -> Code {
 
 pub fn of_i16(r: ReadI16) -> Code {
     match r {
-        ReadI16::Value(v, p) => Code::Number(signed(v as i64), p),
+        ReadI16::Value(v, p) => Code::Number(of_short(v), p),
         ReadI16::Refused(k, p) => refused(k, p),
     }
 }

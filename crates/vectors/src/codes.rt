@@ -29,9 +29,9 @@ fn call(kind: u64, s: &[u8], at: usize, more: u64) -> Code {
     }
 }
 
-// The answer's first four numbers: the refusal or 0, the place, the second place, which a code does not have, and how many
-// values follow.
-fn open(found: &mut [u64; ROOM], refusal: u64, place: usize, values: u64) {
+// The answer's first four numbers: the refusal or 0, the place, the second place, which neither a code nor a prefix has, and how
+// many values follow.
+pub fn open(found: &mut [u64; ROOM], refusal: u64, place: usize, values: u64) {
     found[0] = refusal;
     found[1] = place as u64;
     found[2] = 0;

@@ -1,4 +1,4 @@
-// Replays answers of the Rust through the Rattle calls and compares: src/bitcursor.rs of dwg-rs, section 2 of the ODA's specification.
+// Replays the Rust's answers through the Rattle calls and compares: src/bitcursor.rs and src/common_entity.rs of dwg-rs, ODA sections 2 and 20.4.1.
 // data/list has the requests with the Rust's answers, data/packed the same as 64-bit words; oracle/pack makes both and says how they lie.
 // It promises nothing of its own: it tests that the definitions, which the calls' contracts equate with, answer as the Rust does.
 ghost use Rattle.io.specs.Counts.{Counts};
@@ -6,6 +6,7 @@ ghost use Rattle.io.specs.Counts.{Counts};
 mod answers;
 mod codes;
 mod compare;
+mod prefixes;
 mod record;
 mod report;
 mod words;

@@ -9,6 +9,7 @@ ghost use Prim.Native.Nat.{_+_, _/_, _≤_};
 ghost use lib.ListN.{length};
 use crate::codes;
 use crate::compare;
+use crate::prefixes;
 use crate::report;
 use crate::words::word;
 
@@ -21,6 +22,8 @@ const PAYLOAD: usize = 96;
 const LINE: usize = 0;
 
 const KIND: usize = 8;
+
+const RELEASE: usize = 16;
 
 const START: usize = 24;
 
@@ -88,19 +91,25 @@ fn room() -> [u64; ROOM] {
     [0; ROOM]
 }
 
+// Calls what the record asks for and puts its answer at the start of `found`; how many numbers that are.
+fn called(r: &[u8], kind: u64, payload: &[u8], found: &mut [u64; ROOM]) -> usize
+    requires { ⌜ 96 ≤ length (now r) ⌝ }
+    ensures { λ n. ⌜ n ≤ 1024 ⌝ }
+{
+    let start = word(r, START) as usize;
+    if kind == prefixes::KIND {
+        return prefixes::replay(payload, start, word(r, RELEASE), found);
+    }
+    codes::replay(kind, payload, start, word(r, MORE), found)
+}
+
 // Replays the record's request on its payload.
 fn replay_on(r: &[u8], payload: &[u8]) -> Found
     requires { ⌜ 96 ≤ length (now r) ⌝ }
 {
     let kind = word(r, KIND);
     let mut found = room();
-    let n = codes::replay(
-        kind,
-        payload,
-        word(r, START) as usize,
-        word(r, MORE),
-        &mut found,
-    );
+    let n = called(r, kind, payload, &mut found);
     judged(r, kind, &found, n)
 }
 
