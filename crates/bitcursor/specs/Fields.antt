@@ -1,14 +1,27 @@
--- A code as a field of a format, in either payload: one lift for both. The field's layouts are the code's table at the field's
--- place, and the other payload's place stays. Assumes nothing.
+-- A code as a format of one payload, and a format of one payload as a part of one of both: one lift for the main and the string
+-- payload. The layouts are the code's table, or the part's layouts, at the place in that payload; the other's place stays. Assumes nothing.
 use mathlib.Core.Path.{_≡_, refl, sym, ap, ap₂, subst, _∙_}
 use mathlib.Core.List.{List}
 use Prim.Native.Nat.{ℕ}
 use Rattle.bitcursor.specs.Bits.{Alike}
 use Rattle.bitcursor.specs.Reading.{Out, got, refused, place, never}
 use Rattle.bitcursor.specs.Code.{Code, Laid, Moves, stay}
-use Rattle.bitcursor.specs.Format.{Places, Payloads, Format, Onward, Agree}
+use Rattle.bitcursor.specs.Format.{Format}
+use Rattle.bitcursor.specs.Inputs.{one, both, Places, Payloads, Onward, Agree}
 
--- which payload a field lies in
+-- from p to q the payload has a code of the value
+abbrev pub coded : {A : Type 0} → Code A → Format one A
+coded c =
+    record {
+      read = λ xs p. c .read xs p;
+      lays = λ xs a p q. Laid (c .codes) xs a p q;
+      sound = λ xs a p q e. c .sound xs a p q e;
+      complete = λ xs a p q l. c .complete xs a p q l;
+      grows = λ xs p. c .grows xs p;
+      frame = λ xs ys p h. c .frame xs ys p h;
+    }
+
+-- which payload a part lies in
 pub data Payload : Type 0 where
   main string : Payload
 
@@ -38,50 +51,53 @@ pub agree-in : (w : Payload) {γ δ : Payloads} (p : Places) (n : ℕ) → Agree
 agree-in main p n h = h .main
 agree-in string p n h = h .string
 
-module _ {A : Type 0} (w : Payload) (c : Code A) where
-  -- from p to q one payload has a code of the value; the other payload's place is the same
-  pub record Field (γ : Payloads) (a : A) (p q : Places) : Type 0 where
-    pub end : ℕ
-    pub laid : Laid (c .codes) (bytesIn w γ) a (placeIn w p) end
-    pub moved : q ≡ movedIn w p end
+-- from p to q one payload has a layout L; the other payload's place is the same
+pub record Within {A : Type 0} (w : Payload) (L : List ℕ → A → ℕ → ℕ → Type 0) (γ : Payloads) (a : A) (p q : Places) : Type 0 where
+  pub end : ℕ
+  pub laid : L (bytesIn w γ) a (placeIn w p) end
+  pub moved : q ≡ movedIn w p end
 
-  pub field-sound : (γ : Payloads) (a : A) (p q : Places) (o : Out ℕ A) → c .read (bytesIn w γ) (placeIn w p) ≡ o
-      → lifted w p o ≡ got a q → Field γ a p q
-  field-sound γ a p q (refused r n) e h = never h
-  field-sound γ a p q (got b n) e h =
-      let f : b ≡ a = cc in
+module _ {A : Type 0} (w : Payload) (f : Format one A) where
+  pub within-sound : (γ : Payloads) (a : A) (p q : Places) (o : Out ℕ A) → f .read (bytesIn w γ) (placeIn w p) ≡ o
+      → lifted w p o ≡ got a q → Within w (f .lays) γ a p q
+  within-sound γ a p q (refused r n) e h = never h
+  within-sound γ a p q (got b n) e h =
+      let i : b ≡ a = cc in
       let g : q ≡ movedIn w p n = cc in
-      record { end = n; laid = c .sound (bytesIn w γ) a (placeIn w p) n (e ∙ ap (λ (x : A). got x n) f); moved = g }
+      record { end = n; laid = f .sound (bytesIn w γ) a (placeIn w p) n (e ∙ ap (λ (x : A). got x n) i); moved = g }
 
-  pub field-grows : (γ : Payloads) (p : Places) (o : Out ℕ A) → Moves (bytesIn w γ) (placeIn w p) (place o) → Onward γ p (place (lifted w p o))
-  field-grows γ p (got a n) h = onward-in w γ p n h
-  field-grows γ p (refused r n) h = onward-in w γ p n h
+  pub within-grows : (γ : Payloads) (p : Places) (o : Out ℕ A) → Moves (bytesIn w γ) (placeIn w p) (place o) → Onward γ p (place (lifted w p o))
+  within-grows γ p (got a n) h = onward-in w γ p n h
+  within-grows γ p (refused r n) h = onward-in w γ p n h
 
-  pub field-frame : (γ δ : Payloads) (p : Places) (o o′ : Out ℕ A) → (Alike (bytesIn w γ) (bytesIn w δ) (place o) → o′ ≡ o)
+  pub within-frame : (γ δ : Payloads) (p : Places) (o o′ : Out ℕ A) → (Alike (bytesIn w γ) (bytesIn w δ) (place o) → o′ ≡ o)
       → Agree γ δ (place (lifted w p o)) → lifted w p o′ ≡ lifted w p o
-  field-frame γ δ p (got a n) o′ fr h = rw (fr (agree-in w p n h))
-  field-frame γ δ p (refused r n) o′ fr h = rw (fr (agree-in w p n h))
+  within-frame γ δ p (got a n) o′ fr h = rw (fr (agree-in w p n h))
+  within-frame γ δ p (refused r n) o′ fr h = rw (fr (agree-in w p n h))
 
-  unfoldable pub field : Format A
-  field =
+  unfoldable pub within : Format both A
+  within =
       record {
-        read = λ γ p. lifted w p (c .read (bytesIn w γ) (placeIn w p));
-        lays = Field;
-        sound = λ γ a p q e. field-sound γ a p q (c .read (bytesIn w γ) (placeIn w p)) refl e;
+        read = λ γ p. lifted w p (f .read (bytesIn w γ) (placeIn w p));
+        lays = Within w (f .lays);
+        sound = λ γ a p q e. within-sound γ a p q (f .read (bytesIn w γ) (placeIn w p)) refl e;
         complete = λ γ a p q l.
-            rw (c .complete (bytesIn w γ) a (placeIn w p) (l .end) (l .laid)) (ap (got a) (sym (l .moved)));
-        grows = λ γ p. field-grows γ p (c .read (bytesIn w γ) (placeIn w p)) (c .grows (bytesIn w γ) (placeIn w p));
+            rw (f .complete (bytesIn w γ) a (placeIn w p) (l .end) (l .laid)) (ap (got a) (sym (l .moved)));
+        grows = λ γ p. within-grows γ p (f .read (bytesIn w γ) (placeIn w p)) (f .grows (bytesIn w γ) (placeIn w p));
         frame = λ γ δ p h.
-            field-frame γ δ p (c .read (bytesIn w γ) (placeIn w p)) (c .read (bytesIn w δ) (placeIn w p))
-            (c .frame (bytesIn w γ) (bytesIn w δ) (placeIn w p)) h;
+            within-frame γ δ p (f .read (bytesIn w γ) (placeIn w p)) (f .read (bytesIn w δ) (placeIn w p))
+            (f .frame (bytesIn w γ) (bytesIn w δ) (placeIn w p)) h;
       }
 
-  -- what a function that read the code knows of the field
-  pub field-got : (γ : Payloads) (p : Places) {a : A} {n : ℕ} → c .read (bytesIn w γ) (placeIn w p) ≡ got a n
-      → field .read γ p ≡ got a (movedIn w p n)
-  unfolding field
-  field-got γ p e = rw e
+  -- what a function that read the one payload knows
+  pub within-read : (γ : Payloads) (p : Places) → within .read γ p ≡ lifted w p (f .read (bytesIn w γ) (placeIn w p))
+  unfolding within
+  within-read γ p = refl
 
-  pub field-read : (γ : Payloads) (p : Places) → field .read γ p ≡ lifted w p (c .read (bytesIn w γ) (placeIn w p))
-  unfolding field
-  field-read γ p = refl
+-- a code as a field of both payloads
+module _ {A : Type 0} (w : Payload) (c : Code A) where
+  abbrev pub Field : Payloads → A → Places → Places → Type 0
+  Field = Within w (Laid (c .codes))
+
+  abbrev pub field : Format both A
+  field = within w (coded c)

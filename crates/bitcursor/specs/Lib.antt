@@ -13,4 +13,5 @@ pub mod Answers
 pub mod Sequence
 pub mod Format
 pub mod Whole
+pub mod Inputs
 pub mod Fields

@@ -1,51 +1,50 @@
 -- What holds of every format, and so of every prefix and hatch: demand 3's sentences, proved once. Assumes nothing.
 use mathlib.Core.Path.{_≡_, refl, sym, ap, subst, _∙_}
 use mathlib.Core.Logic.{_↔_}
-use Prim.Native.Nat.{ℕ}
 use Rattle.bitcursor.specs.declared.Refusal.{Refusal}
 use Rattle.bitcursor.specs.Reading.{Out, got, refused, place, never}
-use Rattle.bitcursor.specs.Format.{Places, Payloads, Format, Onward, Agree}
+use Rattle.bitcursor.specs.Format.{Input, Format}
 
-module _ {A : Type 0} (f : Format A) (γ : Payloads) where
+module _ {M : Input} {A : Type 0} (f : Format M A) (γ : M .Bytes) where
   -- a reading exactly where there is a layout; the reading is what was laid out, the final places are where the layout ends
-  pub read-iff-laid : (p : Places) (a : A) (q : Places) → f .read γ p ≡ got a q ↔ f .lays γ a p q
+  pub read-iff-laid : (p : M .Place) (a : A) (q : M .Place) → f .read γ p ≡ got a q ↔ f .lays γ a p q
   read-iff-laid p a q = (f .sound γ a p q, f .complete γ a p q)
 
   -- what is laid out from a place is one value, and ends at one place
-  pub laid-once : (p : Places) (a b : A) (q r : Places) → f .lays γ a p q → f .lays γ b p r → (a ≡ b) × (q ≡ r)
+  pub laid-once : (p : M .Place) (a b : A) (q r : M .Place) → f .lays γ a p q → f .lays γ b p r → (a ≡ b) × (q ≡ r)
   laid-once p a b q r l m =
       let e = f .complete γ a p q l in
       let g = f .complete γ b p r m in
       (cc, cc)
 
   -- a refusal: nothing is laid out from there
-  pub refused-none : (p : Places) (n : Refusal) (q : Places) → f .read γ p ≡ refused n q → (a : A) (r : Places) → f .lays γ a p r → ⊥
+  pub refused-none : (p : M .Place) (n : Refusal) (q : M .Place) → f .read γ p ≡ refused n q → (a : A) (r : M .Place) → f .lays γ a p r → ⊥
   refused-none p n q e a r l = never (sym e ∙ f .complete γ a p r l)
 
   -- there is a layout, or there is a refusal and no layout
-  pub data Fate (p : Places) : Type 0 where
-    laid : (a : A) (q : Places) → f .lays γ a p q → f .read γ p ≡ got a q → Fate p
-    none : (n : Refusal) (q : Places) → f .read γ p ≡ refused n q → ((a : A) (r : Places) → f .lays γ a p r → ⊥) → Fate p
+  pub data Fate (p : M .Place) : Type 0 where
+    laid : (a : A) (q : M .Place) → f .lays γ a p q → f .read γ p ≡ got a q → Fate p
+    none : (n : Refusal) (q : M .Place) → f .read γ p ≡ refused n q → ((a : A) (r : M .Place) → f .lays γ a p r → ⊥) → Fate p
 
-  pub fate : (p : Places) → Fate p
+  pub fate : (p : M .Place) → Fate p
   fate p = go (f .read γ p) refl
     where
-      go : (o : Out Places A) → f .read γ p ≡ o → Fate p
+      go : (o : Out (M .Place) A) → f .read γ p ≡ o → Fate p
       go (got a q) e = laid a q (f .sound γ a p q e) e
       go (refused n q) e = none n q e (refused-none p n q e)
 
   -- final places never lie before the start, nor past a payload that the start is in
-  pub laid-onward : (p : Places) (a : A) (q : Places) → f .lays γ a p q → Onward γ p q
-  laid-onward p a q l = subst (λ (o : Out Places A). Onward γ p (place o)) (f .complete γ a p q l) (f .grows γ p)
+  pub laid-onward : (p : M .Place) (a : A) (q : M .Place) → f .lays γ a p q → M .Onward γ p q
+  laid-onward p a q l = subst (λ (o : Out (M .Place) A). M .Onward γ p (place o)) (f .complete γ a p q l) (f .grows γ p)
 
-  pub refused-onward : (p : Places) (n : Refusal) (q : Places) → f .read γ p ≡ refused n q → Onward γ p q
-  refused-onward p n q e = subst (λ (o : Out Places A). Onward γ p (place o)) e (f .grows γ p)
+  pub refused-onward : (p : M .Place) (n : Refusal) (q : M .Place) → f .read γ p ≡ refused n q → M .Onward γ p q
+  refused-onward p n q e = subst (λ (o : Out (M .Place) A). M .Onward γ p (place o)) e (f .grows γ p)
 
   -- nobody who alters only bits past the final places can change anything
-  pub laid-still : (δ : Payloads) (p : Places) (a : A) (q : Places) → Agree γ δ q → f .lays γ a p q → f .lays δ a p q
+  pub laid-still : (δ : M .Bytes) (p : M .Place) (a : A) (q : M .Place) → M .Agree γ δ q → f .lays γ a p q → f .lays δ a p q
   laid-still δ p a q h l =
       let e = f .complete γ a p q l in
       f .sound δ a p q (f .frame γ δ p (rw e h) ∙ e)
 
-  pub refused-still : (δ : Payloads) (p : Places) (n : Refusal) (q : Places) → Agree γ δ q → f .read γ p ≡ refused n q → f .read δ p ≡ refused n q
+  pub refused-still : (δ : M .Bytes) (p : M .Place) (n : Refusal) (q : M .Place) → M .Agree γ δ q → f .read γ p ≡ refused n q → f .read δ p ≡ refused n q
   refused-still δ p n q h e = f .frame γ δ p (rw e h) ∙ e

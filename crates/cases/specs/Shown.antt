@@ -8,6 +8,7 @@ use lib.Dec.{T, eqb, eqb→eq}
 use lib.IntN.{ℤ, pos, negsuc}
 use Rattle.bitcursor.specs.Reading.{Out, got, refused}
 use Rattle.bitcursor.specs.Refusals.{refusalNumber}
+use Rattle.bitcursor.specs.Inputs.{Places}
 
 pub data Shown : Type 0 where
   reading : List ℤ → ℕ → ℕ → Shown
@@ -17,6 +18,11 @@ pub data Shown : Type 0 where
 abbrev pub shown : {A : Type 0} → (A → List ℤ) → Out ℕ A → Shown
 shown f (got a p) = reading (f a) p 0
 shown f (refused r p) = refusal (refusalNumber r) p 0
+
+-- a reading of both payloads
+abbrev pub shown-both : {A : Type 0} → (A → List ℤ) → Out Places A → Shown
+shown-both f (got a q) = reading (f a) (q .main) (q .string)
+shown-both f (refused r q) = refusal (refusalNumber r) (q .main) (q .string)
 
 -- what the definitions compute for an input, and what document 01 states of it
 pub record Case : Type 0 where

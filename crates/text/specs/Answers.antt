@@ -9,7 +9,7 @@ use Rattle.bitcursor.specs.declared.Refusal.the-variants.{TextPastEnd, NotUtf16
 use Rattle.bitcursor.specs.Reading.{Out, got, refused, andThen}
 use Rattle.bitcursor.specs.Code.{measured}
 use Rattle.bitcursor.specs.Codes.{BS}
-use Rattle.bitcursor.specs.Format.{Places, Payloads}
+use Rattle.bitcursor.specs.Inputs.{Places, Payloads}
 use Rattle.text.specs.declared.Source.{Source}
 use Rattle.text.specs.declared.Source.the-variants.{Main, String}
 use Rattle.text.specs.declared.Text.{Text}

@@ -8,8 +8,9 @@ use Rattle.bitcursor.specs.declared.Refusal.the-variants.{TextPastEnd}
 use Rattle.bitcursor.specs.Reading.{Out, got, refused, andThen}
 use Rattle.bitcursor.specs.Code.{measured}
 use Rattle.bitcursor.specs.Codes.{BS}
-use Rattle.bitcursor.specs.Format.{Places, Payloads, Format, pure, refuse, _>>=_, peek, either}
-use Rattle.bitcursor.specs.Fields.{main, string, field, lifted, movedIn}
+use Rattle.bitcursor.specs.Inputs.{both, Places, Payloads}
+use Rattle.bitcursor.specs.Format.{Format, pure, refuse, _>>=_, peek, either}
+use Rattle.bitcursor.specs.Fields.{main, string, within, field, lifted, movedIn}
 use Rattle.text.specs.declared.Source.the-variants.{Main, String}
 use Rattle.text.specs.declared.Text.{Text}
 use Rattle.text.specs.declared.version.Version.{Version}
@@ -20,7 +21,7 @@ use Rattle.text.specs.Answers.{placed, inlineText, readerText}
 
 module _ (γ : Payloads) (p : Places) where
   pub inline-reads : (v : Version) → (inline (widthOf v)) .read γ p ≡ lifted main p (inlineText v (γ .main) (p .main))
-  unfolding inline here peek _>>=_ pure field inlineText
+  unfolding inline here peek _>>=_ pure within inlineText
   inline-reads v = go ((TV (widthOf v)) .read (γ .main) (p .main))
     where
       go : (o : Out ℕ Written) → andThen (lifted main p o) (λ t q. got (textOf Main (widthOf v) (p .main) t) q) ≡ lifted main p (placed Main (widthOf v) (p .main) o)
@@ -28,12 +29,12 @@ module _ (γ : Payloads) (p : Places) where
       go (refused r n) = refl
 
   -- the units of a reader's text, read and judged
-  unfoldable units-of : ℕ × ℕ → Format Text
+  unfoldable units-of : ℕ × ℕ → Format both Text
   units-of m = field string (units 2 (m .1)) >>= λ laid. field string (judged wide (m .0) laid) >>= λ t. pure (textOf String wide (p .string) t)
 
   rest-reads : (m : ℕ × ℕ) (q : ℕ) → (units-of m) .read γ (movedIn string p q)
       ≡ lifted string p (andThen ((units 2 (m .1)) .read (γ .string) q) (λ laid r. placed String wide (p .string) ((judged wide (m .0) laid) .read (γ .string) r)))
-  unfolding units-of _>>=_ field pure
+  unfolding units-of _>>=_ within pure
   rest-reads m q = units-go ((units 2 (m .1)) .read (γ .string) q)
     where
       judged-go : (k : ℕ) (o : Out ℕ Written) → andThen (lifted string (movedIn string p k) o) (λ t s. got (textOf String wide (p .string) t) s) ≡ lifted string p (placed String wide (p .string) o)
@@ -60,12 +61,12 @@ module _ (γ : Payloads) (p : Places) where
   room-reads m q false = refl
 
   -- the length code and what follows it
-  unfoldable measured-text : Format Text
+  unfoldable measured-text : Format both Text
   measured-text = field string (measured BS) >>= λ m. room-for (m .1) >>= λ room. either room (units-of m) (refuse TextPastEnd)
 
   length-reads : measured-text .read γ p
       ≡ lifted string p (andThen ((measured BS) .read (γ .string) (p .string)) (λ m q. after m q (eqb (m .1) 0 || leb (q + 16 * m .1) (γ .end))))
-  unfolding measured-text _>>=_ field room-for peek
+  unfolding measured-text _>>=_ within room-for peek
   length-reads = go ((measured BS) .read (γ .string) (p .string))
     where
       go : (o : Out ℕ (ℕ × ℕ))

@@ -9,7 +9,8 @@ use Rattle.bitcursor.specs.declared.Refusal.the-variants.{TextPastEnd, NotUtf16
 use Rattle.bitcursor.specs.Reading.{Out, got, refused, andThen}
 use Rattle.bitcursor.specs.Code.{Code, measured}
 use Rattle.bitcursor.specs.Codes.{BS}
-use Rattle.bitcursor.specs.Format.{Places, Payloads, Format, Agree, pure, refuse, _>>=_, peek, either}
+use Rattle.bitcursor.specs.Inputs.{both, Places, Payloads, Agree}
+use Rattle.bitcursor.specs.Format.{Format, pure, refuse, _>>=_, peek, either}
 use Rattle.bitcursor.specs.Fields.{Payload, main, string, placeIn, bytesIn, field, lifted, movedIn}
 use Rattle.text.specs.declared.Source.{Source}
 use Rattle.text.specs.declared.Source.the-variants.{Absent, Main, String}
@@ -28,8 +29,8 @@ abbrev pub textOf : Source → UnitWidth → ℕ → Written → Text
 textOf source w at t = textAt source w (at + t .lead) (length (t .units))
 
 -- the place in a payload
-unfoldable pub here : Payload → Format ℕ
-here w = peek (λ γ p. placeIn w p) (λ γ δ p h. refl)
+unfoldable pub here : Payload → Format both ℕ
+here w = peek both (λ γ p. placeIn w p) (λ γ δ p h. refl)
 
 abbrev pub widthBy : Bool → UnitWidth
 widthBy true = wide
@@ -39,20 +40,20 @@ widthBy false = narrow
 abbrev pub widthOf : Version → UnitWidth
 widthOf v = widthBy (leb 4 (releaseNumber v))
 
-unfoldable pub inline : UnitWidth → Format Text
+unfoldable pub inline : UnitWidth → Format both Text
 inline w = do
   at ← here main
   t ← field main (TV w)
   pure (textOf Main w at t)
 
 -- the reader's rule: at or past its end bit empty and unmoved; else a length code, and then length 0 or units that end by the end bit
-unfoldable pub past-end : Format Bool
-past-end = peek (λ γ p. leb (γ .end) (p .string)) (λ γ δ p h. rw (h .end))
+unfoldable pub past-end : Format both Bool
+past-end = peek both (λ γ p. leb (γ .end) (p .string)) (λ γ δ p h. rw (h .end))
 
-unfoldable pub room-for : ℕ → Format Bool
-room-for n = peek (λ γ p. eqb n 0 || leb (p .string + 16 * n) (γ .end)) (λ γ δ p h. rw (h .end))
+unfoldable pub room-for : ℕ → Format both Bool
+room-for n = peek both (λ γ p. eqb n 0 || leb (p .string + 16 * n) (γ .end)) (λ γ δ p h. rw (h .end))
 
-unfoldable pub from-reader : Format Text
+unfoldable pub from-reader : Format both Text
 from-reader = do
   at ← here string
   over ← past-end

@@ -14,7 +14,8 @@ use Rattle.bitcursor.specs.Code.{Code, Moves, give, refuse, _>>=_, tabled, meas
 use Rattle.bitcursor.specs.Codes.{BS}
 use Rattle.bitcursor.specs.Handles.{checked}
 use Rattle.bitcursor.specs.Bytes.{le-or-lt}
-use Rattle.bitcursor.specs.Format.{Places, Payloads, Format, relay}
+use Rattle.bitcursor.specs.Inputs.{both, Places, Payloads}
+use Rattle.bitcursor.specs.Format.{Format, relay}
 use Rattle.bitcursor.specs.Fields.{string, Field, field, lifted, movedIn}
 use Rattle.text.specs.declared.Source.the-variants.{String}
 use Rattle.text.specs.declared.Text.{Text}
@@ -180,5 +181,5 @@ module _ (γ : Payloads) (t : Text) (p q : Places) where
       ∙ ap₂ got (sym e) (sym (l .moved)))
 
 -- text from the lent reader, with its layouts said so
-unfoldable pub reader-text : Format Text
+unfoldable pub reader-text : Format both Text
 reader-text = relay from-reader ReaderText reader-to reader-from

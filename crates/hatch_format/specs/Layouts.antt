@@ -1,0 +1,149 @@
+-- The layouts of a hatch body: its fields back to back, in document 01's order, each in any code of its value. This is what demand 3
+-- calls a layout; it speaks of bits, places and values alone, and of no reading. Assumes nothing.
+use mathlib.Core.Path.{_≡_}
+use mathlib.Core.Bool.{Bool, true, false}
+use mathlib.Core.List.{List, [], _∷_}
+use Prim.Native.Nat.{ℕ, _-_, _≤_, _<_}
+use lib.Dec.{leb}
+use lib.ListN.{length}
+use Rattle.bitcursor.specs.Bits.{size}
+use Rattle.bitcursor.specs.Code.{Code, Laid}
+use Rattle.bitcursor.specs.Codes.{B, RC, RD, BS, signed-BS, BL}
+use Rattle.bitcursor.specs.Doubles.{BD}
+use Rattle.bitcursor.specs.Sequence.{held}
+use Rattle.bitcursor.specs.Inputs.{Places, Payloads}
+use Rattle.bitcursor.specs.Fields.{main, Within}
+use Rattle.text.specs.declared.Text.{Text}
+use Rattle.text.specs.declared.version.Version.{Version}
+use Rattle.text.specs.Releases.{releaseNumber}
+use Rattle.text.specs.TextField.{TextLaid}
+use Rattle.hatch_format.specs.declared.Caps.{Caps}
+use Rattle.hatch_format.specs.declared.GradientColorBits.{GradientColorBits}
+use Rattle.hatch_format.specs.Values.{Point, Vertex, Arc, Ellipse, Fits, unfitted, fitted, Spline, Edge, line, arc, ellipse, spline, Segments, polyline, edges, Path, polylined, derived, PatternLine, Pattern, no-pattern, Block, Gradient, no-gradient, shown, Plane, Rest, Body}
+
+-- ---- how layouts are put together
+infixr 5 _⨾_
+-- one behind the other, at some place in between
+abbrev pub _⨾_ : {P : Type 0} → (P → P → Type 0) → (P → P → Type 0) → P → P → Type 0
+_⨾_ {P} L M p q = (r : P) × L p r × M r q
+
+-- no bits
+abbrev pub Nothing : {P : Type 0} → P → P → Type 0
+Nothing p q = q ≡ p
+
+-- the items of a list one behind the other
+abbrev pub Each : {A P : Type 0} → (A → P → P → Type 0) → List A → P → P → Type 0
+Each L [] = Nothing
+Each L (a ∷ items) = L a ⨾ Each L items
+
+-- ---- of one payload
+module _ (xs : List ℕ) where
+  -- a code of the value
+  abbrev pub Coded : {A : Type 0} → Code A → A → ℕ → ℕ → Type 0
+  Coded c a p q = Laid (c .codes) xs a p q
+
+  -- a count that is not above its cap
+  abbrev pub Count : ℕ → Code ℕ → ℕ → ℕ → ℕ → Type 0
+  Count cap c n p q = Coded c n p q × (n ≤ cap)
+
+  -- such a count that is not above the bits after it either, to the end of the payload
+  abbrev pub Bounded : ℕ → Code ℕ → ℕ → ℕ → ℕ → Type 0
+  Bounded cap c n p q = Count cap c n p q × (n ≤ size xs - q)
+
+  -- a count and exactly that many items
+  abbrev pub Listed : {A : Type 0} → ℕ → Code ℕ → (A → ℕ → ℕ → Type 0) → List A → ℕ → ℕ → Type 0
+  Listed cap c L items = Count cap c (length items) ⨾ Each L items
+
+  abbrev pub PointLaid : Point → ℕ → ℕ → Type 0
+  PointLaid a = Coded RD (a .x) ⨾ Coded RD (a .y)
+
+  -- a vertex with a bulge or without, a control point with a weight or without
+  abbrev pub VertexLaid : Bool → Vertex → ℕ → ℕ → Type 0
+  VertexLaid more a = PointLaid (a .point) ⨾ Coded (held more BD 0) (a .extra)
+
+  abbrev pub ArcLaid : Arc → ℕ → ℕ → Type 0
+  ArcLaid a = PointLaid (a .center) ⨾ Coded BD (a .radius) ⨾ Coded BD (a .start-angle) ⨾ Coded BD (a .end-angle) ⨾ Coded B (a .counter-clockwise)
+
+  abbrev pub EllipseLaid : Ellipse → ℕ → ℕ → Type 0
+  EllipseLaid a =
+      PointLaid (a .center) ⨾ PointLaid (a .endpoint)
+      ⨾ Coded BD (a .axis-ratio) ⨾ Coded BD (a .start-angle) ⨾ Coded BD (a .end-angle) ⨾ Coded B (a .counter-clockwise)
+
+  -- fits, from release 5: a count and, if it is not 0, the points and two tangents
+  abbrev pub FitsLaid : ℕ → Bool → Fits → ℕ → ℕ → Type 0
+  FitsLaid cap true unfitted = Count cap BL 0
+  FitsLaid cap true (fitted points start end) = λ p q. (0 < length points) × (Listed cap BL PointLaid points ⨾ PointLaid start ⨾ PointLaid end) p q
+  FitsLaid cap false unfitted = Nothing
+  FitsLaid cap false (fitted points start end) = λ p q. ⊥
+
+  -- both counts stand before the knots
+  abbrev pub SplineLaid : Caps → Version → Spline → ℕ → ℕ → Type 0
+  SplineLaid caps v a =
+      Coded BL (a .degree) ⨾ Coded B (a .rational) ⨾ Coded B (a .periodic)
+      ⨾ Count (caps .knots) BL (length (a .knots)) ⨾ Count (caps .«control_points») BL (length (a .control-points))
+      ⨾ Each (Coded BD) (a .knots) ⨾ Each (VertexLaid (a .rational)) (a .control-points)
+      ⨾ FitsLaid (caps .«fit_points») (leb 5 (releaseNumber v)) (a .fits)
+
+  abbrev pub EdgeLaid : Caps → Version → Edge → ℕ → ℕ → Type 0
+  EdgeLaid caps v (line start end) = Coded RC 1 ⨾ PointLaid start ⨾ PointLaid end
+  EdgeLaid caps v (arc a) = Coded RC 2 ⨾ ArcLaid a
+  EdgeLaid caps v (ellipse a) = Coded RC 3 ⨾ EllipseLaid a
+  EdgeLaid caps v (spline a) = Coded RC 4 ⨾ SplineLaid caps v a
+
+  -- a polyline where the flags say so, else edges
+  abbrev pub SegmentsLaid : Caps → Version → Bool → Segments → ℕ → ℕ → Type 0
+  SegmentsLaid caps v true (polyline bulge closed vertices) =
+      Coded B bulge ⨾ Coded B closed ⨾ Listed (caps .vertices) BL (VertexLaid bulge) vertices
+  SegmentsLaid caps v false (edges es) = Listed (caps .edges) BL (EdgeLaid caps v) es
+  SegmentsLaid caps v true (edges es) = λ p q. ⊥
+  SegmentsLaid caps v false (polyline bulge closed vertices) = λ p q. ⊥
+
+  -- the handles are not here, so it must be said of their count that it is not above the bits after it
+  abbrev pub PathLaid : Caps → Version → Path → ℕ → ℕ → Type 0
+  PathLaid caps v a =
+      Coded BL (a .flags) ⨾ SegmentsLaid caps v (polylined (a .flags)) (a .segments) ⨾ Bounded (caps .«boundary_handles») BL (a .boundary-handles)
+
+  abbrev pub LineLaid : ℕ → PatternLine → ℕ → ℕ → Type 0
+  LineLaid cap a =
+      Coded BD (a .angle) ⨾ Coded BD (a .origin .x) ⨾ Coded BD (a .origin .y) ⨾ Coded BD (a .offset .x) ⨾ Coded BD (a .offset .y)
+      ⨾ Listed cap BS (Coded BD) (a .dashes)
+
+  -- a solid hatch has none
+  abbrev pub PatternLaid : Caps → Bool → Pattern → ℕ → ℕ → Type 0
+  PatternLaid caps true a = λ p q. (a ≡ no-pattern) × Nothing p q
+  PatternLaid caps false a =
+      Coded BD (a .angle) ⨾ Coded BD (a .scale) ⨾ Coded B (a .double) ⨾ Listed (caps .«pattern_lines») BS (LineLaid (caps .dashes)) (a .lines)
+
+  abbrev pub RestLaid : Caps → Version → Rest → ℕ → ℕ → Type 0
+  RestLaid caps v a =
+      Coded B (a .solid) ⨾ Coded B (a .associative) ⨾ Listed (caps .paths) BL (PathLaid caps v) (a .paths)
+      ⨾ Coded BS (a .pattern-style) ⨾ Coded BS (a .pattern-type) ⨾ PatternLaid caps (a .solid) (a .pattern)
+      ⨾ Coded (held (derived (a .paths)) BD 0) (a .pixel-size) ⨾ Listed (caps .«seed_points») BL PointLaid (a .seed-points)
+
+  abbrev pub PlaneLaid : Plane → ℕ → ℕ → Type 0
+  PlaneLaid a = Coded BD (a .elevation) ⨾ Coded BD (a .x) ⨾ Coded BD (a .y) ⨾ Coded BD (a .z)
+
+  abbrev pub ColorLaid : GradientColorBits → ℕ → ℕ → Type 0
+  ColorLaid a =
+      Coded BD (a .«unknown_double») ⨾ Coded signed-BS (a .«unknown_short») ⨾ Coded BL (a .rgb) ⨾ Coded RC (a .«ignored_color_byte»)
+
+  abbrev pub BlockLaid : ℕ → Block → ℕ → ℕ → Type 0
+  BlockLaid cap a =
+      Coded BL (a .flag) ⨾ Coded BL (a .ignored) ⨾ Coded BD (a .angle) ⨾ Coded BD (a .shift) ⨾ Coded BL (a .single-color) ⨾ Coded BD (a .tint)
+      ⨾ Listed cap BL ColorLaid (a .colors)
+
+-- ---- of both payloads
+-- in the main payload
+abbrev pub InMain : {A : Type 0} → (List ℕ → A → ℕ → ℕ → Type 0) → Payloads → A → Places → Places → Type 0
+InMain L γ a = Within main L γ a
+
+-- from release 3: the block and the name, with flag 0 too
+abbrev pub GradientLaid : ℕ → Version → Bool → Payloads → Gradient → Places → Places → Type 0
+GradientLaid cap v true γ a p q =
+    (b : Block) × (name : Text) × (InMain (λ xs. BlockLaid xs cap) γ b ⨾ TextLaid v γ name) p q × (a ≡ shown b name)
+GradientLaid cap v false γ a p q = (a ≡ no-gradient) × Nothing p q
+
+abbrev pub BodyLaid : Caps → Version → Payloads → Body → Places → Places → Type 0
+BodyLaid caps v γ a =
+    GradientLaid (caps .colors) v (leb 3 (releaseNumber v)) γ (a .gradient)
+    ⨾ InMain PlaneLaid γ (a .plane) ⨾ TextLaid v γ (a .name) ⨾ InMain (λ xs. RestLaid xs caps v) γ (a .rest)

@@ -1,0 +1,17 @@
+pub mod Caps
+pub mod Values
+pub mod Layouts
+pub mod Takes
+pub mod Counts
+pub mod Points
+pub mod Splines
+pub mod Edges
+pub mod Paths
+pub mod Patterns
+pub mod Gradients
+pub mod Hatch
+pub mod Entries
+pub mod Record
+pub mod Call
+pub mod Begins
+pub mod Demand3
