@@ -31,7 +31,7 @@ use Rattle.hatch_format.specs.Points.{point-read, point, vertex-read, vertex, a
 use Rattle.hatch_format.specs.Splines.{fitted-by, fits-read, fits, spline-lists, spline-controls, spline-counts, spline-read, spline-edge}
 use Rattle.hatch_format.specs.Edges.{edge-of, edge-read, edge}
 use Rattle.hatch_format.specs.Paths.{handle-count, segments-read, segments, path-read, path}
-use Rattle.hatch_format.specs.Patterns.{pattern-line-read, pattern-line, pattern-read, pattern, rest-read, rest}
+use Rattle.hatch_format.specs.Patterns.{pattern-line-read, pattern-line, pattern-read, pattern, ending-read, ending, tail-read, tail, rest-read, rest}
 use Rattle.hatch_format.specs.Gradients.{color-read, color, block-read, block, gradient-read, gradient}
 use Rattle.hatch_format.specs.Hatch.{plane-read, plane, hatch-read, hatch}
 use Rattle.hatch_format.specs.Entries.{words, numbers}
@@ -90,5 +90,5 @@ cases =
     ∷ []
 
 pub all-hold : Holds cases
-unfolding cases allSame signed-BS BS BS-read BD BD-read BLL BLL-read tagged byTag raw _>>=_ tabled mapped give refuse lowFirst bytes bytes-read lowNumber window bitsOf digits number readerText measured units units-read judged checked prefixCall released limited prefix prefixBy extended chain graphics drawing held name BB RC RL BL BL-read HANDLE HANDLE-read HANDLE-value highFirst skip hatchCall hatch hatch-read plane plane-read gradient gradient-read block block-read color color-read rest rest-read pattern pattern-read pattern-line pattern-line-read path path-read segments segments-read handle-count edge edge-read edge-of spline-edge spline-read spline-counts spline-controls spline-lists fits fits-read fitted-by arc-edge arc-read ellipse-edge ellipse-read vertex vertex-read point point-read listed listed-read counted bounded bounded-read times times-read bits-left within pure refuse-format bind-format peek relay either TV-field TV-field-read lent reader-text from-reader past-end room-for here inline TV TV-read B B-read RD
+unfolding cases allSame signed-BS BS BS-read BD BD-read BLL BLL-read tagged byTag raw _>>=_ tabled mapped give refuse lowFirst bytes bytes-read lowNumber window bitsOf digits number readerText measured units units-read judged checked prefixCall released limited prefix prefixBy extended chain graphics drawing held name BB RC RL BL BL-read HANDLE HANDLE-read HANDLE-value highFirst skip hatchCall hatch hatch-read plane plane-read gradient gradient-read block block-read color color-read rest rest-read tail tail-read ending ending-read pattern pattern-read pattern-line pattern-line-read path path-read segments segments-read handle-count edge edge-read edge-of spline-edge spline-read spline-counts spline-controls spline-lists fits fits-read fitted-by arc-edge arc-read ellipse-edge ellipse-read vertex vertex-read point point-read listed listed-read counted bounded bounded-read times times-read bits-left within pure refuse-format bind-format peek relay either TV-field TV-field-read lent reader-text from-reader past-end room-for here inline TV TV-read B B-read RD
 all-hold = holds cases tt

@@ -36,7 +36,7 @@ lineWords a = length (a .dashes) ∷ []
 
 -- each path's, then each pattern line's
 abbrev pub words : Rest → List ℕ
-words a = every pathWords (a .paths) ++ every lineWords (a .pattern .lines)
+words a = every pathWords (a .paths) ++ every lineWords (a .tail .pattern .lines)
 
 -- ---- numbers
 abbrev pub pointNumbers : Point → List ℕ
@@ -57,16 +57,16 @@ edgeNumbers (ellipse a) =
     pointNumbers (a .center) ++ (pointNumbers (a .endpoint) ++ (a .axis-ratio ∷ (a .start-angle ∷ (a .end-angle ∷ []))))
 edgeNumbers (spline a) = a .knots ++ (every (vertexNumbers (a .rational)) (a .control-points) ++ fitNumbers (a .fits))
 
+abbrev pub segmentNumbers : Segments → List ℕ
+segmentNumbers (polyline bulge closed vertices) = every (vertexNumbers bulge) vertices
+segmentNumbers (edges es) = every edgeNumbers es
+
 abbrev pub pathNumbers : Path → List ℕ
 pathNumbers a = segmentNumbers (a .segments)
-  where
-    segmentNumbers : Segments → List ℕ
-    segmentNumbers (polyline bulge closed vertices) = every (vertexNumbers bulge) vertices
-    segmentNumbers (edges es) = every edgeNumbers es
 
 abbrev pub lineNumbers : PatternLine → List ℕ
 lineNumbers a = a .angle ∷ (pointNumbers (a .origin) ++ (pointNumbers (a .offset) ++ a .dashes))
 
 -- each path's, then each pattern line's, then the seeds: so the seed points are the last part
 abbrev pub numbers : Rest → List ℕ
-numbers a = every pathNumbers (a .paths) ++ (every lineNumbers (a .pattern .lines) ++ every pointNumbers (a .seed-points))
+numbers a = every pathNumbers (a .paths) ++ (every lineNumbers (a .tail .pattern .lines) ++ every pointNumbers (a .tail .ending .seed-points))

@@ -19,7 +19,7 @@ use Rattle.text.specs.Releases.{releaseNumber}
 use Rattle.text.specs.TextField.{TextLaid}
 use Rattle.hatch_format.specs.declared.Caps.{Caps}
 use Rattle.hatch_format.specs.declared.GradientColorBits.{GradientColorBits}
-use Rattle.hatch_format.specs.Values.{Point, Vertex, Arc, Ellipse, Fits, unfitted, fitted, Spline, Edge, line, arc, ellipse, spline, Segments, polyline, edges, Path, polylined, derived, PatternLine, Pattern, no-pattern, Block, Gradient, no-gradient, shown, Plane, Rest, Body}
+use Rattle.hatch_format.specs.Values.{Point, Vertex, Arc, Ellipse, Fits, unfitted, fitted, Spline, Edge, line, arc, ellipse, spline, Segments, polyline, edges, Path, polylined, derived, PatternLine, Pattern, no-pattern, Block, Gradient, no-gradient, shown, Plane, Ending, Tail, Rest, Body}
 
 -- ---- how layouts are put together
 infixr 5 _⨾_
@@ -114,11 +114,18 @@ module _ (xs : List ℕ) where
   PatternLaid caps false a =
       Coded BD (a .angle) ⨾ Coded BD (a .scale) ⨾ Coded B (a .double) ⨾ Listed (caps .«pattern_lines») BS (LineLaid (caps .dashes)) (a .lines)
 
+  -- the pixel size is there if any path comes from a boundary object
+  abbrev pub EndingLaid : Caps → Bool → Ending → ℕ → ℕ → Type 0
+  EndingLaid caps pixel a = Coded (held pixel BD 0) (a .pixel-size) ⨾ Listed (caps .«seed_points») BL PointLaid (a .seed-points)
+
+  abbrev pub TailLaid : Caps → Bool → Bool → Tail → ℕ → ℕ → Type 0
+  TailLaid caps solid pixel a =
+      Coded BS (a .pattern-style) ⨾ Coded BS (a .pattern-type) ⨾ PatternLaid caps solid (a .pattern) ⨾ EndingLaid caps pixel (a .ending)
+
   abbrev pub RestLaid : Caps → Version → Rest → ℕ → ℕ → Type 0
   RestLaid caps v a =
       Coded B (a .solid) ⨾ Coded B (a .associative) ⨾ Listed (caps .paths) BL (PathLaid caps v) (a .paths)
-      ⨾ Coded BS (a .pattern-style) ⨾ Coded BS (a .pattern-type) ⨾ PatternLaid caps (a .solid) (a .pattern)
-      ⨾ Coded (held (derived (a .paths)) BD 0) (a .pixel-size) ⨾ Listed (caps .«seed_points») BL PointLaid (a .seed-points)
+      ⨾ TailLaid caps (a .solid) (derived (a .paths)) (a .tail)
 
   abbrev pub PlaneLaid : Plane → ℕ → ℕ → Type 0
   PlaneLaid a = Coded BD (a .elevation) ⨾ Coded BD (a .x) ⨾ Coded BD (a .y) ⨾ Coded BD (a .z)

@@ -12,8 +12,8 @@ use Rattle.bitcursor.specs.Inputs.{one}
 use Rattle.bitcursor.specs.Fields.{coded}
 use Rattle.text.specs.declared.version.Version.{Version}
 use Rattle.hatch_format.specs.declared.Caps.{Caps}
-use Rattle.hatch_format.specs.Values.{Point, Path, derived, PatternLine, Pattern, no-pattern, Rest}
-use Rattle.hatch_format.specs.Layouts.{LineLaid, PatternLaid, RestLaid}
+use Rattle.hatch_format.specs.Values.{Point, Path, derived, PatternLine, Pattern, no-pattern, Ending, Tail, Rest}
+use Rattle.hatch_format.specs.Layouts.{LineLaid, PatternLaid, EndingLaid, TailLaid, RestLaid}
 use Rattle.hatch_format.specs.Takes.{Takes, takes-less, takes-first, takes-BD}
 use Rattle.hatch_format.specs.Counts.{listed}
 use Rattle.hatch_format.specs.Points.{point, takes-point}
@@ -100,64 +100,68 @@ module _ (caps : Caps) where
   unfoldable pub pattern : Bool → Format one Pattern
   pattern solid = relay (pattern-read solid) (λ xs. PatternLaid xs caps solid) (pattern-to solid) (pattern-from solid)
 
--- ---- B solid, B associative, paths, BS style, BS type, the pattern, BD pixel size if any path has flag value 4, seeds
+-- ---- BD pixel size if any path comes from a boundary object, BL seeds, 2 RD each
+module _ (caps : Caps) where
+  unfoldable pub ending-read : Bool → Format one Ending
+  ending-read has = do
+    pixel ← coded (held has BD 0)
+    seeds ← listed (caps .«seed_points») BL point takes-point
+    pure (record { pixel-size = pixel; seed-points = seeds })
+
+  pub ending-to : (has : Bool) (xs : List ℕ) (a : Ending) (p q : ℕ) → (ending-read has) .lays xs a p q → EndingLaid xs caps has a p q
+  unfolding ending-read listed point relay _>>=_ pure
+  ending-to has xs a p q l = let e = l .3 .3 in rw (e .0, e .1) (l .1, l .2, l .3 .2)
+
+  pub ending-from : (has : Bool) (xs : List ℕ) (a : Ending) (p q : ℕ) → EndingLaid xs caps has a p q → (ending-read has) .lays xs a p q
+  unfolding ending-read listed point relay _>>=_ pure
+  ending-from has xs a p q l = (a .pixel-size, l .0, l .1, (a .seed-points, q, l .2, (refl, refl)))
+
+  unfoldable pub ending : Bool → Format one Ending
+  ending has = relay (ending-read has) (λ xs. EndingLaid xs caps has) (ending-to has) (ending-from has)
+
+  -- ---- BS style, BS type, the pattern, the last fields
+  unfoldable pub tail-read : Bool → Bool → Format one Tail
+  tail-read solid has = do
+    style ← coded BS
+    kind ← coded BS
+    a ← pattern caps solid
+    e ← ending has
+    pure (record { pattern-style = style; pattern-type = kind; pattern = a; ending = e })
+
+  pub tail-to : (solid has : Bool) (xs : List ℕ) (a : Tail) (p q : ℕ) → (tail-read solid has) .lays xs a p q → TailLaid xs caps solid has a p q
+  unfolding tail-read pattern ending relay _>>=_ pure
+  tail-to solid has xs a p q l =
+      let e = l .3 .3 .3 .3 in
+      rw (e .0, e .1) (l .1, l .2, (l .3 .1, l .3 .2, (l .3 .3 .1, l .3 .3 .2, l .3 .3 .3 .2)))
+
+  pub tail-from : (solid has : Bool) (xs : List ℕ) (a : Tail) (p q : ℕ) → TailLaid xs caps solid has a p q → (tail-read solid has) .lays xs a p q
+  unfolding tail-read pattern ending relay _>>=_ pure
+  tail-from solid has xs a p q l =
+      (a .pattern-style, l .0, l .1, (a .pattern-type, l .2 .0, l .2 .1, (a .pattern, l .2 .2 .0, l .2 .2 .1, (a .ending, q, l .2 .2 .2, (refl, refl)))))
+
+  unfoldable pub tail : Bool → Bool → Format one Tail
+  tail solid has = relay (tail-read solid has) (λ xs. TailLaid xs caps solid has) (tail-to solid has) (tail-from solid has)
+
+-- ---- B solid, B associative, paths, and what follows them
 module _ (caps : Caps) (v : Version) where
   unfoldable pub rest-read : Format one Rest
   rest-read = do
     solid ← coded B
     associative ← coded B
     paths ← listed (caps .paths) BL (path caps v) (takes-path caps v)
-    style ← coded BS
-    kind ← coded BS
-    a ← pattern caps solid
-    pixel ← coded (held (derived paths) BD 0)
-    seeds ← listed (caps .«seed_points») BL point takes-point
-    pure (record { solid = solid; associative = associative; paths = paths; pattern-style = style; pattern-type = kind; pattern = a; pixel-size = pixel; seed-points = seeds })
+    a ← tail caps solid (derived paths)
+    pure (record { solid = solid; associative = associative; paths = paths; tail = a })
 
   pub rest-to : (xs : List ℕ) (a : Rest) (p q : ℕ) → rest-read .lays xs a p q → RestLaid xs caps v a p q
-  unfolding rest-read listed path pattern point relay _>>=_ pure
+  unfolding rest-read listed path tail relay _>>=_ pure
   rest-to xs a p q l =
-      let m = l .3 .3 .3 in
-      let k = m .3 .3 in
-      let e = k .3 .3 .3 in
-      rw (e .0, e .1)
-      (l .1, l .2, (l .3 .1, l .3 .2, (l .3 .3 .1, l .3 .3 .2, (m .1, m .2, (m .3 .1, m .3 .2, (k .1, k .2, (k .3 .1, k .3 .2, k .3 .3 .2)))))))
+      let e = l .3 .3 .3 .3 in
+      rw (e .0, e .1) (l .1, l .2, (l .3 .1, l .3 .2, (l .3 .3 .1, l .3 .3 .2, l .3 .3 .3 .2)))
 
   pub rest-from : (xs : List ℕ) (a : Rest) (p q : ℕ) → RestLaid xs caps v a p q → rest-read .lays xs a p q
-  unfolding rest-read listed path pattern point relay _>>=_ pure
+  unfolding rest-read listed path tail relay _>>=_ pure
   rest-from xs a p q l =
-      let m = l .2 .2 .2 in
-      let k = m .2 .2 in (
-        a .solid,
-        l .0,
-        l .1,
-        (
-          a .associative,
-          l .2 .0,
-          l .2 .1,
-          (
-            a .paths,
-            l .2 .2 .0,
-            l .2 .2 .1,
-            (
-              a .pattern-style,
-              m .0,
-              m .1,
-              (
-                a .pattern-type,
-                m .2 .0,
-                m .2 .1,
-                (
-                  a .pattern,
-                  k .0,
-                  k .1,
-                  (a .pixel-size, k .2 .0, k .2 .1, (a .seed-points, q, k .2 .2, (refl, refl))),
-                ),
-              ),
-            ),
-          ),
-        ),
-      )
+      (a .solid, l .0, l .1, (a .associative, l .2 .0, l .2 .1, (a .paths, l .2 .2 .0, l .2 .2 .1, (a .tail, q, l .2 .2 .2, (refl, refl)))))
 
   unfoldable pub rest : Format one Rest
   rest = relay rest-read (λ xs. RestLaid xs caps v) rest-to rest-from

@@ -124,16 +124,24 @@ pub record Plane : Type 0 where
   pub y : ℕ
   pub z : ℕ
 
+-- the last fields
+pub record Ending : Type 0 where
+  pub pixel-size : ℕ
+  pub seed-points : List Point
+
+-- what follows the paths
+pub record Tail : Type 0 where
+  pub pattern-style : ℕ
+  pub pattern-type : ℕ
+  pub pattern : Pattern
+  pub ending : Ending
+
 -- what follows the pattern's name
 pub record Rest : Type 0 where
   pub solid : Bool
   pub associative : Bool
   pub paths : List Path
-  pub pattern-style : ℕ
-  pub pattern-type : ℕ
-  pub pattern : Pattern
-  pub pixel-size : ℕ
-  pub seed-points : List Point
+  pub tail : Tail
 
 pub record Body : Type 0 where
   pub gradient : Gradient

@@ -1,0 +1,9 @@
+pub mod Gathered
+pub mod Walks
+pub mod Runs
+pub mod Gathers
+pub mod EdgeGathers
+pub mod PathGathers
+pub mod Lists
+pub mod Stores
+pub mod Heads
