@@ -17,7 +17,7 @@ use Rattle.hatch_format.specs.Takes.{Takes, moved}
 use Rattle.hatch.specs.declared.lists.Sizes.{Sizes}
 use Rattle.hatch.specs.declared.lists.Walk.{Walk}
 use Rattle.hatch.specs.declared.lists.Walk.the-variants.{Done, Refused}
-use Rattle.hatch.specs.Gathered.{Entries, none, word, numbers, plus, gathered}
+use Rattle.hatch.specs.Gathered.{Entries, none, word, words, numbers, plus, gathered}
 use Rattle.hatch.specs.Lists.{Lists, lists, doublesOf, lay, grow, walkOf, Laid, Ready, ReadyAfter, Walks}
 
 -- ---- the laws that go list by list
@@ -150,12 +150,51 @@ behind {xs} {l} {l₁} {l₂} {z} {y} {r} {p} f g s k h = go (f .read xs p) h
         let t = step-as (k e) (s ⊕ record { lists = h .laid; sizes = refl }) in
         record { is = h .is ∙ ap (Done q) (t .sizes); laid = t .lists; ready = h .ready }
 
+-- a walk behind one word that was stored
+pub word-then : {xs : List ℕ} {a : List Float} {b ws ws₁ : List ℕ} {l₂ : Lists} {z : Sizes} {r : Walk} {p : ℕ} (f : Format one Entries) (n : ℕ) → ws₁ ≡ set ws (z .words) n
+    → Walks xs (f .read xs p) (lists a b ws₁) (record { numbers = z .numbers; words = z .words + 1; derived = z .derived }) l₂ r
+    → Walks xs ((f >>= λ e. pure (plus (word n) e)) .read xs p) (lists a b ws) z l₂ r
+word-then {a = a} {b = b} {z = z} f n e h = behind f (plus (word n)) {w = word n} (record { lists = λ i. lists a b (e i); sizes = one-word z n }) (λ x. refl) h
+
+-- or behind several
+pub words-then : {xs : List ℕ} {a : List Float} {b ws ws₁ : List ℕ} {l₂ : Lists} {z : Sizes} {r : Walk} {p : ℕ} (f : Format one Entries) (many : List ℕ) (k : ℕ) → length many ≡ k
+    → ws₁ ≡ sets ws (z .words) many
+    → Walks xs (f .read xs p) (lists a b ws₁) (record { numbers = z .numbers; words = z .words + k; derived = z .derived }) l₂ r
+    → Walks xs ((f >>= λ e. pure (plus (words many) e)) .read xs p) (lists a b ws) z l₂ r
+words-then {a = a} {b = b} {z = z} f many k i e h =
+    behind f (plus (words many)) {w = words many}
+    (record { lists = λ j. lists a b (e j); sizes = λ j. record { numbers = sym (add-zero (z .numbers)) j; words = z .words + sym i j; derived = sym (or-false (z .derived)) j } })
+    (λ x. refl) h
+
 -- the words of a walk that lays none
 pub with-words : {xs : List ℕ} (o : Out ℕ (List ℕ)) {a a′ : List Float} {b b′ : List ℕ} {z : Sizes} {r : Walk} (ws : List ℕ)
     → Walks xs (gathered numbers o) (lists a b []) z (lists a′ b′ []) r → Walks xs (gathered numbers o) (lists a b ws) z (lists a′ b′ ws) r
 with-words (refused k p) ws h = record { is = h .is; laid = tt; ready = h .ready }
 with-words (got ns p) {a} {a′} {b} {b′} ws h =
     record { is = h .is; laid = λ i. lists ((h .laid i) .doubles) ((h .laid i) .bits) ws; ready = h .ready }
+
+-- the words of a walk that gathers none, and the numbers of one that gathers none
+abbrev pub Wordless : Out ℕ Entries → Type 0
+Wordless o = (e : Entries) (q : ℕ) → o ≡ got e q → e .words ≡ []
+
+abbrev pub Numberless : Out ℕ Entries → Type 0
+Numberless o = (e : Entries) (q : ℕ) → o ≡ got e q → e .numbers ≡ []
+
+pub words-kept : {xs : List ℕ} (o : Out ℕ Entries) {a a′ : List Float} {b b′ : List ℕ} {z : Sizes} {r : Walk} (ws : List ℕ) → Wordless o
+    → Walks xs o (lists a b []) z (lists a′ b′ []) r → Walks xs o (lists a b ws) z (lists a′ b′ ws) r
+words-kept (refused k p) ws w h = record { is = h .is; laid = tt; ready = h .ready }
+words-kept (got e p) {z = z} ws w h =
+    record { is = h .is; laid = λ i. lists ((h .laid i) .doubles) ((h .laid i) .bits) (sets ws (z .words) (sym (w e p refl) i)); ready = h .ready }
+
+pub numbers-kept : {xs : List ℕ} (o : Out ℕ Entries) (a : List Float) (b : List ℕ) {ws ws′ : List ℕ} {z : Sizes} {r : Walk} → Numberless o
+    → Walks xs o (lists [] [] ws) z (lists [] [] ws′) r → Walks xs o (lists a b ws) z (lists a b ws′) r
+numbers-kept (refused k p) a b w h = record { is = h .is; laid = tt; ready = h .ready }
+numbers-kept (got e p) a b {z = z} w h =
+    record { is = h .is; laid = λ i. lists (sets a (z .numbers) (doublesOf (sym (w e p refl) i))) (sets b (z .numbers) (sym (w e p refl) i)) ((h .laid i) .words); ready = h .ready }
+
+pub words-still : {o : Out ℕ Entries} {l l′ : Lists} {z y : Sizes} {p : ℕ} (t : Told o l z l′ p y) → Wordless o → y .words ≡ z .words
+words-still {z = z} t w =
+    ap (λ (x : Sizes). x .words) (t .step .sizes) ∙ ap (λ (ws : List ℕ). z .words + length ws) (w (t .entries) _ (t .read)) ∙ add-zero (z .words)
 
 -- ---- where a reading ends
 pub onward : {A : Type 0} (f : Format one A) (n : ℕ) → Takes n f → (xs : List ℕ) (p : ℕ) {a : A} {q : ℕ} → f .read xs p ≡ got a q → p ≤ 8 * length xs

@@ -1,3 +1,5 @@
 pub mod Laws
 pub mod Loops
 pub mod RawRuns
+pub mod Lacking
+pub mod SplineHeads

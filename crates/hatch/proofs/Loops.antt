@@ -11,9 +11,13 @@ use Rattle.bitcursor.specs.Inputs.{one}
 use lib.ListN.{length}
 use lib.Seq.{length-sets}
 use Rattle.hatch.specs.declared.lists.Sizes.{Sizes}
-use Rattle.hatch.specs.Gathered.{Entries, none, numbers, plus, repeated}
+use Rattle.hatch.specs.Gathered.{Entries, none, word, numbers, plus, repeated}
+use Rattle.bitcursor.specs.Bits.{bit}
+use Rattle.bitcursor.specs.Code.{raw, give, mapped, tabled, _>>=_ as _then_}
+use Rattle.bitcursor.specs.Codes.{B, B-read}
+use lib.Dec.{eqb}
 use Rattle.bitcursor.specs.Doubles.{BD}
-use Rattle.hatch.specs.Walks.{single-walk, double-run}
+use Rattle.hatch.specs.Walks.{single-walk, double-run, bit-walk}
 use Rattle.hatch.specs.Gathers.{double-repeated}
 use Rattle.hatch.specs.Lists.{Lists, doublesOf}
 use Rattle.hatch.proofs.Laws.{Step, no-step, _⊕_, plus-none, plus-again}
@@ -98,3 +102,17 @@ single-refused xs p e = rw e
 pub double-left : (xs : List ℕ) (n p : ℕ) → (double-run n) .read xs p ≡ left single-walk xs n p
 unfolding left
 double-left xs n p = double-repeated xs n p
+
+-- n vertices
+pub repeated-left : (d : Format one Entries) (xs : List ℕ) (n p : ℕ) → (repeated n d) .read xs p ≡ left d xs n p
+unfolding left
+repeated-left d xs n p = refl
+
+-- a bit that is a word
+pub bit-read : (xs : List ℕ) (p : ℕ) {v q : ℕ} → (raw 1) .read xs p ≡ got v q → bit-walk .read xs p ≡ got (word (bit (eqb 1 v))) q
+unfolding bit-walk _>>=_ pure B B-read mapped tabled _then_ give
+bit-read xs p e = rw e
+
+pub bit-refused : (xs : List ℕ) (p : ℕ) {k : Refusal} {q : ℕ} → (raw 1) .read xs p ≡ refused k q → bit-walk .read xs p ≡ refused k q
+unfolding bit-walk _>>=_ pure B B-read mapped tabled _then_ give
+bit-refused xs p e = rw e

@@ -23,7 +23,7 @@ use Rattle.hatch_format.specs.Points.{point, vertex, arc-read, arc-edge, ellips
 use Rattle.hatch_format.specs.Splines.{fitted-by, fits-read, fits, spline-lists, spline-controls, spline-counts, spline-read, spline-edge}
 use Rattle.hatch_format.specs.Edges.{edge-of, edge-read, edge}
 use Rattle.hatch.specs.Gathered.{Entries, none, word, words, numbers, plus, all, gathered, same-first, first-gathers, last-gathers, more-gathers}
-use Rattle.hatch.specs.Walks.{raw-run, double-run, vertices-walk, curve-walk, fits-walk, fitted-raw, spline-lists-walk, spline-walk, edge-of-walk, edge-walk}
+use Rattle.hatch.specs.Walks.{raw-run, double-run, bit-walk, vertices-walk, curve-walk, fits-walk, fitted-raw, spline-lists-walk, spline-walk, edge-of-walk, edge-walk}
 use Rattle.hatch.specs.Runs.{pointEntries, vertexEntries, times-length, point-gathers, points-gather, vertices-gather}
 use Rattle.hatch.specs.Gathers.{all-numbers, raw-split, raw-none, three, then-same}
 
@@ -55,11 +55,22 @@ run xs n p = refl
 
 module _ (xs : List ℕ) where
   -- ---- 3 BD and B, behind points
+  bit-word : (h : Entries → Entries) (p : ℕ) → (coded B >>= λ b. pure {M = one} (h (word (bit b)))) .read xs p ≡ (bit-walk >>= λ e. pure {M = one} (h e)) .read xs p
+  unfolding bit-walk _>>=_ pure
+  bit-word h p = go (B .read xs p)
+    where
+      go : (o : Out ℕ Bool) → andThen o (λ b q. got (h (word (bit b))) q) ≡ andThen (andThen o (λ b q. got (word (bit b)) q)) (λ e q. got (h e) q)
+      go (got b q) = refl
+      go (refused k q) = refl
+
   curve-angles : (n p : ℕ)
       → (raw-run n >>= λ a. coded BD >>= λ r. coded BD >>= λ s. coded BD >>= λ e. coded B >>= λ ccw. pure (plus a (plus (numbers (r ∷ (s ∷ (e ∷ [])))) (word (bit ccw))))) .read xs p
       ≡ (curve-walk n) .read xs p
   unfolding curve-walk
-  curve-angles n p = then-same xs (raw-run n) _ _ (λ a q. three xs (λ b. coded B >>= λ ccw. pure (plus a (plus b (word (bit ccw))))) q) p
+  curve-angles n p =
+      then-same xs (raw-run n) _ _ (λ a q.
+      three xs (λ b. coded B >>= λ ccw. pure (plus a (plus b (word (bit ccw))))) q
+      ∙ then-same xs (double-run 3) _ _ (λ b r. bit-word (λ e. plus a (plus b e)) r) q) p
 
   pub arc-gathers : (p : ℕ) → gathered arcEntries (arc-edge .read xs p) ≡ (curve-walk 2) .read xs p
   unfolding arc-edge arc-read relay

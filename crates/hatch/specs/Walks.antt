@@ -39,13 +39,19 @@ unfoldable pub vertices-walk : Bool → ℕ → Format one Entries
 vertices-walk true n = repeated n vertex-walk
 vertices-walk false n = raw-run (2 * n)
 
+-- a B that is a word
+unfoldable pub bit-walk : Format one Entries
+bit-walk = do
+  b ← coded B
+  pure (word (bit b))
+
 -- an arc (2 RD) or an ellipse (4 RD), behind its kind: then 3 BD, B
 unfoldable pub curve-walk : ℕ → Format one Entries
 curve-walk n = do
   points ← raw-run n
   angles ← double-run 3
-  ccw ← coded B
-  pure (plus points (plus angles (word (bit ccw))))
+  ccw ← bit-walk
+  pure (plus points (plus angles ccw))
 
 -- how many RD n fit points and their tangents are
 abbrev pub fitted-raw : ℕ → ℕ
