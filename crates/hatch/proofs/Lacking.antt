@@ -5,6 +5,7 @@ use mathlib.Core.List.{List, [], _∷_}
 use Prim.Native.Nat.{ℕ, zero, suc, _+_, _*_, _^_, _≤_, _<_}
 use native.Mathlib.Omega.{arith}
 use lib.Dec.{eqb}
+use Rattle.bitcursor.specs.declared.Refusal.{Refusal}
 use Rattle.bitcursor.specs.declared.Refusal.the-variants.{EdgeKind}
 use Rattle.hatch_format.specs.declared.Caps.{Caps}
 use Rattle.bitcursor.specs.Bits.{bit}
@@ -12,7 +13,7 @@ use Rattle.bitcursor.specs.Reading.{Out, got, refused, andThen, never}
 use lib.ListN.{length}
 use Rattle.bitcursor.specs.BitLaws.{length-digits}
 use Rattle.bitcursor.specs.Code.{Code, raw}
-use Rattle.bitcursor.specs.Codes.{B, RD}
+use Rattle.bitcursor.specs.Codes.{B, RD, BL}
 use Rattle.hatch_format.specs.Takes.{Takes, takes-code}
 use Rattle.bitcursor.specs.Doubles.{BD}
 use Rattle.bitcursor.specs.Format.{pure, refuse, _>>=_, relay}
@@ -22,7 +23,7 @@ use Rattle.hatch_format.specs.Entries.{vertexNumbers}
 use Rattle.hatch_format.specs.Counts.{times, bounded}
 use Rattle.hatch_format.specs.Points.{vertex}
 use Rattle.hatch.specs.Gathered.{Entries, word, numbers, all, gathered}
-use Rattle.hatch.specs.Walks.{raw-run, double-run, bit-walk, vertices-walk, fitted-raw, edge-of-walk}
+use Rattle.hatch.specs.Walks.{raw-run, double-run, bit-walk, vertices-walk, fitted-raw, edge-of-walk, handles-walk}
 use Rattle.hatch.specs.Runs.{vertexEntries, vertices-gather}
 use Rattle.hatch.specs.Gathers.{all-numbers}
 use Rattle.hatch.proofs.Laws.{Wordless, Numberless}
@@ -80,3 +81,16 @@ other-kind caps b (suc (suc zero)) xs p h₁ h₂ h₃ h₄ = absurd (h₂ refl)
 other-kind caps b (suc (suc (suc zero))) xs p h₁ h₂ h₃ h₄ = absurd (h₃ refl)
 other-kind caps b (suc (suc (suc (suc zero)))) xs p h₁ h₂ h₃ h₄ = absurd (h₄ refl)
 other-kind caps b (suc (suc (suc (suc (suc k))))) xs p h₁ h₂ h₃ h₄ = refl
+
+-- a handle count is one word
+pub handles-numberless : (cap : ℕ) (xs : List ℕ) (p : ℕ) → Numberless ((handles-walk cap) .read xs p)
+unfolding handles-walk _>>=_ pure
+handles-numberless cap xs p = numberless word (λ n. refl) ((bounded cap BL) .read xs p)
+
+pub handles-read : (cap : ℕ) (xs : List ℕ) (p : ℕ) {n q : ℕ} → (bounded cap BL) .read xs p ≡ got n q → (handles-walk cap) .read xs p ≡ got (word n) q
+unfolding handles-walk _>>=_ pure
+handles-read cap xs p e = rw e
+
+pub handles-refused : (cap : ℕ) (xs : List ℕ) (p : ℕ) {k : Refusal} {q : ℕ} → (bounded cap BL) .read xs p ≡ refused k q → (handles-walk cap) .read xs p ≡ refused k q
+unfolding handles-walk _>>=_ pure
+handles-refused cap xs p e = rw e

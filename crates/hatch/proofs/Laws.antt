@@ -1,15 +1,16 @@
 -- What every walk's proof cites: entries laid over the lists, what an answer tells of the definition, and one step behind another.
 -- Assumes nothing.
-use mathlib.Core.Path.{_≡_, refl, sym, ap, ap₂, subst, _∙_}
+use mathlib.Core.Path.{_≡_, refl, sym, ap, ap₂, subst, subst₂, _∙_}
 use mathlib.Core.Bool.{Bool, true, false, _||_}
 use mathlib.Core.List.{List, [], _∷_, _++_, append-assoc, append-nil}
-use Prim.Native.Nat.{ℕ, zero, suc, _+_, _-_, _*_, _≤_, _<_, max}
+use Prim.Native.Nat.{ℕ, zero, suc, _+_, _-_, _*_, _/_, _≤_, _<_, max}
 use native.Mathlib.Nat.{add-zero, add-assoc}
 use native.Mathlib.Omega.{arith}
 use lib.Ieee.{Float, ofBits, binary64}
 use lib.ListN.{length, length-append, set}
 use lib.Seq.{sets, length-sets}
 use Rattle.bitcursor.specs.declared.Refusal.{Refusal}
+use Rattle.bitcursor.specs.Bits.{odd}
 use Rattle.bitcursor.specs.Reading.{Out, got, refused, andThen, never}
 use Rattle.bitcursor.specs.Format.{Format, pure, _>>=_}
 use Rattle.bitcursor.specs.Inputs.{one}
@@ -17,7 +18,7 @@ use Rattle.hatch_format.specs.Takes.{Takes, moved}
 use Rattle.hatch.specs.declared.lists.Sizes.{Sizes}
 use Rattle.hatch.specs.declared.lists.Walk.{Walk}
 use Rattle.hatch.specs.declared.lists.Walk.the-variants.{Done, Refused}
-use Rattle.hatch.specs.Gathered.{Entries, none, word, words, numbers, plus, gathered}
+use Rattle.hatch.specs.Gathered.{Entries, none, word, words, numbers, flagged, plus, gathered}
 use Rattle.hatch.specs.Lists.{Lists, lists, doublesOf, lay, grow, walkOf, Laid, Ready, ReadyAfter, Walks}
 
 -- ---- the laws that go list by list
@@ -155,6 +156,20 @@ pub word-then : {xs : List ℕ} {a : List Float} {b ws ws₁ : List ℕ} {l₂ :
     → Walks xs (f .read xs p) (lists a b ws₁) (record { numbers = z .numbers; words = z .words + 1; derived = z .derived }) l₂ r
     → Walks xs ((f >>= λ e. pure (plus (word n) e)) .read xs p) (lists a b ws) z l₂ r
 word-then {a = a} {b = b} {z = z} f n e h = behind f (plus (word n)) {w = word n} (record { lists = λ i. lists a b (e i); sizes = one-word z n }) (λ x. refl) h
+
+-- behind a path's flags
+pub flags-then : {xs : List ℕ} {a : List Float} {b ws ws₁ : List ℕ} {l₂ : Lists} {z : Sizes} {r : Walk} {p : ℕ} (f : Format one Entries) (n : ℕ) → ws₁ ≡ set ws (z .words) n
+    → Walks xs (f .read xs p) (lists a b ws₁) (record { numbers = z .numbers; words = z .words + 1; derived = z .derived || odd (n / 4) }) l₂ r
+    → Walks xs ((f >>= λ e. pure (plus (flagged n) e)) .read xs p) (lists a b ws) z l₂ r
+flags-then {a = a} {b = b} {z = z} f n e h =
+    behind f (plus (flagged n)) {w = flagged n}
+    (record { lists = λ i. lists a b (e i); sizes = λ i. record { numbers = sym (add-zero (z .numbers)) i; words = z .words + 1; derived = z .derived || odd (n / 4) } }) (λ x. refl) h
+
+-- a walk by a test that is known as another
+pub walks-by : {xs : List ℕ} {l l₂ : Lists} {n w : ℕ} {r : Walk} {p : ℕ} (f : Bool → Format one Entries) (e : Bool) {b b′ d d′ : Bool} → b ≡ b′ → d ≡ d′
+    → Walks xs ((f b) .read xs p) l (record { numbers = n; words = w; derived = e || d }) l₂ r → Walks xs ((f b′) .read xs p) l (record { numbers = n; words = w; derived = e || d′ }) l₂ r
+walks-by {xs} {l} {l₂} {n} {w} {r} {p} f e i j h =
+    subst₂ (λ (b d : Bool). Walks xs ((f b) .read xs p) l (record { numbers = n; words = w; derived = e || d }) l₂ r) i j h
 
 -- or behind several
 pub words-then : {xs : List ℕ} {a : List Float} {b ws ws₁ : List ℕ} {l₂ : Lists} {z : Sizes} {r : Walk} {p : ℕ} (f : Format one Entries) (many : List ℕ) (k : ℕ) → length many ≡ k

@@ -3,3 +3,4 @@ pub mod Loops
 pub mod RawRuns
 pub mod Lacking
 pub mod SplineHeads
+pub mod PolylineHeads

@@ -21,8 +21,8 @@ use Rattle.hatch_format.specs.Points.{vertex, takes-vertex}
 use Rattle.hatch_format.specs.Edges.{edge, takes-edge}
 use Rattle.hatch_format.specs.Paths.{handle-count, segments-read, segments, path-read, path}
 use Rattle.hatch_format.specs.Patterns.{takes-bit-BD, pattern-line-read, pattern-line}
-use Rattle.hatch.specs.Gathered.{Entries, none, word, words, numbers, flagged, plus, all, gathered, same-first, first-gathers, last-gathers, repeated}
-use Rattle.hatch.specs.Walks.{double-run, vertices-walk, edge-walk, polyline-walk, edges-walk, segments-walk, path-walk, line-walk}
+use Rattle.hatch.specs.Gathered.{Entries, none, word, words, numbers, flagged, plus, all, gathered, same-first, first-gathers, last-gathers, more-gathers, repeated}
+use Rattle.hatch.specs.Walks.{double-run, vertices-walk, edge-walk, polyline-walk, edges-walk, segments-walk, handles-walk, flagged-walk, path-walk, line-walk}
 use Rattle.hatch.specs.Runs.{vertexEntries, vertices-gather, times-gather}
 use Rattle.hatch.specs.Gathers.{single, all-single, doubles-gather, all-numbers, all-both, listed-gathers, five}
 use Rattle.hatch.specs.EdgeGathers.{edgeEntries, fit-release, edge-gathers, run}
@@ -60,16 +60,46 @@ module _ (xs : List ℕ) (caps : Caps) (v : Version) where
       (λ es. pure (edges es)) (λ n a. pure (plus (word n) a))
       (λ es q. last-gathers segmentEntries xs q _ (ap (plus (word (length es))) (sym (all-both edgeWords edgeNumbers es)))) p
 
+  -- what follows the flags
+  abbrev pub behindFlags : Path → Entries
+  behindFlags a = plus (segmentEntries (a .segments)) (word (a .boundary-handles))
+
+  handle-word : (h : Entries → Entries) (q : ℕ)
+      → (bounded (caps .«boundary_handles») BL >>= λ n. pure {M = one} (h (word n))) .read xs q ≡ (handles-walk (caps .«boundary_handles») >>= λ e. pure {M = one} (h e)) .read xs q
+  unfolding handles-walk _>>=_ pure
+  handle-word h q = go ((bounded (caps .«boundary_handles») BL) .read xs q)
+    where
+      go : (o : Out ℕ ℕ) → andThen o (λ n r. got (h (word n)) r) ≡ andThen (andThen o (λ n r. got (word n) r)) (λ e r. got (h e) r)
+      go (got n r) = refl
+      go (refused k r) = refl
+
+  flagged-gathers : (flags : ℕ) (p : ℕ)
+      → gathered behindFlags ((segments caps v (polylined flags) >>= λ a. handle-count caps >>= λ n. pure {M = one} (record { flags = flags; segments = a; boundary-handles = n })) .read xs p)
+      ≡ (flagged-walk caps (fit-release xs caps v) (polylined flags)) .read xs p
+  unfolding flagged-walk handle-count
+  flagged-gathers flags p =
+      first-gathers behindFlags xs p segmentEntries (segments caps v (polylined flags)) (segments-walk caps (fit-release xs caps v) (polylined flags)) _ _ (segments-gather (polylined flags) p) (λ a q h.
+      same-first behindFlags xs q (bounded (caps .«boundary_handles») BL) _ (λ n. pure (plus (segmentEntries a) (word n))) (λ n q h. last-gathers behindFlags xs q _ refl)
+      ∙ handle-word (plus (segmentEntries a)) q)
+
+  path-made : (flags : ℕ) (a : Path) (q r : ℕ)
+      → (segments caps v (polylined flags) >>= λ b. handle-count caps >>= λ n. pure {M = one} (record { flags = flags; segments = b; boundary-handles = n })) .read xs q ≡ got a r
+      → pathEntries a ≡ plus (flagged flags) (behindFlags a)
+  unfolding _>>=_ pure
+  path-made flags a q r e =
+      let f : Format one Path = segments caps v (polylined flags) >>= λ b. handle-count caps >>= λ n. pure (record { flags = flags; segments = b; boundary-handles = n }) in
+      let l = f .sound xs a q r e in
+      let b = l .0 in
+      let n = l .3 .0 in
+      rw (l .3 .3 .0)
+      (λ i. record { words = flags ∷ (segmentWords b ++ (n ∷ [])); numbers = sym (append-nil (segmentNumbers b)) i; derived = sym (or-false (odd (flags / 4))) i })
+
   pub path-gathers : (p : ℕ) → gathered pathEntries ((path caps v) .read xs p) ≡ (path-walk caps (fit-release xs caps v)) .read xs p
   unfolding path path-read path-walk relay
   path-gathers p =
       same-first pathEntries xs p (coded BL) _ _ (λ flags q h.
-      first-gathers pathEntries xs q segmentEntries (segments caps v (polylined flags)) (segments-walk caps (fit-release xs caps v) (polylined flags)) _ _ (segments-gather (polylined flags) q) (λ a q h.
-      same-first pathEntries xs q (handle-count caps) _ _ (λ n q h. last-gathers pathEntries xs q _ (made flags a n))))
-    where
-      made : (flags : ℕ) (a : Segments) (n : ℕ) → pathEntries (record { flags = flags; segments = a; boundary-handles = n }) ≡ plus (flagged flags) (plus (segmentEntries a) (word n))
-      made flags a n =
-          λ i. record { words = flags ∷ (segmentWords a ++ (n ∷ [])); numbers = sym (append-nil (segmentNumbers a)) i; derived = sym (or-false (odd (flags / 4))) i }
+      more-gathers pathEntries behindFlags (flagged flags) (segments caps v (polylined flags) >>= λ a. handle-count caps >>= λ n. pure (record { flags = flags; segments = a; boundary-handles = n })) _ xs q
+      (flagged-gathers flags q) (λ a r e. path-made flags a q r e))
 
   pub paths-gather : (n p : ℕ) → gathered (all pathEntries) ((times n (path caps v)) .read xs p) ≡ (repeated n (path-walk caps (fit-release xs caps v))) .read xs p
   paths-gather = times-gather (path caps v) xs pathEntries (path-walk caps (fit-release xs caps v)) path-gathers

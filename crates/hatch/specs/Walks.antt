@@ -13,7 +13,6 @@ use Rattle.bitcursor.specs.Fields.{coded}
 use Rattle.hatch_format.specs.declared.Caps.{Caps}
 use Rattle.hatch_format.specs.Values.{polylined}
 use Rattle.hatch_format.specs.Counts.{times, bounded}
-use Rattle.hatch_format.specs.Paths.{handle-count}
 use Rattle.hatch.specs.Gathered.{Entries, none, word, words, numbers, flagged, plus, repeated}
 
 -- n RD, n BD
@@ -65,6 +64,21 @@ fits-walk cap true = do
   pure (plus (word n) points)
 fits-walk cap false = pure (word 0)
 
+-- a polyline
+unfoldable pub polyline-walk : Caps → Format one Entries
+polyline-walk caps = do
+  bulge ← coded B
+  closed ← coded B
+  n ← bounded (caps .vertices) BL
+  vertices ← vertices-walk bulge n
+  pure (plus (words (bit bulge ∷ (bit closed ∷ (n ∷ [])))) vertices)
+
+-- a handle count that is a word
+unfoldable pub handles-walk : ℕ → Format one Entries
+handles-walk cap = do
+  n ← bounded cap BL
+  pure (word n)
+
 module _ (caps : Caps) (has-fits : Bool) where
   unfoldable pub spline-lists-walk : Bool → ℕ → ℕ → Format one Entries
   spline-lists-walk rational knots controls = do
@@ -97,14 +111,6 @@ module _ (caps : Caps) (has-fits : Bool) where
     e ← edge-of-walk kind
     pure (plus (word kind) e)
 
-  unfoldable pub polyline-walk : Format one Entries
-  polyline-walk = do
-    bulge ← coded B
-    closed ← coded B
-    n ← bounded (caps .vertices) BL
-    vertices ← vertices-walk bulge n
-    pure (plus (words (bit bulge ∷ (bit closed ∷ (n ∷ [])))) vertices)
-
   unfoldable pub edges-walk : Format one Entries
   edges-walk = do
     n ← bounded (caps .edges) BL
@@ -112,15 +118,21 @@ module _ (caps : Caps) (has-fits : Bool) where
     pure (plus (word n) es)
 
   unfoldable pub segments-walk : Bool → Format one Entries
-  segments-walk true = polyline-walk
+  segments-walk true = polyline-walk caps
   segments-walk false = edges-walk
+
+  -- what follows a path's flags
+  unfoldable pub flagged-walk : Bool → Format one Entries
+  flagged-walk b = do
+    a ← segments-walk b
+    n ← handles-walk (caps .«boundary_handles»)
+    pure (plus a n)
 
   unfoldable pub path-walk : Format one Entries
   path-walk = do
     flags ← coded BL
-    a ← segments-walk (polylined flags)
-    n ← handle-count caps
-    pure (plus (flagged flags) (plus a (word n)))
+    a ← flagged-walk (polylined flags)
+    pure (plus (flagged flags) a)
 
 unfoldable pub line-walk : ℕ → Format one Entries
 line-walk cap = do
