@@ -5,4 +5,5 @@
 mod counts;
 mod edges;
 mod lists;
+mod patterns;
 mod runs;
