@@ -2,3 +2,5 @@ pub mod Laws
 pub mod Loops
 pub mod RawRuns
 pub mod Words
+pub mod Rows
+pub mod TailLaws

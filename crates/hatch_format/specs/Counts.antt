@@ -101,6 +101,11 @@ module _ (cap : ℕ) (c : Code ℕ) where
   unfolding bounded relay
   bounded-below b xs p {n} {q} e = let l = bounded .sound xs n p q e in b n (l .0 .0 .code) (l .0 .0 .listed)
 
+  -- and it is not above the bits after it
+  pub bounded-left : (xs : List ℕ) (p : ℕ) {n q : ℕ} → bounded .read xs p ≡ got n q → n ≤ size xs - q
+  unfolding bounded relay
+  bounded-left xs p {n} {q} e = (bounded .sound xs n p q e) .1
+
 -- ---- a count, and what it counts behind it, which takes as many bits at least: so of its layouts only the cap is asked
 module _ {B : Type 0} (cap : ℕ) (c : Code ℕ) (g : ℕ → Format one B) where
   abbrev pub Counted : List ℕ → B → ℕ → ℕ → Type 0
