@@ -4,3 +4,4 @@ pub mod RawRuns
 pub mod Words
 pub mod Rows
 pub mod TailLaws
+pub mod TailEnds

@@ -83,7 +83,7 @@ module _ {A : Type 0} {xs : List ℕ} (e : A → Entries) {l l′ : Lists} {z : 
   gave-no (got a p) h d = not-done (sym d ∙ h .is)
   gave-no (refused k p) h d = let i = refused-is (sym d ∙ h .is) in ap₂ refused (i .0) (i .1)
 
-pure-read : {A : Type 0} (a : A) (xs : List ℕ) (p : ℕ) → (pure {M = one} a) .read xs p ≡ got a p
+pub pure-read : {A : Type 0} (a : A) (xs : List ℕ) (p : ℕ) → (pure {M = one} a) .read xs p ≡ got a p
 unfolding pure
 pure-read a xs p = refl
 

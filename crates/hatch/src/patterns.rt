@@ -223,3 +223,40 @@ fn decode_ending(
         Read::Refused(k, p) => EndingWalk::Refused(k, p),
     }
 }
+
+// What follows the paths: style, type, the pattern and the last fields.
+pub fn decode_tail(
+    s: &[u8],
+    at: usize,
+    solid: bool,
+    has: bool,
+    caps: Caps,
+    numbers: &mut [f64],
+    bits: &mut [u64],
+    words: &mut [u32],
+    z: Sizes,
+) -> TailWalk
+    requires { ⌜ Ready (now s) at z ⌝ }
+    ensures { λ r. ⌜ (r ≡ tailWalk z ((tail caps solid has) .read (now (s .entry)) at)) × Gives (now (s .entry)) tailEntries ((tail caps solid has) .read (now (s .entry)) at) (lists (now (numbers .entry)) (now (bits .entry)) (now (words .entry))) z (lists (now (numbers .exit)) (now (bits .exit)) (now (words .exit))) ⌝ }
+{
+    let style = within::read_bs_u(s, at);
+    match sequence::then_bs(s, style) {
+        Read::Value(kind, p) => match decode_pattern(s, p, solid, caps, numbers, bits, words, z) {
+            PatternWalk::Done(a, q, y) => match decode_ending(s, q, has, caps, numbers, bits, y) {
+                EndingWalk::Done(e, t, x) => {
+                    let first = sequence::value_of(style);
+                    let v = Tail {
+                        style: first,
+                        kind: kind,
+                        pattern: a,
+                        ending: e,
+                    };
+                    TailWalk::Done(v, t, x)
+                }
+                EndingWalk::Refused(k, t) => TailWalk::Refused(k, t),
+            },
+            PatternWalk::Refused(k, q) => TailWalk::Refused(k, q),
+        },
+        Read::Refused(k, p) => TailWalk::Refused(k, p),
+    }
+}
