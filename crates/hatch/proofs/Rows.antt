@@ -1,7 +1,7 @@
 -- Fields in a row: where the last one ends, and what is read behind it. Assumes nothing.
-use mathlib.Core.Path.{_≡_, refl, sym, ap, subst, _∙_}
+use mathlib.Core.Path.{_≡_, refl, sym, ap, subst}
 use mathlib.Core.List.{List}
-use Prim.Native.Nat.{ℕ, _+_, _-_, _*_, _≤_}
+use Prim.Native.Nat.{ℕ, _-_, _*_, _≤_}
 use native.Mathlib.Omega.{arith}
 use lib.ListN.{length}
 use Rattle.bitcursor.specs.declared.Read.{Read}
@@ -11,7 +11,7 @@ use Rattle.bitcursor.specs.Reading.{Out, got, refused, andThen}
 use Rattle.bitcursor.specs.Code.{Code}
 use Rattle.bitcursor.specs.Answers.{asRead}
 use Rattle.bitcursor.specs.Sequence.{thenRead}
-use Rattle.bitcursor.specs.Format.{Format, pure, _>>=_, relay}
+use Rattle.bitcursor.specs.Format.{Format, _>>=_, relay}
 use Rattle.bitcursor.specs.Inputs.{one}
 use Rattle.bitcursor.specs.Fields.{coded}
 use Rattle.bitcursor.proofs.Steps.{read-value}

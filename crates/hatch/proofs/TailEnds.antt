@@ -1,11 +1,10 @@
 -- What follows the paths, from the answers for its parts; and the ranges of its first two fields. Assumes nothing.
-use mathlib.Core.Path.{_≡_, refl, sym, ap, ap₂, subst, _∙_}
+use mathlib.Core.Path.{_≡_, sym, ap, subst, _∙_}
 use mathlib.Core.Bool.{Bool}
 use mathlib.Core.List.{List, []}
-use Prim.Native.Nat.{ℕ, _*_, _^_, _≤_, _<_}
+use Prim.Native.Nat.{ℕ, _^_, _<_}
 use native.Mathlib.Omega.{arith}
 use lib.Ieee.{Float}
-use lib.ListN.{length}
 use Rattle.bitcursor.specs.declared.Refusal.{Refusal}
 use Rattle.bitcursor.specs.declared.Read.{Read}
 use Rattle.bitcursor.specs.declared.Read.the-variants.{Value, Refused}
@@ -26,14 +25,13 @@ use Rattle.hatch.specs.declared.patterns.PatternWalk.the-variants.{Done 
 use Rattle.hatch.specs.declared.patterns.Ending.{Ending}
 use Rattle.hatch.specs.declared.patterns.EndingWalk.{EndingWalk}
 use Rattle.hatch.specs.declared.patterns.EndingWalk.the-variants.{Done as DoneEnding, Refused as RefusedEnding}
-use Rattle.hatch.specs.declared.patterns.Tail.{Tail}
 use Rattle.hatch.specs.declared.patterns.TailWalk.the-variants.{Done as DoneTail}
 use Rattle.hatch.specs.Gathered.{Entries, gathered}
 use Rattle.hatch.specs.Lists.{Lists, lists, grow, Laid, Ready}
 use Rattle.hatch.specs.Heads.{resumed, one-more}
 use Rattle.hatch.specs.Tails.{ReadyBehind, Gives, patternOf, patternEntries, patternWalk, endingOf, endingEntries, endingWalk, tailEntries, tailWalk}
 use Rattle.hatch.proofs.Laws.{Step, _⊕_}
-use Rattle.hatch.proofs.Rows.{Ends, ends-next, ends-ready}
+use Rattle.hatch.proofs.Rows.{ends-next, ends-ready}
 use Rattle.hatch.proofs.TailLaws.{gives-got, pure-read}
 
 -- ---- what the answers for the parts tell

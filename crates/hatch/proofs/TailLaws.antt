@@ -1,16 +1,14 @@
 -- The pattern, the last fields and what follows the paths, from the fields in a row and the walks behind them. Assumes nothing.
 use mathlib.Core.Path.{_≡_, refl, sym, ap, ap₂, subst, _∙_}
 use mathlib.Core.Bool.{Bool, true, false}
-use mathlib.Core.List.{List, []}
-use Prim.Native.Nat.{ℕ, _+_, _*_, _^_, _≤_, _<_}
+use mathlib.Core.List.{List}
+use Prim.Native.Nat.{ℕ, _*_, _^_, _<_}
 use native.Mathlib.Omega.{arith}
 use lib.Dec.{eqb}
-use lib.Ieee.{Float}
-use lib.ListN.{length}
 use Rattle.bitcursor.specs.declared.Refusal.{Refusal}
 use Rattle.bitcursor.specs.declared.Read.{Read}
 use Rattle.bitcursor.specs.declared.Read.the-variants.{Value, Refused}
-use Rattle.bitcursor.specs.Reading.{Out, got, refused, andThen}
+use Rattle.bitcursor.specs.Reading.{Out, got, refused}
 use Rattle.bitcursor.specs.Code.{raw}
 use Rattle.bitcursor.specs.Codes.{B, BS, BL}
 use Rattle.bitcursor.specs.Doubles.{BD}
@@ -36,11 +34,11 @@ use Rattle.hatch.specs.Walks.{raw-run, line-walk}
 use Rattle.hatch.specs.Runs.{pointEntries, times-length, times-gather, points-gather}
 use Rattle.hatch.specs.Gathers.{all-numbers}
 use Rattle.hatch.specs.PathGathers.{lineEntries, line-gathers}
-use Rattle.hatch.specs.Lists.{Lists, lists, lay, grow, walkOf, Laid, Ready, ReadyAfter, Walks}
+use Rattle.hatch.specs.Lists.{Lists, lists, lay, grow, Ready, Walks}
 use Rattle.hatch.specs.Heads.{resumed, one-more, bit-more}
 use Rattle.hatch.specs.Tails.{Gives, patternEntries, patternWalk, endingEntries, endingWalk}
 use Rattle.hatch.proofs.Laws.{Step, step-as, walk-ready, walks-as}
-use Rattle.hatch.proofs.Rows.{Ends, ends-next, ends-ready, count-left, resumed-same, listed-row}
+use Rattle.hatch.proofs.Rows.{ends-next, ends-ready, count-left, resumed-same, listed-row}
 
 -- ---- values and their entries
 module _ {A : Type 0} {xs : List ℕ} (e : A → Entries) (o : Out ℕ A) {l l′ : Lists} {z : Sizes} where

@@ -1,13 +1,13 @@
 -- Walks that lay words too: runs of doubles lay none, and a word that is put is one entry more. Assumes nothing.
-use mathlib.Core.Path.{_≡_, refl, sym, ap, _∙_}
-use mathlib.Core.List.{List, [], _∷_}
-use Prim.Native.Nat.{ℕ, _+_, _*_, _≤_}
+use mathlib.Core.Path.{_≡_}
+use mathlib.Core.List.{List, []}
+use Prim.Native.Nat.{ℕ, _+_, _≤_}
 use native.Mathlib.Omega.{arith}
 use lib.Ieee.{Float}
-use lib.ListN.{length, set}
-use Rattle.bitcursor.specs.Codes.{RD, BS}
+use lib.ListN.{set}
+use Rattle.bitcursor.specs.Codes.{RD}
 use Rattle.bitcursor.specs.Doubles.{BD}
-use Rattle.bitcursor.specs.Reading.{Out, got, refused}
+use Rattle.bitcursor.specs.Reading.{got}
 use Rattle.bitcursor.specs.Format.{Format, pure, _>>=_}
 use Rattle.bitcursor.specs.Inputs.{one}
 use Rattle.bitcursor.specs.Fields.{coded}
@@ -15,9 +15,9 @@ use Rattle.hatch_format.specs.Takes.{Takes}
 use Rattle.hatch_format.specs.Counts.{times}
 use Rattle.hatch.specs.declared.lists.Sizes.{Sizes}
 use Rattle.hatch.specs.declared.lists.Walk.{Walk}
-use Rattle.hatch.specs.Gathered.{Entries, word}
+use Rattle.hatch.specs.Gathered.{word}
 use Rattle.hatch.specs.Walks.{raw-run, double-run}
-use Rattle.hatch.specs.Lists.{Lists, lists, Ready, Walks}
+use Rattle.hatch.specs.Lists.{lists, Ready, Walks}
 use Rattle.hatch.proofs.Laws.{Step, one-word, with-words, onward}
 
 -- runs lay no words

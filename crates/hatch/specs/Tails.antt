@@ -1,5 +1,4 @@
 -- Walks that give values beside what they gather: the pattern, the last fields, and what follows the paths. Assumes nothing.
-use mathlib.Core.Path.{_≡_}
 use mathlib.Core.List.{List}
 use Prim.Native.Nat.{ℕ}
 use lib.ListN.{length}

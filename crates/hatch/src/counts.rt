@@ -68,6 +68,7 @@ pub fn then_count(s: &[u8], prior: Read, cap: usize) -> Read
     }
 }
 
+// A short count behind another field.
 pub fn then_short_count(s: &[u8], prior: Read, cap: usize) -> Read
     requires { ⌜ length (now s) ≤ limit ⌝ }
     ensures { λ r. ⌜ r ≡ thenRead ((bounded cap BS) .read (now (s .entry))) prior ⌝ }

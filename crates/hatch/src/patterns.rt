@@ -1,9 +1,9 @@
 // What follows the paths: the pattern with its lines, and the last fields.
 ghost use mathlib.Core.Path.{_≡_};
-ghost use mathlib.Core.List.{[], _∷_};
-ghost use Prim.Native.Nat.{_+_, _*_, _^_, _≤_, _<_};
-ghost use lib.ListN.{length};
 ghost use mathlib.Core.Bool.{false};
+ghost use mathlib.Core.List.{[]};
+ghost use Prim.Native.Nat.{_≤_};
+ghost use lib.ListN.{length};
 ghost use Rattle.bitcursor.specs.Answers.{limit, asRead};
 ghost use Rattle.bitcursor.specs.Doubles.{BD};
 ghost use Rattle.bitcursor.specs.Sequence.{held};
@@ -90,6 +90,7 @@ fn decode_pattern_line(
     }
 }
 
+// n pattern lines.
 fn decode_pattern_lines(
     s: &[u8],
     at: usize,

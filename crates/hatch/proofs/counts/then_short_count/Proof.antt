@@ -1,5 +1,5 @@
 -- A refusal stays; behind a value the count is read.
-use mathlib.Core.Path.{_≡_, refl, sym, ap, _∙_}
+use mathlib.Core.Path.{sym, ap, _∙_}
 use denote.Ref.{now}
 use Rattle.bitcursor.specs.Codes.{BS}
 use Rattle.bitcursor.specs.Sequence.{thenRead}

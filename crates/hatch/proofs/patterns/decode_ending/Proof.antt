@@ -1,6 +1,5 @@
 -- The pixel size, the count of the seed points, and the points as a run of RD.
-use mathlib.Core.Path.{_≡_, sym, ap, _∙_}
-use Prim.Native.Nat.{ℕ, _*_, _^_, _<_}
+use mathlib.Core.Path.{sym, ap}
 use native.Mathlib.Omega.{arith}
 use denote.Ref.{now}
 use Rattle.hatch_format.specs.Patterns.{ending}

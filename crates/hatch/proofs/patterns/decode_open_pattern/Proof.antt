@@ -1,5 +1,5 @@
 -- The fields in a row, the count of the lines, and the lines.
-use mathlib.Core.Path.{_≡_, sym, ap, _∙_}
+use mathlib.Core.Path.{sym, ap}
 use mathlib.Core.Bool.{false}
 use denote.Ref.{now}
 use Rattle.hatch_format.specs.Patterns.{pattern}

@@ -1,13 +1,10 @@
 -- A solid hatch has the empty pattern.
-use mathlib.Core.Path.{_≡_, refl, sym, ap, subst, _∙_}
-use mathlib.Core.Bool.{Bool, false}
+use mathlib.Core.Path.{refl, sym, ap, subst, _∙_}
 use denote.Ref.{now}
 use Rattle.hatch_format.specs.Patterns.{pattern}
-use Rattle.hatch.specs.declared.lists.Sizes.{Sizes}
-use Rattle.hatch.specs.declared.patterns.Pattern.{Pattern}
 use Rattle.hatch.specs.declared.patterns.PatternWalk.the-variants.{Done}
-use Rattle.hatch.specs.Lists.{lists, Ready}
-use Rattle.hatch.specs.Tails.{Gives, patternEntries, patternWalk, patternOf}
+use Rattle.hatch.specs.Lists.{Ready}
+use Rattle.hatch.specs.Tails.{patternEntries, patternWalk, patternOf}
 use Rattle.hatch_format.specs.Values.{no-pattern}
 use Rattle.hatch.proofs.Laws.{grow-none}
 use Rattle.hatch.proofs.TailLaws.{gives-got, pattern-solid, pattern-open}

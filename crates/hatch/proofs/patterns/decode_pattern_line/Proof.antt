@@ -1,7 +1,5 @@
 -- Five doubles, a count that is put as a word, and that many doubles, one behind the other.
-use mathlib.Core.Path.{_≡_, refl, sym, ap, _∙_}
-use mathlib.Core.List.{[]}
-use Prim.Native.Nat.{ℕ, _+_, _*_, _^_, _≤_, _<_}
+use mathlib.Core.Path.{sym, _∙_}
 use native.Mathlib.Omega.{arith}
 use denote.Ref.{now}
 use Rattle.bitcursor.specs.Codes.{BS}
@@ -10,7 +8,7 @@ use Rattle.bitcursor.specs.Format.{_>>=_, pure, then-got, then-refused}
 use Rattle.bitcursor.proofs.Steps.{read-value, read-refused}
 use Rattle.hatch_format.specs.Takes.{takes-BS}
 use Rattle.hatch_format.specs.Counts.{bounded, takes-bounded, bounded-below}
-use Rattle.hatch.specs.Gathered.{Entries, word, plus}
+use Rattle.hatch.specs.Gathered.{word, plus}
 use Rattle.hatch.specs.Walks.{double-run, line-walk}
 use Rattle.hatch.proofs.Laws.{_⊕_, plus-again, walk-told, walk-ready, walk-no, walks-as, refuses, behind}
 use Rattle.hatch.proofs.Words.{double-words, word-step, ready-word}

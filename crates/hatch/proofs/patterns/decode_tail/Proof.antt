@@ -1,5 +1,5 @@
 -- Style and type in a row, then the pattern, then the last fields.
-use mathlib.Core.Path.{_≡_, refl, sym, ap, _∙_}
+use mathlib.Core.Path.{refl, sym, ap}
 use denote.Ref.{now}
 use Rattle.hatch_format.specs.Patterns.{tail}
 use Rattle.hatch.specs.Tails.{tailEntries, tailWalk}

@@ -1,5 +1,5 @@
 -- The size is read where it is there, and is 0 where it is not.
-use mathlib.Core.Path.{_≡_, sym, ap, _∙_}
+use mathlib.Core.Path.{sym, ap, _∙_}
 use Prim.Native.Nat.{ℕ}
 use denote.Ref.{now}
 use Rattle.bitcursor.specs.Doubles.{BD}
