@@ -4,3 +4,7 @@ pub mod RawRuns
 pub mod Lacking
 pub mod SplineHeads
 pub mod PolylineHeads
+pub mod Words
+pub mod Rows
+pub mod TailLaws
+pub mod TailEnds

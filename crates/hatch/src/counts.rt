@@ -67,3 +67,14 @@ pub fn then_count(s: &[u8], prior: Read, cap: usize) -> Read
         Read::Refused(k, p) => Read::Refused(k, p),
     }
 }
+
+// A short count behind another field.
+pub fn then_short_count(s: &[u8], prior: Read, cap: usize) -> Read
+    requires { ⌜ length (now s) ≤ limit ⌝ }
+    ensures { λ r. ⌜ r ≡ thenRead ((bounded cap BS) .read (now (s .entry))) prior ⌝ }
+{
+    match prior {
+        Read::Value(_, p) => read_short_count(s, p, cap),
+        Read::Refused(k, p) => Read::Refused(k, p),
+    }
+}

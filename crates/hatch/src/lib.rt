@@ -6,4 +6,5 @@ mod counts;
 mod edges;
 mod lists;
 mod paths;
+mod patterns;
 mod runs;

@@ -10,7 +10,9 @@ use lib.Dec.{leb, leb→le}
 use borrow.Author.Tests.{le-leb, lt-leb}
 use Rattle.bitcursor.specs.declared.Refusal.the-variants.{CountTooLarge}
 use Rattle.bitcursor.specs.Bits.{size}
+use Rattle.bitcursor.specs.Reading.{got}
 use Rattle.bitcursor.specs.Code.{Code, Laid}
+use Rattle.bitcursor.specs.Ranges.{Below}
 use Rattle.bitcursor.specs.Format.{Format, pure, refuse, _>>=_, peek, relay, either}
 use Rattle.bitcursor.specs.Inputs.{one}
 use Rattle.bitcursor.specs.Fields.{coded}
@@ -89,6 +91,20 @@ module _ (cap : ℕ) (c : Code ℕ) where
 
   unfoldable pub bounded : Format one ℕ
   bounded = relay bounded-read (λ xs. Bounded xs cap c) bounded-to bounded-from
+
+  -- it takes the bits that its code does, and its values are the code's
+  pub takes-bounded : (m : ℕ) → Takes m (coded c) → Takes m bounded
+  unfolding bounded relay
+  takes-bounded m t xs n p q l = t xs n p q (l .0 .0)
+
+  pub bounded-below : {m : ℕ} → Below m c → (xs : List ℕ) (p : ℕ) {n q : ℕ} → bounded .read xs p ≡ got n q → n < m
+  unfolding bounded relay
+  bounded-below b xs p {n} {q} e = let l = bounded .sound xs n p q e in b n (l .0 .0 .code) (l .0 .0 .listed)
+
+  -- and it is not above the bits after it
+  pub bounded-left : (xs : List ℕ) (p : ℕ) {n q : ℕ} → bounded .read xs p ≡ got n q → n ≤ size xs - q
+  unfolding bounded relay
+  bounded-left xs p {n} {q} e = (bounded .sound xs n p q e) .1
 
 -- ---- a count, and what it counts behind it, which takes as many bits at least: so of its layouts only the cap is asked
 module _ {B : Type 0} (cap : ℕ) (c : Code ℕ) (g : ℕ → Format one B) where

@@ -11,7 +11,7 @@ use Rattle.bitcursor.specs.BitLaws.{length-bits}
 use Rattle.bitcursor.specs.Reading.{Out, place}
 use Rattle.bitcursor.specs.Code.{Code, Moves, tabled}
 use Rattle.bitcursor.specs.Bytes.{lowBytes, lowFirst}
-use Rattle.bitcursor.specs.Codes.{RC, RD, BL, BL-codes, BL-00, BL-01, BL-10}
+use Rattle.bitcursor.specs.Codes.{RC, RD, BS, BS-codes, BS-00, BS-01, BS-10, BS-11, BL, BL-codes, BL-00, BL-01, BL-10}
 use Rattle.bitcursor.specs.Doubles.{BD, BD-codes, BD-00, BD-01, BD-10}
 use Rattle.bitcursor.specs.Format.{Format, refuse, _>>=_, either}
 use Rattle.bitcursor.specs.Inputs.{one}
@@ -93,3 +93,16 @@ BL-long v cs l = go v cs l
 
 pub takes-BL : Takes 2 (coded BL)
 takes-BL = takes-code 2 BL BL-long
+
+BS-long : (v : ℕ) (cs : List Bool) → BS .codes v cs → 2 ≤ length cs
+unfolding BS tabled
+BS-long v cs l = go v cs l
+  where
+    go : (v : ℕ) (cs : List Bool) → BS-codes v cs → 2 ≤ length cs
+    go v cs (BS-00 h) = omega arith
+    go v cs (BS-01 h) = omega arith
+    go v cs BS-10 = omega arith
+    go v cs BS-11 = omega arith
+
+pub takes-BS : Takes 2 (coded BS)
+takes-BS = takes-code 2 BS BS-long
