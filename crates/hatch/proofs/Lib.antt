@@ -8,3 +8,4 @@ pub mod Words
 pub mod Rows
 pub mod TailLaws
 pub mod TailEnds
+pub mod RestLaws

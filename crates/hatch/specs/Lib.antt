@@ -8,3 +8,4 @@ pub mod Lists
 pub mod Stores
 pub mod Heads
 pub mod Tails
+pub mod Rests

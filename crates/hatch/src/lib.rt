@@ -7,4 +7,5 @@ mod edges;
 mod lists;
 mod paths;
 mod patterns;
+mod rests;
 mod runs;
