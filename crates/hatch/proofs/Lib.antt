@@ -1,3 +1,4 @@
+pub mod Filling
 pub mod Laws
 pub mod Loops
 pub mod RawRuns

@@ -7,3 +7,4 @@ pub mod PathGathers
 pub mod Lists
 pub mod Stores
 pub mod Heads
+pub mod Seeds

@@ -5,4 +5,6 @@
 mod counts;
 mod edges;
 mod lists;
+mod record;
 mod runs;
+mod seeds;

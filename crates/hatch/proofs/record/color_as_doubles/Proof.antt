@@ -1,0 +1,18 @@
+-- Every field is copied, and the double is that of its bits.
+use mir.Syntax.{w16}
+use mir.ValLaws.{toZ-ofZ}
+use borrow.Author.Needs.{needs}
+use Rattle.hatch.proofs.record.color_as_doubles.Statement.{statement}
+use Rattle.hatch.proofs.record.color_as_doubles.Tie as tie
+use Rattle.hatch.proofs.record.color_as_doubles.Reads as reads
+use Rattle.hatch.proofs.record.color_as_doubles.Lts as lts
+use Rattle.bitcursor.proofs.values.double_of.Reads as double-of-reads
+
+double-of-requires : tie.Need-double-of-requires
+double-of-requires c κs = search needs
+
+returns : tie.Need-returns
+returns c = ?
+
+pub color-as-doubles-spec : {M : Type 1} → statement M
+color-as-doubles-spec = tie.close (tie.spec double-of-requires returns)
