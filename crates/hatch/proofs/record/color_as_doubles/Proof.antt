@@ -12,7 +12,8 @@ double-of-requires : tie.Need-double-of-requires
 double-of-requires c κs = search needs
 
 returns : tie.Need-returns
-returns c = ?
+returns c =
+    rw (toZ-ofZ w16 (c .before .before .args .c .«unknown_short») (record { sfits = c .struct-told .given .1 .0 .1 }), c .before .double-of .ensures)
 
 pub color-as-doubles-spec : {M : Type 1} → statement M
 color-as-doubles-spec = tie.close (tie.spec double-of-requires returns)

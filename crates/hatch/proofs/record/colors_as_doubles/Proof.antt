@@ -53,10 +53,21 @@ loop-less : tie.Need-loop-less Inv-loop μ-loop
 loop-less c = search needs
 
 loop-again : tie.Need-loop-again Inv-loop μ-loop
-loop-again c = ?
+loop-again c =
+    let a = c .before .before .before .before .before .before .args in
+    let l = c .before .before .before .loop in
+    let z = colorAsDoubles zeroColor in
+    let lt : l .i < 16 = c .before .before .loop-test .taken in (
+      omega arith,
+      ap₂ (λ (m : List GradientColor) (v : GradientColor). set m (l .i) v) (l .inv .1) (c .color-as-doubles2 .ensures)
+          ∙ doubles-more (a .t1) z (c .before .before .before .before .before .before .good .0 .1 .0 .1) (l .i) zeroColor lt,
+    )
 
 returns : tie.Need-returns Inv-loop μ-loop
-returns c = ?
+returns c =
+    let a = c .before .before .before .before .args in
+    let l = c .before .loop in
+    l .inv .1 ∙ doubles-all (a .t1) (colorAsDoubles zeroColor) (c .before .before .before .before .good .0 .1 .0 .1) (l .i) (omega (arith, l .inv .0, c .loop-test .left))
 
 pub colors-as-doubles-spec : {M : Type 1} → statement M
 colors-as-doubles-spec =
