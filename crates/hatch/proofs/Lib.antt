@@ -1,4 +1,5 @@
 pub mod Filling
+pub mod FrontLaws
 pub mod Laws
 pub mod Loops
 pub mod RawRuns

@@ -8,3 +8,5 @@ pub mod Lists
 pub mod Stores
 pub mod Heads
 pub mod Seeds
+pub mod Rows
+pub mod Fronts

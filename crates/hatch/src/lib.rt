@@ -4,6 +4,8 @@
 
 mod counts;
 mod edges;
+mod fills;
+mod fronts;
 mod lists;
 mod record;
 mod runs;
