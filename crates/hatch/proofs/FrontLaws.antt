@@ -219,6 +219,10 @@ capped xs cap (Value v q) {y} {n} {p} e h =
     let r = read-value ((bounded cap BL) .read xs q) e h in
     (bounded cap BL) .sound xs n q p r .0 .1
 
+abbrev pub blockFrom : BlockHead → ℕ → ℕ → List GradientColorBits → BlockRead
+blockFrom h n p cs =
+    record { flag = h .flag; angle = h .angle; shift = h .shift; «single_color» = h .«single_color»; tint = h .tint; «num_colors» = n; colors = cs; last = To p }
+
 module _ (xs : List ℕ) (cap p : ℕ) {h : BlockHead} (is : h ≡ blockHead xs cap p) where
   last-is : {y : Read} → h .last ≡ y → blockHead xs cap p .last ≡ y
   last-is e = sym (ap (λ (x : BlockHead). x .last) is) ∙ e
@@ -240,14 +244,10 @@ module _ (xs : List ℕ) (cap p : ℕ) {h : BlockHead} (is : h ≡ blockHead xs 
     pub block-stop : {k : Refusal} {r : ℕ} → (times n color) .read xs q ≡ refused k r → (block cap) .read xs p ≡ refused k r
     block-stop i = on ∙ ap (λ (o : Out ℕ (List GradientColorBits)). andThen o (λ cs r. got (blockWith xs cap p cs) r)) i
 
-    pub block-done : {cs : List GradientColorBits} {r : ℕ} → (times n color) .read xs q ≡ got cs r
-        → record { flag = h .flag; angle = h .angle; shift = h .shift; «single_color» = h .«single_color»; tint = h .tint; «num_colors» = n; colors = sixteen cs; last = To r }
-        ≡ blockOf ((block cap) .read xs p)
+    pub block-done : {cs : List GradientColorBits} {r : ℕ} → (times n color) .read xs q ≡ got cs r → blockFrom h n r (sixteen cs) ≡ blockOf ((block cap) .read xs p)
     block-done {cs} {r} i =
         let b = on ∙ ap (λ (o : Out ℕ (List GradientColorBits)). andThen o (λ cs r. got (blockWith xs cap p cs) r)) i in
-        ap₂ (λ (x : BlockHead) (m : ℕ). record { flag = x .flag; angle = x .angle; shift = x .shift; «single_color» = x .«single_color»; tint = x .tint; «num_colors» = m; colors = sixteen cs; last = To r }) is
-        (sym (times-length color xs n q i))
-        ∙ sym (ap blockOf b)
+        ap₂ (λ (x : BlockHead) (m : ℕ). blockFrom x m r (sixteen cs)) is (sym (times-length color xs n q i)) ∙ sym (ap blockOf b)
 
 -- what the answer for colours tells
 pub colors-got : (o : Out ℕ (List GradientColorBits)) {x : Colors} {p : ℕ} → x ≡ colorsOf o → x .last ≡ To p

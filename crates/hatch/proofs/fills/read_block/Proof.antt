@@ -1,3 +1,16 @@
+-- The count is at most the cap, so at most 16; the colours behind it decide.
+use mathlib.Core.Path.{_≡_, refl, sym, ap, ap₂, subst, _∙_}
+use denote.Ref.{now}
+use mathlib.Core.List.{List}
+use Prim.Native.Nat.{ℕ, _≤_}
+use native.Mathlib.Omega.{arith}
+use Rattle.bitcursor.specs.declared.Passed.the-variants.{To}
+use Rattle.hatch_format.specs.declared.GradientColorBits.{GradientColorBits}
+use Rattle.hatch_format.specs.Counts.{times}
+use Rattle.hatch_format.specs.Gradients.{color}
+use Rattle.hatch.specs.Fronts.{blockOf}
+use Rattle.hatch.specs.declared.fills.BlockHead.{BlockHead}
+use Rattle.hatch.proofs.FrontLaws.{count-capped, block-no, block-stop, block-done, colors-got, colors-no, blockFrom}
 use borrow.Author.Needs.{needs}
 use Rattle.hatch.proofs.fills.read_block.Statement.{statement}
 use Rattle.hatch.proofs.fills.read_block.Tie as tie
@@ -7,49 +20,45 @@ use Rattle.hatch.proofs.fills.read_block_head.Reads as read-block-head-
 use Rattle.hatch.proofs.fills.read_colors.Reads as read-colors-reads
 use Rattle.hatch.proofs.fills.refused_block.Reads as refused-block-reads
 
--- src/fills.rt:145:9
 read-block-head-requires : tie.Need-read-block-head-requires
 read-block-head-requires c κs = search needs
 
--- src/fills.rt:148:21
 enum-known-count : tie.Need-enum-known-count
 enum-known-count c = search needs
 
--- src/fills.rt:149:17
 read-colors-requires : tie.Need-read-colors-requires
-read-colors-requires c κs = ?
+read-colors-requires c κs = ((c .before .before .before .before .before .pre) .0, omega (arith, (c .before .before .before .before .before .pre) .1, count-capped (now ((c .before .before .before .before .before .args) .s)) ((c .before .before .before .before .before .args) .cap) ((c .before .before .before .before .before .args) .at) ((c .before .before .before .read-block-head) .ensures) ((c .before .count) .given .1)))
 
--- src/fills.rt:152:28
 enum-known-last : tie.Need-enum-known-last
 enum-known-last c = search needs
 
--- src/fills.rt:165:33
 enum-known-last-2 : tie.Need-enum-known-last-2
 enum-known-last-2 c = search needs
 
--- src/fills.rt:165:42
 refused-block-requires : tie.Need-refused-block-requires
 refused-block-requires c κs = search needs
 
--- src/fills.rt:168:23
 enum-known-count-2 : tie.Need-enum-known-count-2
 enum-known-count-2 c = search needs
 
--- src/fills.rt:168:32
 refused-block-requires-2 : tie.Need-refused-block-requires-2
 refused-block-requires-2 c κs = search needs
 
--- src/fills.rt:141:1
 returns : tie.Need-returns
-returns c = ?
+returns c =
+    let s = now ((c .before .before .before .before .before .before .before .before .before .before .args) .s) in
+    let t = colors-got ((times ((c .before .before .before .before .before .before .count) .given .0 .0) color) .read s ((c .before .before .before .before .before .before .count) .given .0 .1 .0)) ((c .before .before .before .before .read-colors) .ensures) ((c .before .before .last) .given .1) in
+    ap (blockFrom ((c .before .before .before .before .before .before .before .before .read-block-head) .result) ((c .before .before .before .before .before .before .count) .given .0 .0) ((c .before .before .last) .given .0 .0)) (t .2)
+    ∙ block-done s ((c .before .before .before .before .before .before .before .before .before .before .args) .cap) ((c .before .before .before .before .before .before .before .before .before .before .args) .at) ((c .before .before .before .before .before .before .before .before .read-block-head) .ensures) ((c .before .before .before .before .before .before .count) .given .1) (t .1)
 
--- src/fills.rt:141:1
 returns-2 : tie.Need-returns-2
-returns-2 c = ?
+returns-2 c =
+    let s = now ((c .before .before .before .before .before .before .before .before .before .before .args) .s) in
+    let t = colors-no ((times ((c .before .before .before .before .before .before .count) .given .0 .0) color) .read s ((c .before .before .before .before .before .before .count) .given .0 .1 .0)) ((c .before .before .before .before .read-colors) .ensures) ((c .before .before .last2) .given .1) in
+    (c .refused-block) .ensures ∙ sym (ap blockOf (block-stop s ((c .before .before .before .before .before .before .before .before .before .before .args) .cap) ((c .before .before .before .before .before .before .before .before .before .before .args) .at) ((c .before .before .before .before .before .before .before .before .read-block-head) .ensures) ((c .before .before .before .before .before .before .count) .given .1) t))
 
--- src/fills.rt:141:1
 returns-3 : tie.Need-returns-3
-returns-3 c = ?
+returns-3 c = (c .refused-block2) .ensures ∙ sym (ap blockOf (block-no (now ((c .before .before .before .before .before .before .args) .s)) ((c .before .before .before .before .before .before .args) .cap) ((c .before .before .before .before .before .before .args) .at) ((c .before .before .before .before .read-block-head) .ensures) ((c .before .before .count2) .given .1)))
 
 pub read-block-spec : {M : Type 1} → statement M
 read-block-spec =

@@ -1,3 +1,13 @@
+-- The gradient, then the plane and the name; a refusal clears what was read before it.
+use mathlib.Core.Path.{_≡_, refl, sym, ap, ap₂, subst, _∙_}
+use denote.Ref.{now}
+use Prim.Native.Nat.{ℕ}
+use lib.Dec.{leb}
+use Rattle.text.specs.Answers.{payloads, placesOf}
+use Rattle.text.specs.Releases.{releaseNumber}
+use Rattle.hatch_format.specs.Gradients.{gradient}
+use Rattle.hatch.specs.Fronts.{named, frontOf, joinedOf}
+use Rattle.hatch.proofs.FrontJoins.{front-no, front-on, joined-done, joined-none}
 use borrow.Author.Needs.{needs}
 use Rattle.hatch.proofs.fronts.read_front.Statement.{statement}
 use Rattle.hatch.proofs.fronts.read_front.Tie as tie
@@ -9,65 +19,69 @@ use Rattle.hatch.proofs.fronts.read_named.Reads as read-named-reads
 use Rattle.hatch.proofs.fronts.refused_named.Reads as refused-named-reads
 use Rattle.hatch.proofs.record.zero_fill.Reads as zero-fill-reads
 
--- src/fronts.rt:239:9
 decode-gradient-requires : tie.Need-decode-gradient-requires
 decode-gradient-requires c κs = search needs
 
--- src/fronts.rt:242:21
 enum-known-ended : tie.Need-enum-known-ended
 enum-known-ended c = search needs
 
--- src/fronts.rt:243:17
 read-named-requires : tie.Need-read-named-requires
 read-named-requires c κs = search needs
 
--- src/fronts.rt:246:35
 enum-told : tie.Need-enum-told
 enum-told c = search needs
 
--- src/fronts.rt:246:35
 joined-requires : tie.Need-joined-requires
 joined-requires c κs = search needs
 
--- src/fronts.rt:247:48
 enum-told-2 : tie.Need-enum-told-2
 enum-told-2 c = search needs
 
--- src/fronts.rt:247:48
 zero-fill-requires : tie.Need-zero-fill-requires
 zero-fill-requires c κs = search needs
 
--- src/fronts.rt:247:41
 joined-requires-2 : tie.Need-joined-requires-2
 joined-requires-2 c κs = search needs
 
--- src/fronts.rt:250:24
 enum-known-ended-2 : tie.Need-enum-known-ended-2
 enum-known-ended-2 c = search needs
 
--- src/fronts.rt:250:40
 zero-fill-requires-2 : tie.Need-zero-fill-requires-2
 zero-fill-requires-2 c κs = search needs
 
--- src/fronts.rt:250:61
 refused-named-requires : tie.Need-refused-named-requires
 refused-named-requires c κs = search needs
 
--- src/fronts.rt:250:33
 joined-requires-3 : tie.Need-joined-requires-3
 joined-requires-3 c κs = search needs
 
--- src/fronts.rt:227:1
 returns : tie.Need-returns
-returns c = ?
+returns c =
+    let γ = (payloads (now ((c .before .before .before .before .before .before .before .before .before .before .args) .main)) (now ((c .before .before .before .before .before .before .before .before .before .before .args) .string)) ((c .before .before .before .before .before .before .before .before .before .before .args) .reader) ((c .before .before .before .before .before .before .before .before .before .before .args) .end)) in
+    let p = placesOf ((c .before .before .before .before .before .before .before .before .before .before .args) .at) in
+    let fill = (gradient ((c .before .before .before .before .before .before .before .before .before .before .args) .caps .colors) ((c .before .before .before .before .before .before .before .before .before .before .args) .v) (leb 3 (releaseNumber ((c .before .before .before .before .before .before .before .before .before .before .args) .v)))) .read γ p in
+    let t = front-on ((c .before .before .before .before .before .before .before .before .before .before .args) .caps) ((c .before .before .before .before .before .before .before .before .before .before .args) .v) γ p fill refl ((c .before .before .before .before .before .before .before .decode-gradient) .ensures) ((c .before .before .before .before .before .ended) .given .1) in
+    (c .joined) .ensures
+    ∙ joined-done (t .value) ((named ((c .before .before .before .before .before .before .before .before .before .before .args) .v)) .read γ (placesOf ((c .before .before .before .before .before .ended) .given .0 .0))) ((c .before .before .before .read-named) .ensures) ((c .before .enum-told) .given .1) (t .fill)
+    ∙ sym (ap frontOf (t .on))
 
--- src/fronts.rt:227:1
 returns-2 : tie.Need-returns-2
-returns-2 c = ?
+returns-2 c =
+    let γ = (payloads (now ((c .before .before .before .before .before .before .before .before .before .before .before .args) .main)) (now ((c .before .before .before .before .before .before .before .before .before .before .before .args) .string)) ((c .before .before .before .before .before .before .before .before .before .before .before .args) .reader) ((c .before .before .before .before .before .before .before .before .before .before .before .args) .end)) in
+    let p = placesOf ((c .before .before .before .before .before .before .before .before .before .before .before .args) .at) in
+    let fill = (gradient ((c .before .before .before .before .before .before .before .before .before .before .before .args) .caps .colors) ((c .before .before .before .before .before .before .before .before .before .before .before .args) .v) (leb 3 (releaseNumber ((c .before .before .before .before .before .before .before .before .before .before .before .args) .v)))) .read γ p in
+    let t = front-on ((c .before .before .before .before .before .before .before .before .before .before .before .args) .caps) ((c .before .before .before .before .before .before .before .before .before .before .before .args) .v) γ p fill refl ((c .before .before .before .before .before .before .before .before .decode-gradient) .ensures) ((c .before .before .before .before .before .before .ended) .given .1) in
+    (c .joined2) .ensures
+    ∙ joined-none (t .value) ((named ((c .before .before .before .before .before .before .before .before .before .before .before .args) .v)) .read γ (placesOf ((c .before .before .before .before .before .before .ended) .given .0 .0))) ((c .before .before .before .before .read-named) .ensures) ((c .before .before .enum-told2) .given .1) ((c .before .zero-fill) .ensures)
+    ∙ sym (ap frontOf (t .on))
 
--- src/fronts.rt:227:1
 returns-3 : tie.Need-returns-3
-returns-3 c = ?
+returns-3 c =
+    let γ = (payloads (now ((c .before .before .before .before .before .before .before .before .before .args) .main)) (now ((c .before .before .before .before .before .before .before .before .before .args) .string)) ((c .before .before .before .before .before .before .before .before .before .args) .reader) ((c .before .before .before .before .before .before .before .before .before .args) .end)) in
+    let p = placesOf ((c .before .before .before .before .before .before .before .before .before .args) .at) in
+    let fill = (gradient ((c .before .before .before .before .before .before .before .before .before .args) .caps .colors) ((c .before .before .before .before .before .before .before .before .before .args) .v) (leb 3 (releaseNumber ((c .before .before .before .before .before .before .before .before .before .args) .v)))) .read γ p in
+    (c .joined3) .ensures ∙ ap₂ joinedOf ((c .before .before .zero-fill2) .ensures) ((c .before .refused-named) .ensures)
+    ∙ sym (ap frontOf (front-no ((c .before .before .before .before .before .before .before .before .before .args) .caps) ((c .before .before .before .before .before .before .before .before .before .args) .v) γ p fill refl ((c .before .before .before .before .before .before .decode-gradient) .ensures) ((c .before .before .before .before .ended2) .given .1)))
 
 pub read-front-spec : {M : Type 1} → statement M
 read-front-spec =

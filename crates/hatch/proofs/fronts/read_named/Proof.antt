@@ -1,3 +1,14 @@
+-- The plane, and the name where the plane ends; either refuses for both.
+use mathlib.Core.Path.{_≡_, refl, sym, ap, ap₂, subst, _∙_}
+use denote.Ref.{now}
+use Prim.Native.Nat.{ℕ}
+use Rattle.text.specs.Answers.{payloads, placesOf}
+use Rattle.text.specs.TextField.{TV-field}
+use Rattle.bitcursor.specs.Fields.{main, movedIn}
+use Rattle.hatch_format.specs.Hatch.{plane}
+use Rattle.hatch_format.specs.Values.{Plane}
+use Rattle.hatch.specs.Fronts.{naming, planeOf, namedOf}
+use Rattle.hatch.proofs.FrontJoins.{texted-no, texted-done, texted-stop, named-texted, plane-got, plane-none, field-got, field-none, namedFrom}
 use borrow.Author.Needs.{needs}
 use Rattle.hatch.proofs.fronts.read_named.Statement.{statement}
 use Rattle.hatch.proofs.fronts.read_named.Tie as tie
@@ -7,49 +18,53 @@ use Rattle.hatch.proofs.fronts.read_plane.Reads as read-plane-reads
 use Rattle.hatch.proofs.fronts.refused_named.Reads as refused-named-reads
 use Rattle.text.proofs.within.read_tv_field.Reads as read-tv-field-reads
 
--- src/fronts.rt:189:9
 read-plane-requires : tie.Need-read-plane-requires
 read-plane-requires c κs = search needs
 
--- src/fronts.rt:192:20
 enum-known-last : tie.Need-enum-known-last
 enum-known-last c = search needs
 
--- src/fronts.rt:193:19
 read-tv-field-requires : tie.Need-read-tv-field-requires
 read-tv-field-requires c κs = search needs
 
--- src/fronts.rt:194:34
 enum-known-name : tie.Need-enum-known-name
 enum-known-name c = search needs
 
--- src/fronts.rt:202:36
 enum-known-k : tie.Need-enum-known-k
 enum-known-k c = search needs
 
--- src/fronts.rt:202:45
 refused-named-requires : tie.Need-refused-named-requires
 refused-named-requires c κs = search needs
 
--- src/fronts.rt:205:25
 enum-known-last-2 : tie.Need-enum-known-last-2
 enum-known-last-2 c = search needs
 
--- src/fronts.rt:205:34
 refused-named-requires-2 : tie.Need-refused-named-requires-2
 refused-named-requires-2 c κs = search needs
 
--- src/fronts.rt:177:1
 returns : tie.Need-returns
-returns c = ?
+returns c =
+    let γ = (payloads (now ((c .before .before .before .before .before .before .before .before .before .before .args) .main)) (now ((c .before .before .before .before .before .before .before .before .before .before .args) .string)) ((c .before .before .before .before .before .before .before .before .before .before .args) .reader) ((c .before .before .before .before .before .before .before .before .before .before .args) .end)) in
+    let p = placesOf ((c .before .before .before .before .before .before .before .before .before .before .args) .at) in
+    let t = plane-got (plane .read (γ .main) (p .main)) ((c .before .before .before .before .before .before .before .read-plane) .ensures) ((c .before .before .before .before .before .last) .given .1) in
+    let f = field-got ((TV-field ((c .before .before .before .before .before .before .before .before .before .before .args) .v)) .read γ (movedIn main p ((c .before .before .before .before .before .last) .given .0 .0))) ((c .before .before .before .read-tv-field) .ensures) ((c .before .name) .given .1) in
+    ap (namedFrom ((c .before .name) .given .0 .0) ((c .before .name) .given .0 .1 .0)) ((c .before .before .before .before .before .before .before .read-plane) .ensures ∙ ap planeOf (t .1))
+    ∙ sym (ap namedOf (named-texted ((c .before .before .before .before .before .before .before .before .before .before .args) .v) γ p ∙ texted-done plane ((c .before .before .before .before .before .before .before .before .before .before .args) .v) naming γ p (t .1) f))
 
--- src/fronts.rt:177:1
 returns-2 : tie.Need-returns-2
-returns-2 c = ?
+returns-2 c =
+    let γ = (payloads (now ((c .before .before .before .before .before .before .before .before .before .before .before .args) .main)) (now ((c .before .before .before .before .before .before .before .before .before .before .before .args) .string)) ((c .before .before .before .before .before .before .before .before .before .before .before .args) .reader) ((c .before .before .before .before .before .before .before .before .before .before .before .args) .end)) in
+    let p = placesOf ((c .before .before .before .before .before .before .before .before .before .before .before .args) .at) in
+    let t = plane-got (plane .read (γ .main) (p .main)) ((c .before .before .before .before .before .before .before .before .read-plane) .ensures) ((c .before .before .before .before .before .before .last) .given .1) in
+    let f = field-none ((TV-field ((c .before .before .before .before .before .before .before .before .before .before .before .args) .v)) .read γ (movedIn main p ((c .before .before .before .before .before .before .last) .given .0 .0))) ((c .before .before .before .before .read-tv-field) .ensures) ((c .before .before .k) .given .1) in
+    (c .refused-named) .ensures ∙ sym (ap namedOf (named-texted ((c .before .before .before .before .before .before .before .before .before .before .before .args) .v) γ p ∙ texted-stop plane ((c .before .before .before .before .before .before .before .before .before .before .before .args) .v) naming γ p (t .1) f))
 
--- src/fronts.rt:177:1
 returns-3 : tie.Need-returns-3
-returns-3 c = ?
+returns-3 c =
+    let γ = (payloads (now ((c .before .before .before .before .before .before .before .args) .main)) (now ((c .before .before .before .before .before .before .before .args) .string)) ((c .before .before .before .before .before .before .before .args) .reader) ((c .before .before .before .before .before .before .before .args) .end)) in
+    let p = placesOf ((c .before .before .before .before .before .before .before .args) .at) in
+    let t = plane-none (plane .read (γ .main) (p .main)) ((c .before .before .before .before .read-plane) .ensures) ((c .before .before .last2) .given .1) in
+    (c .refused-named2) .ensures ∙ sym (ap namedOf (named-texted ((c .before .before .before .before .before .before .before .args) .v) γ p ∙ texted-no plane ((c .before .before .before .before .before .before .before .args) .v) naming γ p t))
 
 pub read-named-spec : {M : Type 1} → statement M
 read-named-spec =

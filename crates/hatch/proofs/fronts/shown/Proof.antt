@@ -1,3 +1,7 @@
+-- The test of the flag is the definition's.
+use mathlib.Core.Path.{_≡_, refl, sym, ap, ap₂, subst, _∙_}
+use denote.Ref.{now}
+use Rattle.hatch.proofs.FrontLaws.{shown-none, shown-all}
 use borrow.Author.Needs.{needs}
 use Rattle.hatch.proofs.fronts.shown.Statement.{statement}
 use Rattle.hatch.proofs.fronts.shown.Tie as tie
@@ -5,21 +9,17 @@ use Rattle.hatch.proofs.fronts.shown.Reads as reads
 use Rattle.hatch.proofs.fronts.shown.Lts as lts
 use Rattle.hatch.proofs.record.zero_fill.Reads as zero-fill-reads
 
--- src/fronts.rt:101:9
 zero-fill-requires : tie.Need-zero-fill-requires
 zero-fill-requires c κs = search needs
 
--- src/fronts.rt:101:9
 returns : tie.Need-returns
-returns c = ?
+returns c = (c .zero-fill) .ensures ∙ sym (shown-none ((c .before .before .before .args) .b) ((c .before .before .before .args) .name) ((c .before .if1) .taken))
 
--- src/fronts.rt:108:26
 cast-t5 : tie.Need-cast-t5
 cast-t5 c = search needs
 
--- src/fronts.rt:96:1
 returns-2 : tie.Need-returns-2
-returns-2 c = ?
+returns-2 c = sym (shown-all ((c .before .before .before .before .args) .b) ((c .before .before .before .before .args) .name) ((c .before .before .if1) .left))
 
 pub shown-spec : {M : Type 1} → statement M
 shown-spec = tie.close (tie.spec zero-fill-requires returns cast-t5 returns-2)
