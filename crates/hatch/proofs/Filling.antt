@@ -1,7 +1,7 @@
 -- Sixteen colours, filled from the front: what is made so far, and the same value in every place behind it. Assumes nothing.
 use mathlib.Core.Path.{_≡_, refl, sym, ap, _∙_}
 use mathlib.Core.List.{List, [], _∷_, _++_, append-nil}
-use Prim.Native.Nat.{ℕ, zero, suc, _+_, _-_, _<_, _≤_}
+use Prim.Native.Nat.{ℕ, suc, _+_, _-_, _<_, _≤_}
 use native.Mathlib.Omega.{arith}
 use lib.ListN.{length, set, take, getD, replicate, length-append, length-replicate}
 use lib.Seq.{set-at, append-snoc, take-suc, take-all, length-take-le}

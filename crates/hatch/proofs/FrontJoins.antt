@@ -9,9 +9,9 @@ use Rattle.bitcursor.specs.declared.Refusal.{Refusal}
 use Rattle.bitcursor.specs.declared.Passed.the-variants.{To, Refused as Stopped}
 use Rattle.bitcursor.specs.Reading.{Out, got, refused, andThen}
 use Rattle.bitcursor.specs.Ranges.{BL-below}
-use Rattle.bitcursor.specs.Format.{Format, pure, _>>=_, relay, then-got, then-refused}
+use Rattle.bitcursor.specs.Format.{Format, pure, _>>=_, relay}
 use Rattle.bitcursor.specs.Inputs.{one, both, Places, Payloads}
-use Rattle.bitcursor.specs.Fields.{main, within, lifted, movedIn}
+use Rattle.bitcursor.specs.Fields.{main, within, movedIn}
 use Rattle.text.specs.declared.Text.{Text}
 use Rattle.text.specs.declared.Places.{Places as CodePlaces}
 use Rattle.text.specs.declared.ReadField.{ReadField}
@@ -32,8 +32,11 @@ use Rattle.hatch.specs.declared.fronts.Ended.the-variants.{Done, Refused
 use Rattle.hatch.specs.declared.fronts.Plane.{Plane as PlaneRead}
 use Rattle.hatch.specs.declared.fronts.Gradient.{Gradient as GradientRead}
 use Rattle.hatch.specs.declared.fronts.Named.{Named as NamedRead}
-use Rattle.hatch.specs.declared.fronts.Front.{Front as FrontRead}
-use Rattle.hatch.specs.Fronts.{Named, naming, named, Front, fronting, front, blockOf, planeOf, gradientOf, namedOf, frontOf, joinedOf}
+use Rattle.hatch.specs.Fronts.{Named, naming, named, fronting, front, blockOf, planeOf, gradientOf, namedOf, frontOf, shownRead, joinedOf}
+use Rattle.hatch.proofs.FrontLaws.{shown-fill}
+
+abbrev pub gradientWith : Ended → GradientFillBits → GradientRead
+gradientWith last fill = record { fill = fill; last = last }
 
 -- ---- a part of the main payload, and a text field
 module _ {A B : Type 0} (f : Format one A) (v : Version) (g : A → Text → B) (γ : Payloads) (p : Places) where
@@ -48,15 +51,15 @@ module _ {A B : Type 0} (f : Format one A) (v : Version) (g : A → Text → B) 
   texted-no e = rw e
 
   module _ {a : A} {n : ℕ} (e : f .read (γ .main) (p .main) ≡ got a n) where
-    on : texted .read γ p ≡ andThen ((TV-field v) .read γ (movedIn main p n)) (λ t q. got (g a t) q)
+    pub texted-on : texted .read γ p ≡ andThen ((TV-field v) .read γ (movedIn main p n)) (λ t q. got (g a t) q)
     unfolding texted within _>>=_ pure
-    on = rw e
+    texted-on = rw e
 
     pub texted-done : {t : Text} {q : Places} → (TV-field v) .read γ (movedIn main p n) ≡ got t q → texted .read γ p ≡ got (g a t) q
-    texted-done i = on ∙ ap (λ (o : Out Places Text). andThen o (λ t q. got (g a t) q)) i
+    texted-done i = texted-on ∙ ap (λ (o : Out Places Text). andThen o (λ t q. got (g a t) q)) i
 
     pub texted-stop : {k : Refusal} {q : Places} → (TV-field v) .read γ (movedIn main p n) ≡ refused k q → texted .read γ p ≡ refused k q
-    texted-stop i = on ∙ ap (λ (o : Out Places Text). andThen o (λ t q. got (g a t) q)) i
+    texted-stop i = texted-on ∙ ap (λ (o : Out Places Text). andThen o (λ t q. got (g a t) q)) i
 
 module _ (v : Version) (γ : Payloads) (p : Places) where
   -- the plane and the name
@@ -122,6 +125,10 @@ field-none (refused j q) {x} {k} {p} e h =
     let ep : asPlaces q ≡ p = cc in
     ap₂ refused ek (ap placesOf ep)
 
+pub shown-read : (b : BlockRead) (a : Block) (n : ℕ) → b ≡ blockOf (got a n) → (o : Out Places Text) → shownRead b o ≡ gradientOf (andThen o (λ t q. got (shown a t) q))
+shown-read b a n e (got t q) = ap (gradientWith (Done (asPlaces q))) (shown-fill b t a n e)
+shown-read b a n e (refused k q) = refl
+
 -- ---- the front's two parts
 module _ (caps : Caps) (v : Version) (γ : Payloads) (p : Places) where
   abbrev fillRead : Out Places Gradient
@@ -168,9 +175,6 @@ module _ (a : Gradient) (o : Out Places Named) {x : NamedRead} {fill : GradientF
       go : (o : Out Places Named) → x ≡ namedOf o → joinedOf (fillOf no-gradient) (namedOf o) ≡ frontOf (andThen o (λ n r. got (fronting a n) r))
       go (got n r) e = let z : _≡_ {A = ℕ} 0 1 = cc in absurd (omega arith)
       go (refused j r) e = refl
-
-abbrev pub gradientWith : Ended → GradientFillBits → GradientRead
-gradientWith last fill = record { fill = fill; last = last }
 
 abbrev pub namedFrom : Text → CodePlaces → PlaneRead → NamedRead
 namedFrom name p a = record { elevation = a .elevation; x = a .x; y = a .y; z = a .z; name = name; last = Done p }

@@ -1,22 +1,21 @@
 -- Rows of fields of a body's front: what their last answer tells of the format. Assumes nothing.
-use mathlib.Core.Path.{_≡_, refl, sym, ap, ap₂, subst, _∙_}
+use mathlib.Core.Path.{_≡_, refl, sym, ap, ap₂, _∙_}
 use mathlib.Core.Bool.{Bool, true, false}
 use mathlib.Core.List.{List, [], _∷_, _++_}
-use Prim.Native.Nat.{ℕ, zero, suc, _+_, _-_, _^_, _≤_, _<_}
+use Prim.Native.Nat.{ℕ, suc, _+_, _-_, _≤_, _<_}
 use native.Mathlib.Omega.{arith}
 use lib.IntN.{ℤ}
 use lib.Dec.{eqb}
 use borrow.Author.Tests.{eq-eqb, ne-eqb}
-use lib.ListN.{length, set, replicate}
+use lib.ListN.{set, replicate}
 use Rattle.bitcursor.specs.declared.Refusal.{Refusal}
 use Rattle.bitcursor.specs.declared.Read.{Read}
 use Rattle.bitcursor.specs.declared.Read.the-variants.{Value, Refused}
 use Rattle.bitcursor.specs.declared.Passed.the-variants.{To, Refused as Stopped}
-use Rattle.bitcursor.specs.Reading.{Out, got, refused, andThen, never}
-use Rattle.bitcursor.specs.Code.{Code, _>>=_ as _then_, give, mapped, tabled}
+use Rattle.bitcursor.specs.Reading.{Out, got, refused, andThen}
+use Rattle.bitcursor.specs.Code.{_>>=_ as _then_, give, mapped, tabled}
 use Rattle.bitcursor.specs.Codes.{BS, BL, RC, signed, signed-BS}
 use Rattle.bitcursor.specs.Doubles.{BD}
-use Rattle.bitcursor.specs.Ranges.{BL-below}
 use Rattle.bitcursor.specs.Answers.{asRead}
 use Rattle.bitcursor.specs.Sequence.{thenRead, valueOf}
 use Rattle.bitcursor.specs.Format.{Format, pure, _>>=_, relay}

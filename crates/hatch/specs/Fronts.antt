@@ -1,7 +1,7 @@
 -- The fields of a body up to its pattern's name, and what the functions that read them answer: zero throughout with a refusal.
 -- Assumes nothing.
 use mathlib.Core.Path.{_≡_, refl}
-use mathlib.Core.Bool.{Bool, true, false}
+use mathlib.Core.Bool.{true, false}
 use mathlib.Core.List.{List, []}
 use Prim.Native.Nat.{ℕ}
 use lib.Dec.{leb, eqb}
@@ -19,7 +19,7 @@ use Rattle.text.specs.TextField.{TV-field}
 use Rattle.hatch_format.specs.declared.Caps.{Caps}
 use Rattle.hatch_format.specs.declared.GradientColorBits.{GradientColorBits}
 use Rattle.hatch_format.specs.declared.GradientFillBits.{GradientFillBits}
-use Rattle.hatch_format.specs.Values.{Block, Gradient, Plane, Rest, Body, no-text, no-gradient}
+use Rattle.hatch_format.specs.Values.{Block, Gradient, Plane, Body, no-text, no-gradient}
 use Rattle.hatch_format.specs.Patterns.{rest}
 use Rattle.hatch_format.specs.Gradients.{gradient}
 use Rattle.hatch_format.specs.Hatch.{plane, hatch-read, hatch}
@@ -28,7 +28,6 @@ use Rattle.hatch.specs.declared.fills.ColorRead.{ColorRead}
 use Rattle.hatch.specs.declared.fills.ColorRead.the-variants.{Done as DoneColor, Refused as RefusedColor}
 use Rattle.hatch.specs.declared.fills.Colors.{Colors}
 use Rattle.hatch.specs.declared.fills.Block.{Block as BlockRead}
-use Rattle.hatch.specs.declared.fronts.Ended.{Ended}
 use Rattle.hatch.specs.declared.fronts.Ended.the-variants.{Done, Refused}
 use Rattle.hatch.specs.declared.fronts.Plane.{Plane as PlaneRead}
 use Rattle.hatch.specs.declared.fronts.Gradient.{Gradient as GradientRead}
@@ -162,6 +161,11 @@ shownOf b name =
             name = name;
           }
     ]
+
+-- a block that was read, and what its name's reading gives
+abbrev pub shownRead : BlockRead → Out Places Text → GradientRead
+shownRead b (got name p) = record { fill = shownOf b name; last = Done (asPlaces p) }
+shownRead b (refused k p) = record { fill = fillOf no-gradient; last = Refused k (asPlaces p) }
 
 -- a gradient, and the plane and the name behind it, with their last answer
 abbrev pub joinedOf : GradientFillBits → NamedRead → FrontRead

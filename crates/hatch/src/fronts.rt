@@ -7,9 +7,10 @@ ghost use Rattle.bitcursor.specs.Answers.{limit};
 ghost use Rattle.bitcursor.specs.Reading.{refused};
 ghost use Rattle.text.specs.Answers.{payloads, placesOf};
 ghost use Rattle.text.specs.Releases.{releaseNumber};
+ghost use Rattle.text.specs.TextField.{TV-field};
 ghost use Rattle.hatch_format.specs.Gradients.{gradient};
 ghost use Rattle.hatch_format.specs.Hatch.{plane};
-ghost use Rattle.hatch.specs.Fronts.{named, front, planeOf, gradientOf, namedOf, frontOf, shownOf, joinedOf};
+ghost use Rattle.hatch.specs.Fronts.{named, front, planeOf, gradientOf, namedOf, frontOf, shownOf, shownRead, joinedOf};
 use crate::fills;
 use crate::fills::Block;
 use crate::record;
@@ -113,6 +114,31 @@ fn shown(b: Block, name: Text) -> GradientFillBits
     }
 }
 
+// The name behind a block; then the block's flag decides what is handed over.
+fn read_gradient_name(
+    block: Block,
+    main: &[u8],
+    string: &[u8],
+    at: Places,
+    reader: bool,
+    end: usize,
+    v: Version,
+) -> Gradient
+    requires { ⌜ (length (now main) ≤ limit) × ((length (now string) ≤ limit) × (block .«single_color» < 2 ^ 32)) ⌝ }
+    ensures { λ r. ⌜ r ≡ shownRead block ((TV-field v) .read (payloads (now (main .entry)) (now (string .entry)) reader end) (placesOf at)) ⌝ }
+{
+    match text::within::read_tv_field(main, string, at, reader, end, v) {
+        ReadField::Found(name, p) => Gradient {
+            fill: shown(block, name),
+            last: Ended::Done(p),
+        },
+        ReadField::Refused(k, p) => Gradient {
+            fill: record::zero_fill(),
+            last: Ended::Refused(k, p),
+        },
+    }
+}
+
 // The gradient: its block and its name are read with flag 0 too; releases 1 and 2 have neither.
 fn decode_gradient(
     main: &[u8],
@@ -137,23 +163,15 @@ fn decode_gradient(
     let last = block.last;
     match last {
         Passed::To(p) => {
-            match text::within::read_tv_field(
+            read_gradient_name(
+                block,
                 main,
                 string,
                 Places { main: p, string: q },
                 reader,
                 end,
                 v,
-            ) {
-                ReadField::Found(name, r) => Gradient {
-                    fill: shown(block, name),
-                    last: Ended::Done(r),
-                },
-                ReadField::Refused(k, r) => Gradient {
-                    fill: record::zero_fill(),
-                    last: Ended::Refused(k, r),
-                },
-            }
+            )
         }
         Passed::Refused(k, p) => Gradient {
             fill: record::zero_fill(),

@@ -1,9 +1,8 @@
 // The record of a refused call, which is zero but for its places, and a record's bits as the doubles that they are.
 ghost use mathlib.Core.Path.{_≡_};
-ghost use lib.ListN.{length};
 ghost use Rattle.text.specs.Answers.{placesOf};
 ghost use Rattle.hatch_format.specs.Values.{no-gradient};
-ghost use Rattle.hatch_format.specs.Record.{zeroColor, fillOf, zeroRecord, double, colorAsDoubles, colorsAsDoubles, fillAsDoubles, asDoubles};
+ghost use Rattle.hatch_format.specs.Record.{zeroColor, fillOf, zeroRecord, colorAsDoubles, colorsAsDoubles, fillAsDoubles, asDoubles};
 use bitcursor::values;
 use hatch_format::GradientColor;
 use hatch_format::GradientColorBits;

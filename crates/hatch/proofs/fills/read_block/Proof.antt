@@ -1,24 +1,14 @@
 -- The count is at most the cap, so at most 16; the colours behind it decide.
-use mathlib.Core.Path.{_≡_, refl, sym, ap, ap₂, subst, _∙_}
+use mathlib.Core.Path.{sym, ap, _∙_}
 use denote.Ref.{now}
-use mathlib.Core.List.{List}
-use Prim.Native.Nat.{ℕ, _≤_}
 use native.Mathlib.Omega.{arith}
-use Rattle.bitcursor.specs.declared.Passed.the-variants.{To}
-use Rattle.hatch_format.specs.declared.GradientColorBits.{GradientColorBits}
 use Rattle.hatch_format.specs.Counts.{times}
 use Rattle.hatch_format.specs.Gradients.{color}
 use Rattle.hatch.specs.Fronts.{blockOf}
-use Rattle.hatch.specs.declared.fills.BlockHead.{BlockHead}
 use Rattle.hatch.proofs.FrontLaws.{count-capped, block-no, block-stop, block-done, colors-got, colors-no, blockFrom}
 use borrow.Author.Needs.{needs}
 use Rattle.hatch.proofs.fills.read_block.Statement.{statement}
 use Rattle.hatch.proofs.fills.read_block.Tie as tie
-use Rattle.hatch.proofs.fills.read_block.Reads as reads
-use Rattle.hatch.proofs.fills.read_block.Lts as lts
-use Rattle.hatch.proofs.fills.read_block_head.Reads as read-block-head-reads
-use Rattle.hatch.proofs.fills.read_colors.Reads as read-colors-reads
-use Rattle.hatch.proofs.fills.refused_block.Reads as refused-block-reads
 
 read-block-head-requires : tie.Need-read-block-head-requires
 read-block-head-requires c κs = search needs

@@ -4,13 +4,6 @@ use Rattle.hatch.specs.Rows.{blockHead}
 use borrow.Author.Needs.{needs}
 use Rattle.hatch.proofs.fills.read_block_head.Statement.{statement}
 use Rattle.hatch.proofs.fills.read_block_head.Tie as tie
-use Rattle.hatch.proofs.fills.read_block_head.Reads as reads
-use Rattle.hatch.proofs.fills.read_block_head.Lts as lts
-use Rattle.bitcursor.proofs.sequence.then_bd_bits.Reads as then-bd-bits-reads
-use Rattle.bitcursor.proofs.sequence.then_bl.Reads as then-bl-reads
-use Rattle.bitcursor.proofs.sequence.value_of.Reads as value-of-reads
-use Rattle.bitcursor.proofs.within.read_bl_u.Reads as read-bl-u-reads
-use Rattle.hatch.proofs.counts.then_count.Reads as then-count-reads
 
 read-bl-u-requires : tie.Need-read-bl-u-requires
 read-bl-u-requires c κs = search needs

@@ -1,5 +1,5 @@
 -- Each field goes on from the one before it, and the last answer decides.
-use mathlib.Core.Path.{_≡_, refl, sym, ap, subst, _∙_}
+use mathlib.Core.Path.{sym, ap, subst, _∙_}
 use mathlib.Core.Bool.{true}
 use Prim.Native.Nat.{ℕ, _^_, _<_}
 use native.Mathlib.Omega.{arith}
@@ -17,14 +17,6 @@ use Rattle.hatch.proofs.FrontLaws.{colorWith, color-row, row-done, row-
 use borrow.Author.Needs.{needs}
 use Rattle.hatch.proofs.fills.read_color.Statement.{statement}
 use Rattle.hatch.proofs.fills.read_color.Tie as tie
-use Rattle.hatch.proofs.fills.read_color.Reads as reads
-use Rattle.hatch.proofs.fills.read_color.Lts as lts
-use Rattle.bitcursor.proofs.sequence.then_bl.Reads as then-bl-reads
-use Rattle.bitcursor.proofs.sequence.then_bs.Reads as then-bs-reads
-use Rattle.bitcursor.proofs.sequence.then_low.Reads as then-low-reads
-use Rattle.bitcursor.proofs.sequence.value_of.Reads as value-of-reads
-use Rattle.bitcursor.proofs.values.short_of.Reads as short-of-reads
-use Rattle.bitcursor.proofs.within.read_bd_bits.Reads as read-bd-bits-reads
 
 read-bd-bits-requires : tie.Need-read-bd-bits-requires
 read-bd-bits-requires c κs = search needs

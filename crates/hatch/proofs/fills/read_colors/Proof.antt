@@ -1,11 +1,9 @@
 -- Each turn reads one colour more, or refuses for the whole.
-use mathlib.Core.Path.{_≡_, refl, sym, ap, subst, _∙_}
-use mathlib.Core.List.{List}
-use Prim.Native.Nat.{ℕ, _-_, _≤_, _<_}
+use mathlib.Core.Path.{sym, ap, subst, _∙_}
+use Prim.Native.Nat.{_-_, _≤_}
 use native.Mathlib.Omega.{arith}
 use denote.Ref.{now}
 use lib.ListN.{replicate}
-use Rattle.bitcursor.specs.declared.Passed.the-variants.{To}
 use Rattle.hatch_format.specs.declared.GradientColorBits.{GradientColorBits}
 use Rattle.hatch_format.specs.Gradients.{color}
 use Rattle.hatch.specs.Fronts.{colorsOf}
@@ -13,10 +11,6 @@ use Rattle.hatch.proofs.FrontLaws.{SoFar, colors-start, colors-more, co
 use borrow.Author.Needs.{needs}
 use Rattle.hatch.proofs.fills.read_colors.Statement.{statement}
 use Rattle.hatch.proofs.fills.read_colors.Tie as tie
-use Rattle.hatch.proofs.fills.read_colors.Reads as reads
-use Rattle.hatch.proofs.fills.read_colors.Lts as lts
-use Rattle.hatch.proofs.fills.read_color.Reads as read-color-reads
-use Rattle.hatch.proofs.record.zero_color.Reads as zero-color-reads
 
 abbrev Inv-loop : tie.InvT-loop
 Inv-loop s at n zero colors₀ p₀ i₀ colors p i = (i ≤ n) × SoFar s at i p colors

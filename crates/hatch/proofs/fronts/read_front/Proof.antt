@@ -1,7 +1,6 @@
 -- The gradient, then the plane and the name; a refusal clears what was read before it.
-use mathlib.Core.Path.{_≡_, refl, sym, ap, ap₂, subst, _∙_}
+use mathlib.Core.Path.{refl, sym, ap, ap₂, _∙_}
 use denote.Ref.{now}
-use Prim.Native.Nat.{ℕ}
 use lib.Dec.{leb}
 use Rattle.text.specs.Answers.{payloads, placesOf}
 use Rattle.text.specs.Releases.{releaseNumber}
@@ -11,13 +10,6 @@ use Rattle.hatch.proofs.FrontJoins.{front-no, front-on, joined-done, jo
 use borrow.Author.Needs.{needs}
 use Rattle.hatch.proofs.fronts.read_front.Statement.{statement}
 use Rattle.hatch.proofs.fronts.read_front.Tie as tie
-use Rattle.hatch.proofs.fronts.read_front.Reads as reads
-use Rattle.hatch.proofs.fronts.read_front.Lts as lts
-use Rattle.hatch.proofs.fronts.decode_gradient.Reads as decode-gradient-reads
-use Rattle.hatch.proofs.fronts.joined.Reads as joined-reads
-use Rattle.hatch.proofs.fronts.read_named.Reads as read-named-reads
-use Rattle.hatch.proofs.fronts.refused_named.Reads as refused-named-reads
-use Rattle.hatch.proofs.record.zero_fill.Reads as zero-fill-reads
 
 decode-gradient-requires : tie.Need-decode-gradient-requires
 decode-gradient-requires c κs = search needs

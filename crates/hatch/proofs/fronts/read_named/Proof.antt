@@ -1,22 +1,15 @@
 -- The plane, and the name where the plane ends; either refuses for both.
-use mathlib.Core.Path.{_≡_, refl, sym, ap, ap₂, subst, _∙_}
+use mathlib.Core.Path.{sym, ap, _∙_}
 use denote.Ref.{now}
-use Prim.Native.Nat.{ℕ}
 use Rattle.text.specs.Answers.{payloads, placesOf}
 use Rattle.text.specs.TextField.{TV-field}
 use Rattle.bitcursor.specs.Fields.{main, movedIn}
 use Rattle.hatch_format.specs.Hatch.{plane}
-use Rattle.hatch_format.specs.Values.{Plane}
 use Rattle.hatch.specs.Fronts.{naming, planeOf, namedOf}
 use Rattle.hatch.proofs.FrontJoins.{texted-no, texted-done, texted-stop, named-texted, plane-got, plane-none, field-got, field-none, namedFrom}
 use borrow.Author.Needs.{needs}
 use Rattle.hatch.proofs.fronts.read_named.Statement.{statement}
 use Rattle.hatch.proofs.fronts.read_named.Tie as tie
-use Rattle.hatch.proofs.fronts.read_named.Reads as reads
-use Rattle.hatch.proofs.fronts.read_named.Lts as lts
-use Rattle.hatch.proofs.fronts.read_plane.Reads as read-plane-reads
-use Rattle.hatch.proofs.fronts.refused_named.Reads as refused-named-reads
-use Rattle.text.proofs.within.read_tv_field.Reads as read-tv-field-reads
 
 read-plane-requires : tie.Need-read-plane-requires
 read-plane-requires c κs = search needs

@@ -1,20 +1,13 @@
 -- Each field goes on from the one before it, and the last answer decides.
-use mathlib.Core.Path.{_≡_, refl, sym, ap, subst, _∙_}
-use Prim.Native.Nat.{ℕ}
+use mathlib.Core.Path.{sym, ap, _∙_}
 use denote.Ref.{now}
 use Rattle.bitcursor.specs.Sequence.{valueOf}
 use Rattle.bitcursor.specs.Format.{pure}
-use Rattle.hatch_format.specs.Values.{Plane}
 use Rattle.hatch.specs.Fronts.{planeOf}
 use Rattle.hatch.proofs.FrontLaws.{planeWith, plane-row, row-done, row-refused}
 use borrow.Author.Needs.{needs}
 use Rattle.hatch.proofs.fronts.read_plane.Statement.{statement}
 use Rattle.hatch.proofs.fronts.read_plane.Tie as tie
-use Rattle.hatch.proofs.fronts.read_plane.Reads as reads
-use Rattle.hatch.proofs.fronts.read_plane.Lts as lts
-use Rattle.bitcursor.proofs.sequence.then_bd_bits.Reads as then-bd-bits-reads
-use Rattle.bitcursor.proofs.sequence.value_of.Reads as value-of-reads
-use Rattle.bitcursor.proofs.within.read_bd_bits.Reads as read-bd-bits-reads
 
 read-bd-bits-requires : tie.Need-read-bd-bits-requires
 read-bd-bits-requires c κs = search needs

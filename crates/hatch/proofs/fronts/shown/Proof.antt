@@ -1,13 +1,9 @@
 -- The test of the flag is the definition's.
-use mathlib.Core.Path.{_≡_, refl, sym, ap, ap₂, subst, _∙_}
-use denote.Ref.{now}
+use mathlib.Core.Path.{sym, _∙_}
 use Rattle.hatch.proofs.FrontLaws.{shown-none, shown-all}
 use borrow.Author.Needs.{needs}
 use Rattle.hatch.proofs.fronts.shown.Statement.{statement}
 use Rattle.hatch.proofs.fronts.shown.Tie as tie
-use Rattle.hatch.proofs.fronts.shown.Reads as reads
-use Rattle.hatch.proofs.fronts.shown.Lts as lts
-use Rattle.hatch.proofs.record.zero_fill.Reads as zero-fill-reads
 
 zero-fill-requires : tie.Need-zero-fill-requires
 zero-fill-requires c κs = search needs

@@ -2,10 +2,6 @@
 use borrow.Author.Needs.{needs}
 use Rattle.hatch.proofs.record.as_doubles.Statement.{statement}
 use Rattle.hatch.proofs.record.as_doubles.Tie as tie
-use Rattle.hatch.proofs.record.as_doubles.Reads as reads
-use Rattle.hatch.proofs.record.as_doubles.Lts as lts
-use Rattle.bitcursor.proofs.values.double_of.Reads as double-of-reads
-use Rattle.hatch.proofs.record.fill_as_doubles.Reads as fill-as-doubles-reads
 
 fill-as-doubles-requires : tie.Need-fill-as-doubles-requires
 fill-as-doubles-requires c κs = search needs

@@ -4,9 +4,6 @@ use mir.ValLaws.{toZ-ofZ}
 use borrow.Author.Needs.{needs}
 use Rattle.hatch.proofs.record.color_as_doubles.Statement.{statement}
 use Rattle.hatch.proofs.record.color_as_doubles.Tie as tie
-use Rattle.hatch.proofs.record.color_as_doubles.Reads as reads
-use Rattle.hatch.proofs.record.color_as_doubles.Lts as lts
-use Rattle.bitcursor.proofs.values.double_of.Reads as double-of-reads
 
 double-of-requires : tie.Need-double-of-requires
 double-of-requires c κs = search needs

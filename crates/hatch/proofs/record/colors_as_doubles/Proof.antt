@@ -1,20 +1,15 @@
 -- Each turn makes one colour more.
-use mathlib.Core.Path.{_≡_, refl, sym, ap, ap₂, _∙_}
+use mathlib.Core.Path.{_≡_, ap, ap₂, _∙_}
 use mathlib.Core.List.{List}
-use Prim.Native.Nat.{ℕ, _-_, _≤_, _<_}
+use Prim.Native.Nat.{_-_, _≤_, _<_}
 use native.Mathlib.Omega.{arith}
-use lib.ListN.{length, set, replicate, getD}
+use lib.ListN.{set, replicate}
 use Rattle.hatch_format.specs.declared.GradientColor.{GradientColor}
-use Rattle.hatch_format.specs.declared.GradientColorBits.{GradientColorBits}
 use Rattle.hatch_format.specs.Record.{zeroColor, colorAsDoubles}
 use Rattle.hatch.proofs.Filling.{filled, doublesTo, doubles-more, doubles-all}
 use borrow.Author.Needs.{needs}
 use Rattle.hatch.proofs.record.colors_as_doubles.Statement.{statement}
 use Rattle.hatch.proofs.record.colors_as_doubles.Tie as tie
-use Rattle.hatch.proofs.record.colors_as_doubles.Reads as reads
-use Rattle.hatch.proofs.record.colors_as_doubles.Lts as lts
-use Rattle.hatch.proofs.record.color_as_doubles.Reads as color-as-doubles-reads
-use Rattle.hatch.proofs.record.zero_color.Reads as zero-color-reads
 
 abbrev Inv-loop : tie.InvT-loop
 Inv-loop cs made₀ i₀ made i = (i ≤ 16) × (made ≡ filled (colorAsDoubles zeroColor) (doublesTo cs i) i)

@@ -2,10 +2,6 @@
 use borrow.Author.Needs.{needs}
 use Rattle.hatch.proofs.record.fill_as_doubles.Statement.{statement}
 use Rattle.hatch.proofs.record.fill_as_doubles.Tie as tie
-use Rattle.hatch.proofs.record.fill_as_doubles.Reads as reads
-use Rattle.hatch.proofs.record.fill_as_doubles.Lts as lts
-use Rattle.bitcursor.proofs.values.double_of.Reads as double-of-reads
-use Rattle.hatch.proofs.record.colors_as_doubles.Reads as colors-as-doubles-reads
 
 double-of-requires : tie.Need-double-of-requires
 double-of-requires c κs = search needs

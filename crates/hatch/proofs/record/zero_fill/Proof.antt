@@ -2,9 +2,6 @@
 use borrow.Author.Needs.{needs}
 use Rattle.hatch.proofs.record.zero_fill.Statement.{statement}
 use Rattle.hatch.proofs.record.zero_fill.Tie as tie
-use Rattle.hatch.proofs.record.zero_fill.Reads as reads
-use Rattle.hatch.proofs.record.zero_fill.Lts as lts
-use Rattle.hatch.proofs.record.zero_color.Reads as zero-color-reads
 
 zero-color-requires : tie.Need-zero-color-requires
 zero-color-requires c κs = search needs

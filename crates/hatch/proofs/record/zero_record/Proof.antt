@@ -2,9 +2,6 @@
 use borrow.Author.Needs.{needs}
 use Rattle.hatch.proofs.record.zero_record.Statement.{statement}
 use Rattle.hatch.proofs.record.zero_record.Tie as tie
-use Rattle.hatch.proofs.record.zero_record.Reads as reads
-use Rattle.hatch.proofs.record.zero_record.Lts as lts
-use Rattle.hatch.proofs.record.zero_fill.Reads as zero-fill-reads
 
 zero-fill-requires : tie.Need-zero-fill-requires
 zero-fill-requires c κs = search needs

@@ -1,17 +1,12 @@
 -- The part is there by both tests, or one of them fails.
-use mathlib.Core.Path.{_≡_, refl, sym, ap, _∙_}
+use mathlib.Core.Path.{_≡_}
 use mathlib.Core.Logic.{⊎-elim}
-use Prim.Native.Nat.{ℕ, _-_, _*_, _≤_, _<_}
+use Prim.Native.Nat.{_-_, _*_, _≤_, _<_}
 use native.Mathlib.Omega.{arith}
-use lib.ListN.{take, drop}
-use lib.Ieee.{Float}
-use denote.Ref.{now}
 use borrow.Author.Tests.{le-leb, lt-leb}
 use borrow.Author.Needs.{needs}
 use Rattle.hatch.proofs.seeds.seed_points.Statement.{statement}
 use Rattle.hatch.proofs.seeds.seed_points.Tie as tie
-use Rattle.hatch.proofs.seeds.seed_points.Reads as reads
-use Rattle.hatch.proofs.seeds.seed_points.Lts as lts
 
 mul-result : tie.Need-mul-result
 mul-result c = search needs
