@@ -1,9 +1,9 @@
 -- Sixteen colours, filled from the front: what is made so far, and the same value in every place behind it. Assumes nothing.
 use mathlib.Core.Path.{_≡_, refl, sym, ap, _∙_}
 use mathlib.Core.List.{List, [], _∷_, _++_, append-nil}
-use Prim.Native.Nat.{ℕ, suc, _+_, _-_, _<_, _≤_}
+use Prim.Native.Nat.{ℕ, suc, _+_, _-_, _<_}
 use native.Mathlib.Omega.{arith}
-use lib.ListN.{length, set, take, getD, replicate, length-append, length-replicate}
+use lib.ListN.{length, set, take, getD, replicate}
 use lib.Seq.{set-at, append-snoc, take-suc, take-all, length-take-le}
 use Rattle.hatch_format.specs.declared.GradientColor.{GradientColor}
 use Rattle.hatch_format.specs.declared.GradientColorBits.{GradientColorBits}
@@ -18,12 +18,6 @@ module _ {A : Type 0} (z : A) where
   filled-more l a i e h =
       let g : 16 - i ≡ suc (16 - (i + 1)) = omega arith in
       ap (λ (m : ℕ). set (l ++ replicate m z) i a) g ∙ set-at l z (replicate (16 - (i + 1)) z) a i e ∙ sym (append-snoc l a (replicate (16 - (i + 1)) z))
-
-  pub filled-length : (l : List A) (i : ℕ) → length l ≡ i → i ≤ 16 → length (filled l i) ≡ 16
-  filled-length l i e h =
-      let a = length-append l (replicate (16 - i) z) in
-      let b = length-replicate (16 - i) z in
-      omega (arith, a, b, e)
 
 -- ---- colours as doubles, one by one
 abbrev pub doublesTo : List GradientColorBits → ℕ → List GradientColor

@@ -60,7 +60,7 @@ module _ {A : Type 0} (xs : List ℕ) where
   pub row-refused : (k : ℕ → Format one A) {x : Read} {r : Refusal} {p : ℕ} → x ≡ Refused r p → resumed xs k x ≡ refused r p
   row-refused k e = ap (resumed xs k) e
 
--- ---- a colour
+-- ---- a colour, and the plane
 abbrev pub colorWith : ℕ → ℤ → ℕ → ℕ → GradientColorBits
 colorWith d s rgb byte = record { «unknown_double» = d; «unknown_short» = s; rgb = rgb; «ignored_color_byte» = byte }
 
@@ -77,7 +77,6 @@ module _ (xs : List ℕ) (p : ℕ) {x₁ x₂ x₃ x₄ : Read} (e₁ : x₁ ≡
       ∙ one-more xs (λ n. coded BL) (λ n rgb. coded RC >>= λ byte. pure (colorWith (valueOf x₁) (signed 16 n) rgb byte)) x₂ e₃
       ∙ one-more xs (λ rgb. coded RC) (λ rgb byte. pure (colorWith (valueOf x₁) (signed 16 (valueOf x₂)) rgb byte)) x₃ e₄
 
-  -- ---- the plane
   pub plane-row : x₂ ≡ thenRead (BD .read xs) x₁ → x₃ ≡ thenRead (BD .read xs) x₂ → x₄ ≡ thenRead (BD .read xs) x₃
       → plane .read xs p ≡ resumed xs (λ n. pure (planeWith (valueOf x₁) (valueOf x₂) (valueOf x₃) n)) x₄
   unfolding plane plane-read relay
@@ -151,7 +150,7 @@ module _ (b : BlockRead) (name : Text) where
       ≡ record { present = true; angle = b .angle; shift = b .shift; «is_single_color» = b .«single_color»; tint = b .tint; «num_colors» = b .«num_colors»; colors = b .colors; name = name }
   shown-all h = rw (ne-eqb (b .flag) 0 h, shownOf)
 
-  -- the definition's
+  -- it is what the definition shows of the block that was read
   pub shown-fill : (a : Block) (p : ℕ) → b ≡ blockOf (got a p) → shownOf b name ≡ fillOf (shown a name)
   shown-fill a p e = ap (λ (x : BlockRead). shownOf x name) e ∙ go (eqb (a .flag) 0) refl
     where

@@ -34,7 +34,7 @@ use Rattle.hatch.specs.declared.fronts.Gradient.{Gradient as GradientRea
 use Rattle.hatch.specs.declared.fronts.Named.{Named as NamedRead}
 use Rattle.hatch.specs.declared.fronts.Front.{Front as FrontRead}
 
--- ---- the plane and the pattern's name; and behind the gradient
+-- ---- the plane and the pattern's name; and the gradient in front of them
 pub record Named : Type 0 where
   pub plane : Plane
   pub name : Text
@@ -120,7 +120,6 @@ planeOf (got a p) = record { elevation = a .elevation; x = a .x; y = a .y; z = a
 planeOf (refused k p) = record { elevation = 0; x = 0; y = 0; z = 0; last = Stopped k p }
 
 -- ---- answers of both payloads
-
 abbrev pub gradientOf : Out Places Gradient → GradientRead
 gradientOf (got a p) = record { fill = fillOf a; last = Done (asPlaces p) }
 gradientOf (refused k p) = record { fill = fillOf no-gradient; last = Refused k (asPlaces p) }

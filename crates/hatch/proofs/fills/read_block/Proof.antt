@@ -17,7 +17,9 @@ enum-known-count : tie.Need-enum-known-count
 enum-known-count c = search needs
 
 read-colors-requires : tie.Need-read-colors-requires
-read-colors-requires c κs = ((c .before .before .before .before .before .pre) .0, omega (arith, (c .before .before .before .before .before .pre) .1, count-capped (now ((c .before .before .before .before .before .args) .s)) ((c .before .before .before .before .before .args) .cap) ((c .before .before .before .before .before .args) .at) ((c .before .before .before .read-block-head) .ensures) ((c .before .count) .given .1)))
+read-colors-requires c κs =
+    let a = c .before .before .before .before .before .args in
+    (c .before .before .before .before .before .pre .0, omega (arith, c .before .before .before .before .before .pre .1, count-capped (now (a .s)) (a .cap) (a .at) (c .before .before .before .read-block-head .ensures) (c .before .count .given .1)))
 
 enum-known-last : tie.Need-enum-known-last
 enum-known-last c = search needs
@@ -36,19 +38,23 @@ refused-block-requires-2 c κs = search needs
 
 returns : tie.Need-returns
 returns c =
-    let s = now ((c .before .before .before .before .before .before .before .before .before .before .args) .s) in
-    let t = colors-got ((times ((c .before .before .before .before .before .before .count) .given .0 .0) color) .read s ((c .before .before .before .before .before .before .count) .given .0 .1 .0)) ((c .before .before .before .before .read-colors) .ensures) ((c .before .before .last) .given .1) in
-    ap (blockFrom ((c .before .before .before .before .before .before .before .before .read-block-head) .result) ((c .before .before .before .before .before .before .count) .given .0 .0) ((c .before .before .last) .given .0 .0)) (t .2)
-    ∙ block-done s ((c .before .before .before .before .before .before .before .before .before .before .args) .cap) ((c .before .before .before .before .before .before .before .before .before .before .args) .at) ((c .before .before .before .before .before .before .before .before .read-block-head) .ensures) ((c .before .before .before .before .before .before .count) .given .1) (t .1)
+    let a = c .before .before .before .before .before .before .before .before .before .before .args in
+    let s = now (a .s) in
+    let t = colors-got ((times (c .before .before .before .before .before .before .count .given .0 .0) color) .read s (c .before .before .before .before .before .before .count .given .0 .1 .0)) (c .before .before .before .before .read-colors .ensures) (c .before .before .last .given .1) in
+    ap (blockFrom (c .before .before .before .before .before .before .before .before .read-block-head .result) (c .before .before .before .before .before .before .count .given .0 .0) (c .before .before .last .given .0 .0)) (t .2)
+    ∙ block-done s (a .cap) (a .at) (c .before .before .before .before .before .before .before .before .read-block-head .ensures) (c .before .before .before .before .before .before .count .given .1) (t .1)
 
 returns-2 : tie.Need-returns-2
 returns-2 c =
-    let s = now ((c .before .before .before .before .before .before .before .before .before .before .args) .s) in
-    let t = colors-no ((times ((c .before .before .before .before .before .before .count) .given .0 .0) color) .read s ((c .before .before .before .before .before .before .count) .given .0 .1 .0)) ((c .before .before .before .before .read-colors) .ensures) ((c .before .before .last2) .given .1) in
-    (c .refused-block) .ensures ∙ sym (ap blockOf (block-stop s ((c .before .before .before .before .before .before .before .before .before .before .args) .cap) ((c .before .before .before .before .before .before .before .before .before .before .args) .at) ((c .before .before .before .before .before .before .before .before .read-block-head) .ensures) ((c .before .before .before .before .before .before .count) .given .1) t))
+    let a = c .before .before .before .before .before .before .before .before .before .before .args in
+    let s = now (a .s) in
+    let t = colors-no ((times (c .before .before .before .before .before .before .count .given .0 .0) color) .read s (c .before .before .before .before .before .before .count .given .0 .1 .0)) (c .before .before .before .before .read-colors .ensures) (c .before .before .last2 .given .1) in
+    c .refused-block .ensures ∙ sym (ap blockOf (block-stop s (a .cap) (a .at) (c .before .before .before .before .before .before .before .before .read-block-head .ensures) (c .before .before .before .before .before .before .count .given .1) t))
 
 returns-3 : tie.Need-returns-3
-returns-3 c = (c .refused-block2) .ensures ∙ sym (ap blockOf (block-no (now ((c .before .before .before .before .before .before .args) .s)) ((c .before .before .before .before .before .before .args) .cap) ((c .before .before .before .before .before .before .args) .at) ((c .before .before .before .before .read-block-head) .ensures) ((c .before .before .count2) .given .1)))
+returns-3 c =
+    let a = c .before .before .before .before .before .before .args in
+    c .refused-block2 .ensures ∙ sym (ap blockOf (block-no (now (a .s)) (a .cap) (a .at) (c .before .before .before .before .read-block-head .ensures) (c .before .before .count2 .given .1)))
 
 pub read-block-spec : {M : Type 1} → statement M
 read-block-spec =

@@ -43,7 +43,7 @@ value-of-requires-5 c κs = search needs
 
 returns : tie.Need-returns
 unfolding blockHead held
-returns c = rw ((c .value-of5) .ensures, (c .before .value-of4) .ensures, (c .before .before .value-of3) .ensures, (c .before .before .before .value-of2) .ensures, (c .before .before .before .before .value-of) .ensures, (c .before .before .before .before .before .then-count) .ensures, (c .before .before .before .before .before .before .then-bd-bits3) .ensures, (c .before .before .before .before .before .before .before .then-bl2) .ensures, (c .before .before .before .before .before .before .before .before .then-bd-bits2) .ensures, (c .before .before .before .before .before .before .before .before .before .then-bd-bits) .ensures, (c .before .before .before .before .before .before .before .before .before .before .then-bl) .ensures, (c .before .before .before .before .before .before .before .before .before .before .before .read-bl-u) .ensures)
+returns c = rw (c .value-of5 .ensures, c .before .value-of4 .ensures, c .before .before .value-of3 .ensures, c .before .before .before .value-of2 .ensures, c .before .before .before .before .value-of .ensures, c .before .before .before .before .before .then-count .ensures, c .before .before .before .before .before .before .then-bd-bits3 .ensures, c .before .before .before .before .before .before .before .then-bl2 .ensures, c .before .before .before .before .before .before .before .before .then-bd-bits2 .ensures, c .before .before .before .before .before .before .before .before .before .then-bd-bits .ensures, c .before .before .before .before .before .before .before .before .before .before .then-bl .ensures, c .before .before .before .before .before .before .before .before .before .before .before .read-bl-u .ensures)
 
 pub read-block-head-spec : {M : Type 1} → statement M
 read-block-head-spec =

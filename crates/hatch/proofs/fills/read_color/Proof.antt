@@ -40,16 +40,16 @@ value-of-requires-2 : tie.Need-value-of-requires-2
 value-of-requires-2 c κs = search needs
 
 short-of-requires : tie.Need-short-of-requires
-short-of-requires c κs = subst (λ (n : ℕ). n < 2 ^ 16) (sym ((c .value-of2) .ensures)) (step-below (2 ^ 16) BS (omega arith) BS-below (now ((c .before .before .before .before .before .before .before .before .before .before .args) .s)) ((c .before .before .before .before .before .before .before .before .read-bd-bits) .result) ((c .before .before .before .before .before .before .before .then-bs) .ensures))
+short-of-requires c κs = subst (λ (n : ℕ). n < 2 ^ 16) (sym (c .value-of2 .ensures)) (step-below (2 ^ 16) BS (omega arith) BS-below (now (c .before .before .before .before .before .before .before .before .before .before .args .s)) (c .before .before .before .before .before .before .before .before .read-bd-bits .result) (c .before .before .before .before .before .before .before .then-bs .ensures))
 
 value-of-requires-3 : tie.Need-value-of-requires-3
 value-of-requires-3 c κs = search needs
 
 cast-t16 : tie.Need-cast-t16
-cast-t16 c = record { fits = subst (λ (n : ℕ). n < 2 ^ 32) (sym ((c .value-of3) .ensures)) (step-below (2 ^ 32) (held true BL 0) (omega arith) (held-below (2 ^ 32) true BL 0 (omega arith) BL-below) (now ((c .before .before .before .before .before .before .before .before .before .before .before .before .args) .s)) ((c .before .before .before .before .before .before .before .before .before .then-bs) .result) ((c .before .before .before .before .before .before .before .before .then-bl) .ensures)) }
+cast-t16 c = record { fits = subst (λ (n : ℕ). n < 2 ^ 32) (sym (c .value-of3 .ensures)) (step-below (2 ^ 32) (held true BL 0) (omega arith) (held-below (2 ^ 32) true BL 0 (omega arith) BL-below) (now (c .before .before .before .before .before .before .before .before .before .before .before .before .args .s)) (c .before .before .before .before .before .before .before .before .before .then-bs .result) (c .before .before .before .before .before .before .before .before .then-bl .ensures)) }
 
 cast-t17 : tie.Need-cast-t17
-cast-t17 c = record { fits = subst (λ (x : Read). valueOf x < 256) ((c .before .before .before .before .before .byte) .given .1) (step-below 256 (held true (lowFirst 1) 0) (omega arith) (held-below 256 true (lowFirst 1) 0 (omega arith) (low-below 1)) (now ((c .before .before .before .before .before .before .before .before .before .before .before .before .args) .s)) ((c .before .before .before .before .before .before .before .before .then-bl) .result) ((c .before .before .before .before .before .before .before .then-low) .ensures)) }
+cast-t17 c = record { fits = subst (λ (x : Read). valueOf x < 256) (c .before .before .before .before .before .byte .given .1) (step-below 256 (held true (lowFirst 1) 0) (omega arith) (held-below 256 true (lowFirst 1) 0 (omega arith) (low-below 1)) (now (c .before .before .before .before .before .before .before .before .before .before .before .before .args .s)) (c .before .before .before .before .before .before .before .before .then-bl .result) (c .before .before .before .before .before .before .before .then-low .ensures)) }
 
 enum-known-byte-2 : tie.Need-enum-known-byte-2
 enum-known-byte-2 c = search needs
@@ -57,19 +57,21 @@ enum-known-byte-2 c = search needs
 returns : tie.Need-returns
 unfolding held RC
 returns c =
-    let s = now ((c .before .before .before .before .before .before .before .before .before .before .before .before .args) .s) in
+    let a = c .before .before .before .before .before .before .before .before .before .before .before .before .args in
+    let s = now (a .s) in
     let e =
-    color-row s ((c .before .before .before .before .before .before .before .before .before .before .before .before .args) .at) ((c .before .before .before .before .before .before .before .before .before .before .read-bd-bits) .ensures) ((c .before .before .before .before .before .before .before .before .before .then-bs) .ensures) ((c .before .before .before .before .before .before .before .before .then-bl) .ensures) ((c .before .before .before .before .before .before .before .then-low) .ensures)
-    ∙ row-done s (colorWith (valueOf ((c .before .before .before .before .before .before .before .before .before .before .read-bd-bits) .result)) (signed 16 (valueOf ((c .before .before .before .before .before .before .before .before .before .then-bs) .result))) (valueOf ((c .before .before .before .before .before .before .before .before .then-bl) .result))) ((c .before .before .before .before .before .byte) .given .1) in
-    rw (toZ-ofZ w16 ((c .before .short-of) .result) (record { sfits = (c .before .short-of) .ok }), (c .before .short-of) .ensures, (c .value-of3) .ensures, (c .before .before .value-of2) .ensures, (c .before .before .before .value-of) .ensures)
+    color-row s (a .at) (c .before .before .before .before .before .before .before .before .before .before .read-bd-bits .ensures) (c .before .before .before .before .before .before .before .before .before .then-bs .ensures) (c .before .before .before .before .before .before .before .before .then-bl .ensures) (c .before .before .before .before .before .before .before .then-low .ensures)
+    ∙ row-done s (colorWith (valueOf (c .before .before .before .before .before .before .before .before .before .before .read-bd-bits .result)) (signed 16 (valueOf (c .before .before .before .before .before .before .before .before .before .then-bs .result))) (valueOf (c .before .before .before .before .before .before .before .before .then-bl .result))) (c .before .before .before .before .before .byte .given .1) in
+    rw (toZ-ofZ w16 (c .before .short-of .result) (record { sfits = c .before .short-of .ok }), c .before .short-of .ensures, c .value-of3 .ensures, c .before .before .value-of2 .ensures, c .before .before .before .value-of .ensures)
     (sym (ap colorOf e))
 
 returns-2 : tie.Need-returns-2
 unfolding held RC
 returns-2 c =
-    let s = now ((c .before .before .before .before .before .before .before .before .args) .s) in
-    sym (ap colorOf (color-row s ((c .before .before .before .before .before .before .before .before .args) .at) ((c .before .before .before .before .before .before .read-bd-bits) .ensures) ((c .before .before .before .before .before .then-bs) .ensures) ((c .before .before .before .before .then-bl) .ensures) ((c .before .before .before .then-low) .ensures)
-    ∙ row-refused s (λ n. pure (colorWith (valueOf ((c .before .before .before .before .before .before .read-bd-bits) .result)) (signed 16 (valueOf ((c .before .before .before .before .before .then-bs) .result))) (valueOf ((c .before .before .before .before .then-bl) .result)) n)) ((c .before .byte2) .given .1)))
+    let a = c .before .before .before .before .before .before .before .before .args in
+    let s = now (a .s) in
+    sym (ap colorOf (color-row s (a .at) (c .before .before .before .before .before .before .read-bd-bits .ensures) (c .before .before .before .before .before .then-bs .ensures) (c .before .before .before .before .then-bl .ensures) (c .before .before .before .then-low .ensures)
+    ∙ row-refused s (λ n. pure (colorWith (valueOf (c .before .before .before .before .before .before .read-bd-bits .result)) (signed 16 (valueOf (c .before .before .before .before .before .then-bs .result))) (valueOf (c .before .before .before .before .then-bl .result)) n)) (c .before .byte2 .given .1)))
 
 pub read-color-spec : {M : Type 1} → statement M
 read-color-spec =

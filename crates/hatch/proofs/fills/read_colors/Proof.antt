@@ -22,10 +22,12 @@ zero-color-requires : tie.Need-zero-color-requires Inv-loop μ-loop
 zero-color-requires c κs = search needs
 
 loop-holds : tie.Need-loop-holds Inv-loop μ-loop
-loop-holds c = (omega arith, subst (λ (z : GradientColorBits). SoFar (now ((c .before .before .args) .s)) ((c .before .before .args) .at) 0 ((c .before .before .args) .at) (replicate 16 z)) (sym ((c .zero-color) .ensures)) (colors-start (now ((c .before .before .args) .s)) ((c .before .before .args) .at)))
+loop-holds c =
+    let a = c .before .before .args in
+    (omega arith, subst (λ (z : GradientColorBits). SoFar (now (a .s)) (a .at) 0 (a .at) (replicate 16 z)) (sym (c .zero-color .ensures)) (colors-start (now (a .s)) (a .at)))
 
 read-color-requires : tie.Need-read-color-requires Inv-loop μ-loop
-read-color-requires c κs = (c .before .before .before .before .pre) .0
+read-color-requires c κs = c .before .before .before .before .pre .0
 
 enum-known-c : tie.Need-enum-known-c Inv-loop μ-loop
 enum-known-c c = search needs
@@ -34,7 +36,7 @@ mul-colors : tie.Need-mul-colors Inv-loop μ-loop
 mul-colors c = omega arith
 
 array-set-from-colors : tie.Need-array-set-from-colors Inv-loop μ-loop
-array-set-from-colors c = omega (arith, (c .before .before .before .before .before .before .before .before .pre) .1, (c .before .before .before .before .loop-test) .taken)
+array-set-from-colors c = omega (arith, c .before .before .before .before .before .before .before .before .pre .1, c .before .before .before .before .loop-test .taken)
 
 enum-known-k : tie.Need-enum-known-k Inv-loop μ-loop
 enum-known-k c = search needs
@@ -42,7 +44,7 @@ enum-known-k c = search needs
 returns : tie.Need-returns Inv-loop μ-loop
 returns c =
     let l = (c .before .before .before .before .before .loop) in
-    rw ((c .before .before .before .before .before .before .zero-color) .ensures) (sym (ap colorsOf (colors-stop (l .inv .1) ((c .before .before .before .before .loop-test) .taken) (color-no (color .read (now ((c .before .before .before .before .before .before .before .before .args) .s)) (l .p)) ((c .before .before .before .read-color) .ensures) ((c .before .k) .given .1)))))
+    rw (c .before .before .before .before .before .before .zero-color .ensures) (sym (ap colorsOf (colors-stop (l .inv .1) (c .before .before .before .before .loop-test .taken) (color-no (color .read (now (c .before .before .before .before .before .before .before .before .args .s)) (l .p)) (c .before .before .before .read-color .ensures) (c .before .k .given .1)))))
 
 add-i : tie.Need-add-i Inv-loop μ-loop
 add-i c = omega arith
@@ -54,13 +56,13 @@ loop-again : tie.Need-loop-again Inv-loop μ-loop
 loop-again c =
     let l = (c .before .before .before .before .before .loop) in (
       omega arith,
-      colors-more (l .inv .1) (omega (arith, (c .before .before .before .before .before .before .before .before .pre) .1, (c .before .before .before .before .loop-test) .taken)) (color-got (color .read (now ((c .before .before .before .before .before .before .before .before .args) .s)) (l .p)) ((c .before .before .before .read-color) .ensures) ((c .before .c) .given .1)),
+      colors-more (l .inv .1) (omega (arith, c .before .before .before .before .before .before .before .before .pre .1, c .before .before .before .before .loop-test .taken)) (color-got (color .read (now (c .before .before .before .before .before .before .before .before .args .s)) (l .p)) (c .before .before .before .read-color .ensures) (c .before .c .given .1)),
     )
 
 returns-2 : tie.Need-returns-2 Inv-loop μ-loop
 returns-2 c =
     let l = (c .before .loop) in
-    ap (colorsWith (l .p)) (colors-laid (l .inv .1)) ∙ sym (ap colorsOf (colors-all (l .inv .1) (omega (arith, l .inv .0, (c .loop-test) .left))))
+    ap (colorsWith (l .p)) (colors-laid (l .inv .1)) ∙ sym (ap colorsOf (colors-all (l .inv .1) (omega (arith, l .inv .0, c .loop-test .left))))
 
 pub read-colors-spec : {M : Type 1} → statement M
 read-colors-spec =

@@ -22,9 +22,10 @@ zero-fill-requires c κs = search needs
 
 returns : tie.Need-returns
 returns c =
-    let γ = (payloads (now ((c .before .before .before .before .before .args) .main)) (now ((c .before .before .before .before .before .args) .string)) ((c .before .before .before .before .before .args) .reader) ((c .before .before .before .before .before .args) .end)) in
-    let t = sym ((c .before .before .is-r2004-plus) .ensures) ∙ not-true ((c .before .before .is-r2004-plus) .result) ((c .before .if1) .taken) in
-    ap (gradientWith (Done ((c .before .before .before .before .before .args) .at))) ((c .zero-fill) .ensures) ∙ sym (ap gradientOf (gradient-absent ((c .before .before .before .before .before .args) .v) γ (placesOf ((c .before .before .before .before .before .args) .at)) ((c .before .before .before .before .before .args) .caps .colors) t))
+    let a = c .before .before .before .before .before .args in
+    let γ = payloads (now (a .main)) (now (a .string)) (a .reader) (a .end) in
+    let t = sym (c .before .before .is-r2004-plus .ensures) ∙ not-true (c .before .before .is-r2004-plus .result) (c .before .if1 .taken) in
+    ap (gradientWith (Done (a .at))) (c .zero-fill .ensures) ∙ sym (ap gradientOf (gradient-absent (a .v) γ (placesOf (a .at)) (a .caps .colors) t))
 
 read-block-requires : tie.Need-read-block-requires
 read-block-requires c κs = search needs
@@ -33,7 +34,9 @@ enum-known-last : tie.Need-enum-known-last
 enum-known-last c = search needs
 
 read-gradient-name-requires : tie.Need-read-gradient-name-requires
-read-gradient-name-requires c κs = ((c .before .before .before .before .before .before .before .before .pre) .0, ((c .before .before .before .before .before .before .before .before .pre) .1 .0, single-small ((c .before .before .before .before .before .before .before .before .args) .caps .colors) (now ((c .before .before .before .before .before .before .before .before .args) .main)) ((c .before .before .before .before .before .before .before .before .args) .at .main) ((c .before .before .before .read-block) .ensures)))
+read-gradient-name-requires c κs =
+    let a = c .before .before .before .before .before .before .before .before .args in
+    (c .before .before .before .before .before .before .before .before .pre .0, (c .before .before .before .before .before .before .before .before .pre .1 .0, single-small (a .caps .colors) (now (a .main)) (a .at .main) (c .before .before .before .read-block .ensures)))
 
 enum-known-last-2 : tie.Need-enum-known-last-2
 enum-known-last-2 c = search needs
@@ -43,25 +46,27 @@ zero-fill-requires-2 c κs = search needs
 
 returns-2 : tie.Need-returns-2
 returns-2 c =
-    let γ = (payloads (now ((c .before .before .before .before .before .before .before .before .before .args) .main)) (now ((c .before .before .before .before .before .before .before .before .before .args) .string)) ((c .before .before .before .before .before .before .before .before .before .args) .reader) ((c .before .before .before .before .before .before .before .before .before .args) .end)) in
-    let p = placesOf ((c .before .before .before .before .before .before .before .before .before .args) .at) in
-    let cap = (c .before .before .before .before .before .before .before .before .before .args) .caps .colors in
-    let t = sym ((c .before .before .before .before .before .before .is-r2004-plus) .ensures) ∙ not-false ((c .before .before .before .before .before .before .is-r2004-plus) .result) ((c .before .before .before .before .before .if1) .left) in
-    let b = block-got ((block cap) .read (γ .main) (p .main)) ((c .before .before .before .before .read-block) .ensures) ((c .before .before .last) .given .1) in
-    let name = (TV-field ((c .before .before .before .before .before .before .before .before .before .args) .v)) .read γ (movedIn main p ((c .before .before .last) .given .0 .0)) in
-    (c .read-gradient-name) .ensures
-    ∙ shown-read ((c .before .before .before .before .read-block) .result) (b .0) ((c .before .before .last) .given .0 .0) ((c .before .before .before .before .read-block) .ensures ∙ ap blockOf (b .1)) name
-    ∙ sym (ap gradientOf (gradient-texted ((c .before .before .before .before .before .before .before .before .before .args) .v) γ p cap t ∙ texted-on (block cap) ((c .before .before .before .before .before .before .before .before .before .args) .v) shown γ p (b .1)))
+    let a = c .before .before .before .before .before .before .before .before .before .args in
+    let γ = payloads (now (a .main)) (now (a .string)) (a .reader) (a .end) in
+    let p = placesOf (a .at) in
+    let cap = a .caps .colors in
+    let t = sym (c .before .before .before .before .before .before .is-r2004-plus .ensures) ∙ not-false (c .before .before .before .before .before .before .is-r2004-plus .result) (c .before .before .before .before .before .if1 .left) in
+    let b = block-got ((block cap) .read (γ .main) (p .main)) (c .before .before .before .before .read-block .ensures) (c .before .before .last .given .1) in
+    let name = (TV-field (a .v)) .read γ (movedIn main p (c .before .before .last .given .0 .0)) in
+    c .read-gradient-name .ensures
+    ∙ shown-read (c .before .before .before .before .read-block .result) (b .0) (c .before .before .last .given .0 .0) (c .before .before .before .before .read-block .ensures ∙ ap blockOf (b .1)) name
+    ∙ sym (ap gradientOf (gradient-texted (a .v) γ p cap t ∙ texted-on (block cap) (a .v) shown γ p (b .1)))
 
 returns-3 : tie.Need-returns-3
 returns-3 c =
-    let γ = (payloads (now ((c .before .before .before .before .before .before .before .before .before .args) .main)) (now ((c .before .before .before .before .before .before .before .before .before .args) .string)) ((c .before .before .before .before .before .before .before .before .before .args) .reader) ((c .before .before .before .before .before .before .before .before .before .args) .end)) in
-    let p = placesOf ((c .before .before .before .before .before .before .before .before .before .args) .at) in
-    let cap = (c .before .before .before .before .before .before .before .before .before .args) .caps .colors in
-    let t = sym ((c .before .before .before .before .before .before .is-r2004-plus) .ensures) ∙ not-false ((c .before .before .before .before .before .before .is-r2004-plus) .result) ((c .before .before .before .before .before .if1) .left) in
-    let b = block-none ((block cap) .read (γ .main) (p .main)) ((c .before .before .before .before .read-block) .ensures) ((c .before .before .last2) .given .1) in
-    ap (gradientWith (Refused ((c .before .before .last2) .given .0 .0) (record { main = (c .before .before .last2) .given .0 .1 .0; string = (c .before .before .before .before .before .before .before .before .before .args) .at .string }))) ((c .zero-fill2) .ensures)
-    ∙ sym (ap gradientOf (gradient-texted ((c .before .before .before .before .before .before .before .before .before .args) .v) γ p cap t ∙ texted-no (block cap) ((c .before .before .before .before .before .before .before .before .before .args) .v) shown γ p b))
+    let a = c .before .before .before .before .before .before .before .before .before .args in
+    let γ = payloads (now (a .main)) (now (a .string)) (a .reader) (a .end) in
+    let p = placesOf (a .at) in
+    let cap = a .caps .colors in
+    let t = sym (c .before .before .before .before .before .before .is-r2004-plus .ensures) ∙ not-false (c .before .before .before .before .before .before .is-r2004-plus .result) (c .before .before .before .before .before .if1 .left) in
+    let b = block-none ((block cap) .read (γ .main) (p .main)) (c .before .before .before .before .read-block .ensures) (c .before .before .last2 .given .1) in
+    ap (gradientWith (Refused (c .before .before .last2 .given .0 .0) (record { main = c .before .before .last2 .given .0 .1 .0; string = a .at .string }))) (c .zero-fill2 .ensures)
+    ∙ sym (ap gradientOf (gradient-texted (a .v) γ p cap t ∙ texted-no (block cap) (a .v) shown γ p b))
 
 pub decode-gradient-spec : {M : Type 1} → statement M
 decode-gradient-spec =

@@ -49,31 +49,34 @@ joined-requires-3 c κs = search needs
 
 returns : tie.Need-returns
 returns c =
-    let γ = (payloads (now ((c .before .before .before .before .before .before .before .before .before .before .args) .main)) (now ((c .before .before .before .before .before .before .before .before .before .before .args) .string)) ((c .before .before .before .before .before .before .before .before .before .before .args) .reader) ((c .before .before .before .before .before .before .before .before .before .before .args) .end)) in
-    let p = placesOf ((c .before .before .before .before .before .before .before .before .before .before .args) .at) in
-    let fill = (gradient ((c .before .before .before .before .before .before .before .before .before .before .args) .caps .colors) ((c .before .before .before .before .before .before .before .before .before .before .args) .v) (leb 3 (releaseNumber ((c .before .before .before .before .before .before .before .before .before .before .args) .v)))) .read γ p in
-    let t = front-on ((c .before .before .before .before .before .before .before .before .before .before .args) .caps) ((c .before .before .before .before .before .before .before .before .before .before .args) .v) γ p fill refl ((c .before .before .before .before .before .before .before .decode-gradient) .ensures) ((c .before .before .before .before .before .ended) .given .1) in
-    (c .joined) .ensures
-    ∙ joined-done (t .value) ((named ((c .before .before .before .before .before .before .before .before .before .before .args) .v)) .read γ (placesOf ((c .before .before .before .before .before .ended) .given .0 .0))) ((c .before .before .before .read-named) .ensures) ((c .before .enum-told) .given .1) (t .fill)
+    let a = c .before .before .before .before .before .before .before .before .before .before .args in
+    let γ = payloads (now (a .main)) (now (a .string)) (a .reader) (a .end) in
+    let p = placesOf (a .at) in
+    let fill = (gradient (a .caps .colors) (a .v) (leb 3 (releaseNumber (a .v)))) .read γ p in
+    let t = front-on (a .caps) (a .v) γ p fill refl (c .before .before .before .before .before .before .before .decode-gradient .ensures) (c .before .before .before .before .before .ended .given .1) in
+    c .joined .ensures
+    ∙ joined-done (t .value) ((named (a .v)) .read γ (placesOf (c .before .before .before .before .before .ended .given .0 .0))) (c .before .before .before .read-named .ensures) (c .before .enum-told .given .1) (t .fill)
     ∙ sym (ap frontOf (t .on))
 
 returns-2 : tie.Need-returns-2
 returns-2 c =
-    let γ = (payloads (now ((c .before .before .before .before .before .before .before .before .before .before .before .args) .main)) (now ((c .before .before .before .before .before .before .before .before .before .before .before .args) .string)) ((c .before .before .before .before .before .before .before .before .before .before .before .args) .reader) ((c .before .before .before .before .before .before .before .before .before .before .before .args) .end)) in
-    let p = placesOf ((c .before .before .before .before .before .before .before .before .before .before .before .args) .at) in
-    let fill = (gradient ((c .before .before .before .before .before .before .before .before .before .before .before .args) .caps .colors) ((c .before .before .before .before .before .before .before .before .before .before .before .args) .v) (leb 3 (releaseNumber ((c .before .before .before .before .before .before .before .before .before .before .before .args) .v)))) .read γ p in
-    let t = front-on ((c .before .before .before .before .before .before .before .before .before .before .before .args) .caps) ((c .before .before .before .before .before .before .before .before .before .before .before .args) .v) γ p fill refl ((c .before .before .before .before .before .before .before .before .decode-gradient) .ensures) ((c .before .before .before .before .before .before .ended) .given .1) in
-    (c .joined2) .ensures
-    ∙ joined-none (t .value) ((named ((c .before .before .before .before .before .before .before .before .before .before .before .args) .v)) .read γ (placesOf ((c .before .before .before .before .before .before .ended) .given .0 .0))) ((c .before .before .before .before .read-named) .ensures) ((c .before .before .enum-told2) .given .1) ((c .before .zero-fill) .ensures)
+    let a = c .before .before .before .before .before .before .before .before .before .before .before .args in
+    let γ = payloads (now (a .main)) (now (a .string)) (a .reader) (a .end) in
+    let p = placesOf (a .at) in
+    let fill = (gradient (a .caps .colors) (a .v) (leb 3 (releaseNumber (a .v)))) .read γ p in
+    let t = front-on (a .caps) (a .v) γ p fill refl (c .before .before .before .before .before .before .before .before .decode-gradient .ensures) (c .before .before .before .before .before .before .ended .given .1) in
+    c .joined2 .ensures
+    ∙ joined-none (t .value) ((named (a .v)) .read γ (placesOf (c .before .before .before .before .before .before .ended .given .0 .0))) (c .before .before .before .before .read-named .ensures) (c .before .before .enum-told2 .given .1) (c .before .zero-fill .ensures)
     ∙ sym (ap frontOf (t .on))
 
 returns-3 : tie.Need-returns-3
 returns-3 c =
-    let γ = (payloads (now ((c .before .before .before .before .before .before .before .before .before .args) .main)) (now ((c .before .before .before .before .before .before .before .before .before .args) .string)) ((c .before .before .before .before .before .before .before .before .before .args) .reader) ((c .before .before .before .before .before .before .before .before .before .args) .end)) in
-    let p = placesOf ((c .before .before .before .before .before .before .before .before .before .args) .at) in
-    let fill = (gradient ((c .before .before .before .before .before .before .before .before .before .args) .caps .colors) ((c .before .before .before .before .before .before .before .before .before .args) .v) (leb 3 (releaseNumber ((c .before .before .before .before .before .before .before .before .before .args) .v)))) .read γ p in
-    (c .joined3) .ensures ∙ ap₂ joinedOf ((c .before .before .zero-fill2) .ensures) ((c .before .refused-named) .ensures)
-    ∙ sym (ap frontOf (front-no ((c .before .before .before .before .before .before .before .before .before .args) .caps) ((c .before .before .before .before .before .before .before .before .before .args) .v) γ p fill refl ((c .before .before .before .before .before .before .decode-gradient) .ensures) ((c .before .before .before .before .ended2) .given .1)))
+    let a = c .before .before .before .before .before .before .before .before .before .args in
+    let γ = payloads (now (a .main)) (now (a .string)) (a .reader) (a .end) in
+    let p = placesOf (a .at) in
+    let fill = (gradient (a .caps .colors) (a .v) (leb 3 (releaseNumber (a .v)))) .read γ p in
+    c .joined3 .ensures ∙ ap₂ joinedOf (c .before .before .zero-fill2 .ensures) (c .before .refused-named .ensures)
+    ∙ sym (ap frontOf (front-no (a .caps) (a .v) γ p fill refl (c .before .before .before .before .before .before .decode-gradient .ensures) (c .before .before .before .before .ended2 .given .1)))
 
 pub read-front-spec : {M : Type 1} → statement M
 read-front-spec =

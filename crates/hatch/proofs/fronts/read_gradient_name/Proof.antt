@@ -27,13 +27,15 @@ zero-fill-requires c κs = search needs
 
 returns : tie.Need-returns
 returns c =
-    ap (gradientWith (Done ((c .before .before .name) .given .0 .1 .0))) ((c .shown) .ensures)
-    ∙ sym (ap (shownRead ((c .before .before .before .before .before .before .before .args) .block)) (field-got ((TV-field ((c .before .before .before .before .before .before .before .args) .v)) .read (payloads (now ((c .before .before .before .before .before .before .before .args) .main)) (now ((c .before .before .before .before .before .before .before .args) .string)) ((c .before .before .before .before .before .before .before .args) .reader) ((c .before .before .before .before .before .before .before .args) .end)) (placesOf ((c .before .before .before .before .before .before .before .args) .at))) ((c .before .before .before .before .read-tv-field) .ensures) ((c .before .before .name) .given .1)))
+    let a = c .before .before .before .before .before .before .before .args in
+    ap (gradientWith (Done (c .before .before .name .given .0 .1 .0))) (c .shown .ensures)
+    ∙ sym (ap (shownRead (a .block)) (field-got ((TV-field (a .v)) .read (payloads (now (a .main)) (now (a .string)) (a .reader) (a .end)) (placesOf (a .at))) (c .before .before .before .before .read-tv-field .ensures) (c .before .before .name .given .1)))
 
 returns-2 : tie.Need-returns-2
 returns-2 c =
-    ap (gradientWith (Refused ((c .before .before .k) .given .0 .0) ((c .before .before .k) .given .0 .1 .0))) ((c .zero-fill) .ensures)
-    ∙ sym (ap (shownRead ((c .before .before .before .before .before .before .before .args) .block)) (field-none ((TV-field ((c .before .before .before .before .before .before .before .args) .v)) .read (payloads (now ((c .before .before .before .before .before .before .before .args) .main)) (now ((c .before .before .before .before .before .before .before .args) .string)) ((c .before .before .before .before .before .before .before .args) .reader) ((c .before .before .before .before .before .before .before .args) .end)) (placesOf ((c .before .before .before .before .before .before .before .args) .at))) ((c .before .before .before .before .read-tv-field) .ensures) ((c .before .before .k) .given .1)))
+    let a = c .before .before .before .before .before .before .before .args in
+    ap (gradientWith (Refused (c .before .before .k .given .0 .0) (c .before .before .k .given .0 .1 .0))) (c .zero-fill .ensures)
+    ∙ sym (ap (shownRead (a .block)) (field-none ((TV-field (a .v)) .read (payloads (now (a .main)) (now (a .string)) (a .reader) (a .end)) (placesOf (a .at))) (c .before .before .before .before .read-tv-field .ensures) (c .before .before .k .given .1)))
 
 pub read-gradient-name-spec : {M : Type 1} → statement M
 read-gradient-name-spec =

@@ -37,27 +37,30 @@ refused-named-requires-2 c κs = search needs
 
 returns : tie.Need-returns
 returns c =
-    let γ = (payloads (now ((c .before .before .before .before .before .before .before .before .before .before .args) .main)) (now ((c .before .before .before .before .before .before .before .before .before .before .args) .string)) ((c .before .before .before .before .before .before .before .before .before .before .args) .reader) ((c .before .before .before .before .before .before .before .before .before .before .args) .end)) in
-    let p = placesOf ((c .before .before .before .before .before .before .before .before .before .before .args) .at) in
-    let t = plane-got (plane .read (γ .main) (p .main)) ((c .before .before .before .before .before .before .before .read-plane) .ensures) ((c .before .before .before .before .before .last) .given .1) in
-    let f = field-got ((TV-field ((c .before .before .before .before .before .before .before .before .before .before .args) .v)) .read γ (movedIn main p ((c .before .before .before .before .before .last) .given .0 .0))) ((c .before .before .before .read-tv-field) .ensures) ((c .before .name) .given .1) in
-    ap (namedFrom ((c .before .name) .given .0 .0) ((c .before .name) .given .0 .1 .0)) ((c .before .before .before .before .before .before .before .read-plane) .ensures ∙ ap planeOf (t .1))
-    ∙ sym (ap namedOf (named-texted ((c .before .before .before .before .before .before .before .before .before .before .args) .v) γ p ∙ texted-done plane ((c .before .before .before .before .before .before .before .before .before .before .args) .v) naming γ p (t .1) f))
+    let a = c .before .before .before .before .before .before .before .before .before .before .args in
+    let γ = payloads (now (a .main)) (now (a .string)) (a .reader) (a .end) in
+    let p = placesOf (a .at) in
+    let t = plane-got (plane .read (γ .main) (p .main)) (c .before .before .before .before .before .before .before .read-plane .ensures) (c .before .before .before .before .before .last .given .1) in
+    let f = field-got ((TV-field (a .v)) .read γ (movedIn main p (c .before .before .before .before .before .last .given .0 .0))) (c .before .before .before .read-tv-field .ensures) (c .before .name .given .1) in
+    ap (namedFrom (c .before .name .given .0 .0) (c .before .name .given .0 .1 .0)) (c .before .before .before .before .before .before .before .read-plane .ensures ∙ ap planeOf (t .1))
+    ∙ sym (ap namedOf (named-texted (a .v) γ p ∙ texted-done plane (a .v) naming γ p (t .1) f))
 
 returns-2 : tie.Need-returns-2
 returns-2 c =
-    let γ = (payloads (now ((c .before .before .before .before .before .before .before .before .before .before .before .args) .main)) (now ((c .before .before .before .before .before .before .before .before .before .before .before .args) .string)) ((c .before .before .before .before .before .before .before .before .before .before .before .args) .reader) ((c .before .before .before .before .before .before .before .before .before .before .before .args) .end)) in
-    let p = placesOf ((c .before .before .before .before .before .before .before .before .before .before .before .args) .at) in
-    let t = plane-got (plane .read (γ .main) (p .main)) ((c .before .before .before .before .before .before .before .before .read-plane) .ensures) ((c .before .before .before .before .before .before .last) .given .1) in
-    let f = field-none ((TV-field ((c .before .before .before .before .before .before .before .before .before .before .before .args) .v)) .read γ (movedIn main p ((c .before .before .before .before .before .before .last) .given .0 .0))) ((c .before .before .before .before .read-tv-field) .ensures) ((c .before .before .k) .given .1) in
-    (c .refused-named) .ensures ∙ sym (ap namedOf (named-texted ((c .before .before .before .before .before .before .before .before .before .before .before .args) .v) γ p ∙ texted-stop plane ((c .before .before .before .before .before .before .before .before .before .before .before .args) .v) naming γ p (t .1) f))
+    let a = c .before .before .before .before .before .before .before .before .before .before .before .args in
+    let γ = payloads (now (a .main)) (now (a .string)) (a .reader) (a .end) in
+    let p = placesOf (a .at) in
+    let t = plane-got (plane .read (γ .main) (p .main)) (c .before .before .before .before .before .before .before .before .read-plane .ensures) (c .before .before .before .before .before .before .last .given .1) in
+    let f = field-none ((TV-field (a .v)) .read γ (movedIn main p (c .before .before .before .before .before .before .last .given .0 .0))) (c .before .before .before .before .read-tv-field .ensures) (c .before .before .k .given .1) in
+    c .refused-named .ensures ∙ sym (ap namedOf (named-texted (a .v) γ p ∙ texted-stop plane (a .v) naming γ p (t .1) f))
 
 returns-3 : tie.Need-returns-3
 returns-3 c =
-    let γ = (payloads (now ((c .before .before .before .before .before .before .before .args) .main)) (now ((c .before .before .before .before .before .before .before .args) .string)) ((c .before .before .before .before .before .before .before .args) .reader) ((c .before .before .before .before .before .before .before .args) .end)) in
-    let p = placesOf ((c .before .before .before .before .before .before .before .args) .at) in
-    let t = plane-none (plane .read (γ .main) (p .main)) ((c .before .before .before .before .read-plane) .ensures) ((c .before .before .last2) .given .1) in
-    (c .refused-named2) .ensures ∙ sym (ap namedOf (named-texted ((c .before .before .before .before .before .before .before .args) .v) γ p ∙ texted-no plane ((c .before .before .before .before .before .before .before .args) .v) naming γ p t))
+    let a = c .before .before .before .before .before .before .before .args in
+    let γ = payloads (now (a .main)) (now (a .string)) (a .reader) (a .end) in
+    let p = placesOf (a .at) in
+    let t = plane-none (plane .read (γ .main) (p .main)) (c .before .before .before .before .read-plane .ensures) (c .before .before .last2 .given .1) in
+    c .refused-named2 .ensures ∙ sym (ap namedOf (named-texted (a .v) γ p ∙ texted-no plane (a .v) naming γ p t))
 
 pub read-named-spec : {M : Type 1} → statement M
 read-named-spec =

@@ -38,17 +38,19 @@ enum-known-z-2 c = search needs
 
 returns : tie.Need-returns
 returns c =
-    let s = now ((c .before .before .before .before .before .before .before .before .before .before .before .args) .s) in
+    let a = c .before .before .before .before .before .before .before .before .before .before .before .args in
+    let s = now (a .s) in
     let e =
-    plane-row s ((c .before .before .before .before .before .before .before .before .before .before .before .args) .at) ((c .before .before .before .before .before .before .before .before .before .read-bd-bits) .ensures) ((c .before .before .before .before .before .before .before .before .then-bd-bits) .ensures) ((c .before .before .before .before .before .before .before .then-bd-bits2) .ensures) ((c .before .before .before .before .before .before .then-bd-bits3) .ensures)
-    ∙ row-done s (planeWith (valueOf ((c .before .before .before .before .before .before .before .before .before .read-bd-bits) .result)) (valueOf ((c .before .before .before .before .before .before .before .before .then-bd-bits) .result)) (valueOf ((c .before .before .before .before .before .before .before .then-bd-bits2) .result))) ((c .before .before .before .before .z) .given .1) in
-    rw ((c .value-of3) .ensures, (c .before .value-of2) .ensures, (c .before .before .value-of) .ensures) (sym (ap planeOf e))
+    plane-row s (a .at) (c .before .before .before .before .before .before .before .before .before .read-bd-bits .ensures) (c .before .before .before .before .before .before .before .before .then-bd-bits .ensures) (c .before .before .before .before .before .before .before .then-bd-bits2 .ensures) (c .before .before .before .before .before .before .then-bd-bits3 .ensures)
+    ∙ row-done s (planeWith (valueOf (c .before .before .before .before .before .before .before .before .before .read-bd-bits .result)) (valueOf (c .before .before .before .before .before .before .before .before .then-bd-bits .result)) (valueOf (c .before .before .before .before .before .before .before .then-bd-bits2 .result))) (c .before .before .before .before .z .given .1) in
+    rw (c .value-of3 .ensures, c .before .value-of2 .ensures, c .before .before .value-of .ensures) (sym (ap planeOf e))
 
 returns-2 : tie.Need-returns-2
 returns-2 c =
-    let s = now ((c .before .before .before .before .before .before .before .before .args) .s) in
-    sym (ap planeOf (plane-row s ((c .before .before .before .before .before .before .before .before .args) .at) ((c .before .before .before .before .before .before .read-bd-bits) .ensures) ((c .before .before .before .before .before .then-bd-bits) .ensures) ((c .before .before .before .before .then-bd-bits2) .ensures) ((c .before .before .before .then-bd-bits3) .ensures)
-    ∙ row-refused s (λ n. pure (planeWith (valueOf ((c .before .before .before .before .before .before .read-bd-bits) .result)) (valueOf ((c .before .before .before .before .before .then-bd-bits) .result)) (valueOf ((c .before .before .before .before .then-bd-bits2) .result)) n)) ((c .before .z2) .given .1)))
+    let a = c .before .before .before .before .before .before .before .before .args in
+    let s = now (a .s) in
+    sym (ap planeOf (plane-row s (a .at) (c .before .before .before .before .before .before .read-bd-bits .ensures) (c .before .before .before .before .before .then-bd-bits .ensures) (c .before .before .before .before .then-bd-bits2 .ensures) (c .before .before .before .then-bd-bits3 .ensures)
+    ∙ row-refused s (λ n. pure (planeWith (valueOf (c .before .before .before .before .before .before .read-bd-bits .result)) (valueOf (c .before .before .before .before .before .then-bd-bits .result)) (valueOf (c .before .before .before .before .then-bd-bits2 .result)) n)) (c .before .z2 .given .1)))
 
 pub read-plane-spec : {M : Type 1} → statement M
 read-plane-spec =

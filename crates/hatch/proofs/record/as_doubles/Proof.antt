@@ -28,7 +28,7 @@ double-of-requires-7 : tie.Need-double-of-requires-7
 double-of-requires-7 c κs = search needs
 
 returns : tie.Need-returns
-returns c = rw ((c .before .before .before .before .before .before .double-of) .ensures, (c .before .before .before .before .before .double-of2) .ensures, (c .before .before .before .before .double-of3) .ensures, (c .before .before .before .double-of4) .ensures, (c .before .before .double-of5) .ensures, (c .before .double-of6) .ensures, (c .double-of7) .ensures, (c .before .before .before .before .before .before .before .fill-as-doubles) .ensures)
+returns c = rw (c .before .before .before .before .before .before .double-of .ensures, c .before .before .before .before .before .double-of2 .ensures, c .before .before .before .before .double-of3 .ensures, c .before .before .before .double-of4 .ensures, c .before .before .double-of5 .ensures, c .before .double-of6 .ensures, c .double-of7 .ensures, c .before .before .before .before .before .before .before .fill-as-doubles .ensures)
 
 pub as-doubles-spec : {M : Type 1} → statement M
 as-doubles-spec =

@@ -24,7 +24,7 @@ color-as-doubles-requires : tie.Need-color-as-doubles-requires Inv-loop μ-loop
 color-as-doubles-requires c κs = search needs
 
 loop-holds : tie.Need-loop-holds Inv-loop μ-loop
-loop-holds c = (omega arith, ap (λ (z : GradientColor). replicate 16 z) ((c .color-as-doubles) .ensures ∙ ap colorAsDoubles ((c .before .zero-color) .ensures)))
+loop-holds c = (omega arith, ap (λ (z : GradientColor). replicate 16 z) (c .color-as-doubles .ensures ∙ ap colorAsDoubles (c .before .zero-color .ensures)))
 
 mul-color-as-doubles : tie.Need-mul-color-as-doubles Inv-loop μ-loop
 mul-color-as-doubles c = search needs

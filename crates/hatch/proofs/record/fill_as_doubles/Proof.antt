@@ -16,7 +16,7 @@ colors-as-doubles-requires : tie.Need-colors-as-doubles-requires
 colors-as-doubles-requires c κs = search needs
 
 returns : tie.Need-returns
-returns c = rw ((c .before .before .before .double-of) .ensures, (c .before .before .double-of2) .ensures, (c .before .double-of3) .ensures, (c .colors-as-doubles) .ensures)
+returns c = rw (c .before .before .before .double-of .ensures, c .before .before .double-of2 .ensures, c .before .double-of3 .ensures, c .colors-as-doubles .ensures)
 
 pub fill-as-doubles-spec : {M : Type 1} → statement M
 fill-as-doubles-spec =

@@ -7,7 +7,7 @@ zero-color-requires : tie.Need-zero-color-requires
 zero-color-requires c κs = search needs
 
 returns : tie.Need-returns
-returns c = rw ((c .zero-color) .ensures)
+returns c = rw (c .zero-color .ensures)
 
 pub zero-fill-spec : {M : Type 1} → statement M
 zero-fill-spec = tie.close (tie.spec zero-color-requires returns)

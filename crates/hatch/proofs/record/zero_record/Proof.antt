@@ -7,7 +7,7 @@ zero-fill-requires : tie.Need-zero-fill-requires
 zero-fill-requires c κs = search needs
 
 returns : tie.Need-returns
-returns c = rw ((c .before .zero-fill) .ensures)
+returns c = rw (c .before .zero-fill .ensures)
 
 pub zero-record-spec : {M : Type 1} → statement M
 zero-record-spec = tie.close (tie.spec zero-fill-requires returns)
