@@ -1,3 +1,6 @@
+pub mod Filling
+pub mod FrontLaws
+pub mod FrontJoins
 pub mod Laws
 pub mod Loops
 pub mod RawRuns

@@ -9,3 +9,6 @@ pub mod Stores
 pub mod Heads
 pub mod Tails
 pub mod Rests
+pub mod Rows
+pub mod Fronts
+pub mod Seeds

@@ -4,8 +4,12 @@
 
 mod counts;
 mod edges;
+mod fills;
+mod fronts;
 mod lists;
 mod paths;
 mod patterns;
+mod record;
 mod rests;
 mod runs;
+pub mod seeds;
