@@ -12,3 +12,5 @@ pub mod Rests
 pub mod Rows
 pub mod Fronts
 pub mod Seeds
+pub mod Bodies
+pub mod Calls

@@ -1,0 +1,58 @@
+-- What the calls answer, and the lists afterwards, from the definition of a whole call. Assumes nothing.
+use mathlib.Core.Path.{_≡_}
+use mathlib.Core.Bool.{Bool, true, false, _&&_}
+use mathlib.Core.List.{List, [], _++_}
+use Prim.Native.Nat.{ℕ}
+use lib.Dec.{leb}
+use lib.Ieee.{Float}
+use lib.ListN.{length, drop}
+use Rattle.bitcursor.specs.Reading.{Out, got, refused}
+use Rattle.bitcursor.specs.Inputs.{Places}
+use Rattle.text.specs.Answers.{asPlaces}
+use Rattle.hatch_format.specs.Caps.{documentCaps}
+use Rattle.hatch_format.specs.Values.{Rest, Body}
+use Rattle.hatch_format.specs.Entries.{words, numbers}
+use Rattle.hatch_format.specs.Record.{recordOf, zeroRecord, asDoubles}
+use Rattle.hatch_format.specs.Call.{Strings, Call, hatchCall}
+use Rattle.hatch_format.specs.declared.HatchBits.{HatchBits}
+use Rattle.hatch.specs.declared.Outcome.the-variants.{Read, Refused}
+use Rattle.hatch.specs.declared.HatchAnswer.{HatchAnswer}
+use Rattle.hatch.specs.declared.HatchBitsAnswer.{HatchBitsAnswer}
+use Rattle.hatch.specs.declared.Lengths.{Lengths}
+use Rattle.hatch.specs.Lists.{Lists, lists, doublesOf, lay}
+use Rattle.hatch.specs.Rests.{noSizes, restEntries}
+
+-- ---- the record beside the outcome: zero but for the places on a refusal
+abbrev pub asBits : Out Places Body → HatchBitsAnswer
+asBits (got a q) = record { outcome = Read; hatch = recordOf a q }
+asBits (refused k q) = record { outcome = Refused k; hatch = zeroRecord q }
+
+abbrev pub doublesIn : HatchBitsAnswer → HatchAnswer
+doublesIn r = record { outcome = r .outcome; hatch = asDoubles (r .hatch) }
+
+-- with each double as the double that it is, the NaN where its 64 bits are a NaN's
+abbrev pub asData : Out Places Body → HatchAnswer
+asData o = doublesIn (asBits o)
+
+-- ---- a list afterwards: the entries and then what was there; unchanged on a refusal
+abbrev pub filled : {A : Type 0} → (Rest → List A) → Out Places Body → List A → List A
+filled e (got a q) l = e (a .rest) ++ drop (length (e (a .rest))) l
+filled e (refused k q) l = l
+
+abbrev pub doubles : Rest → List Float
+doubles a = doublesOf (numbers a)
+
+-- ---- the calls
+abbrev pub callOf : ℕ → List ℕ → ℕ → Strings → ℕ → ℕ → Out Places Body
+callOf release xs start strings nw nn =
+    hatchCall documentCaps (record { release = release; main = xs; start = start; strings = strings; words = nw; numbers = nn })
+
+-- inside, before a list's room is known: what the lists are then
+abbrev pub laidOver : Lists → Out Places Body → Lists
+laidOver l (got a q) = lay l noSizes (restEntries (a .rest))
+laidOver l (refused k q) = l
+
+-- ---- the lengths that a readable hatch needs, whatever is lent
+abbrev pub asLengths : Out Places Body → Lengths
+asLengths (got a q) = record { outcome = Read; words = length (words (a .rest)); numbers = length (numbers (a .rest)); places = asPlaces q }
+asLengths (refused k q) = record { outcome = Refused k; words = 0; numbers = 0; places = asPlaces q }
