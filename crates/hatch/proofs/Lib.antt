@@ -12,3 +12,5 @@ pub mod Rows
 pub mod TailLaws
 pub mod TailEnds
 pub mod RestLaws
+pub mod BodyLaws
+pub mod CallLaws

@@ -13,7 +13,7 @@ ghost use Rattle.hatch.specs.Lists.{lists};
 ghost use Rattle.hatch.specs.Heads.{Modest};
 ghost use Rattle.hatch.specs.Rests.{restWalk};
 ghost use Rattle.hatch.specs.Calls.{asBits, laidOver};
-ghost use Rattle.hatch.specs.Bodies.{madeOf};
+ghost use Rattle.hatch.specs.Bodies.{madeOf, closedOf, closedLists, opened};
 use crate::HatchBitsAnswer;
 use crate::Outcome;
 use crate::fronts;
@@ -29,6 +29,8 @@ use hatch_format::Caps;
 use hatch_format::HatchBits;
 use hatch_format::Vec3DBits;
 use text::Places;
+use text::version;
+use text::version::MaybeVersion;
 use text::version::Version;
 
 // A refused call's answer.
@@ -93,5 +95,140 @@ fn made(front: Front, rest: Rest, z: Sizes, p: Places) -> HatchBits
         words_used: z.words,
         numbers_used: z.numbers,
         places: p,
+    }
+}
+
+// What follows a front: measured, and filled only where both lists are long enough.
+fn fill_rest(
+    main: &[u8],
+    p: Places,
+    v: Version,
+    front: Front,
+    words_room: usize,
+    numbers_room: usize,
+    numbers: &mut [f64],
+    bits: &mut [u64],
+    words: &mut [u32],
+) -> HatchBitsAnswer
+    requires { ⌜ (length (now main) ≤ limit) × (p .main ≤ 8 * length (now main)) ⌝ }
+    ensures { λ r. ⌜ (r ≡ closedOf front «words_room» «numbers_room» p ((rest documentCaps v) .read (now (main .entry)) (p .main))) × (lists (now (numbers .exit)) (now (bits .exit)) (now (words .exit)) ≡ closedLists (lists (now (numbers .entry)) (now (bits .entry)) (now (words .entry))) «words_room» «numbers_room» ((rest documentCaps v) .read (now (main .entry)) (p .main))) ⌝ }
+{
+    let at = p.main;
+    let string = p.string;
+    let caps = hatch_format::document_caps();
+    match measure_rest(main, at, v, caps) {
+        RestWalk::Done(rest, q, z) => {
+            let e = Places {
+                main: q,
+                string: string,
+            };
+            if words_room < z.words {
+                return refused(Refusal::ListTooShort, e);
+            }
+            if numbers_room < z.numbers {
+                return refused(Refusal::ListTooShort, e);
+            }
+            let again = rests::decode_rest(main, at, v, caps, numbers, bits, words);
+            HatchBitsAnswer {
+                outcome: Outcome::Read,
+                hatch: made(front, rest, z, e),
+            }
+        }
+        RestWalk::Refused(k, q) => refused(
+            k,
+            Places {
+                main: q,
+                string: string,
+            },
+        ),
+    }
+}
+
+// A body of a known release, of payloads within the limit.
+fn read_body(
+    main: &[u8],
+    string: &[u8],
+    at: Places,
+    reader: bool,
+    end: usize,
+    v: Version,
+    words_room: usize,
+    numbers_room: usize,
+    numbers: &mut [f64],
+    bits: &mut [u64],
+    words: &mut [u32],
+) -> HatchBitsAnswer
+    requires { ⌜ (length (now main) ≤ limit) × (length (now string) ≤ limit) ⌝ }
+    ensures { λ r. ⌜ (r ≡ asBits (roomFor «words_room» «numbers_room» ((hatch documentCaps v) .read (payloads (now (main .entry)) (now (string .entry)) reader end) (placesOf at)))) × (lists (now (numbers .exit)) (now (bits .exit)) (now (words .exit)) ≡ laidOver (lists (now (numbers .entry)) (now (bits .entry)) (now (words .entry))) (roomFor «words_room» «numbers_room» ((hatch documentCaps v) .read (payloads (now (main .entry)) (now (string .entry)) reader end) (placesOf at)))) ⌝ }
+{
+    let caps = hatch_format::document_caps();
+    let front = fronts::read_front(main, string, at, reader, end, v, caps);
+    let last = front.last;
+    match last {
+        Ended::Done(p) => fill_rest(
+            main,
+            p,
+            v,
+            front,
+            words_room,
+            numbers_room,
+            numbers,
+            bits,
+            words,
+        ),
+        Ended::Refused(k, p) => refused(k, p),
+    }
+}
+
+// A call on any input: refusal 9, then 10 of either payload, then a string start past its payload, then the body.
+pub fn read_call(
+    main: &[u8],
+    string: &[u8],
+    at: Places,
+    reader: bool,
+    end: usize,
+    release: u64,
+    words_room: usize,
+    numbers_room: usize,
+    numbers: &mut [f64],
+    bits: &mut [u64],
+    words: &mut [u32],
+) -> HatchBitsAnswer
+    ensures { λ r. ⌜ (r ≡ asBits (opened release (payloads (now (main .entry)) (now (string .entry)) reader end) (placesOf at) «words_room» «numbers_room»)) × (lists (now (numbers .exit)) (now (bits .exit)) (now (words .exit)) ≡ laidOver (lists (now (numbers .entry)) (now (bits .entry)) (now (words .entry))) (opened release (payloads (now (main .entry)) (now (string .entry)) reader end) (placesOf at) «words_room» «numbers_room»)) ⌝ }
+{
+    match version::version_of(release) {
+        MaybeVersion::Known(v) => {
+            if bitcursor::LIMIT < main.len() {
+                return refused(Refusal::PayloadTooLong, at);
+            }
+            if bitcursor::LIMIT < string.len() {
+                return refused(Refusal::PayloadTooLong, at);
+            }
+            let start = at.string;
+            let last = string.len() * 8;
+            if last < start {
+                return refused(
+                    Refusal::TooFewBits,
+                    Places {
+                        main: at.main,
+                        string: last,
+                    },
+                );
+            }
+            read_body(
+                main,
+                string,
+                at,
+                reader,
+                end,
+                v,
+                words_room,
+                numbers_room,
+                numbers,
+                bits,
+                words,
+            )
+        }
+        MaybeVersion::Unknown => refused(Refusal::UnknownRelease, at),
     }
 }

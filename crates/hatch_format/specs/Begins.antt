@@ -17,10 +17,10 @@ use Rattle.hatch_format.specs.Values.{Plane, Gradient, Body}
 use Rattle.hatch_format.specs.Layouts.{Coded, InMain, PlaneLaid, GradientLaid, BodyLaid}
 use Rattle.hatch_format.specs.Takes.{moved, takes-BL, takes-BD}
 
-BL-begins : (xs : List ℕ) (n p q : ℕ) → Coded xs BL n p q → p < size xs
+pub BL-begins : (xs : List ℕ) (n p q : ℕ) → Coded xs BL n p q → p < size xs
 BL-begins xs n p q l = let h = takes-BL xs n p q l in let m = moved (coded BL) xs n p q l in omega (arith, h, m .inside)
 
-BD-begins : (xs : List ℕ) (n p q : ℕ) → Coded xs BD n p q → p < size xs
+pub BD-begins : (xs : List ℕ) (n p q : ℕ) → Coded xs BD n p q → p < size xs
 BD-begins xs n p q l = let h = takes-BD xs n p q l in let m = moved (coded BD) xs n p q l in omega (arith, h, m .inside)
 
 pub body-begins : (caps : Caps) (v : Version) (γ : Payloads) (a : Body) (p q : Places) → BodyLaid caps v γ a p q → p .main < size (γ .main)

@@ -1,0 +1,146 @@
+-- A body from the answers for its front and its rest: what the definition of the whole reads, and what the lists are then. Assumes nothing.
+use mathlib.Core.Path.{_≡_, refl, sym, ap, ap₂, subst, _∙_}
+use mathlib.Core.Bool.{Bool, true, false, _&&_}
+use mathlib.Core.List.{List, [], _++_, append-nil}
+use Prim.Native.Nat.{ℕ, _+_, _*_, _^_, _≤_, _<_, max}
+use native.Mathlib.Nat.{zero-add}
+use native.Mathlib.Omega.{arith}
+use lib.Dec.{leb}
+use lib.ListN.{length}
+use borrow.Author.Tests.{le-leb, lt-leb}
+use Rattle.bitcursor.specs.declared.Refusal.{Refusal}
+use Rattle.bitcursor.specs.declared.Refusal.the-variants.{ListTooShort}
+use Rattle.bitcursor.specs.Bits.{size}
+use Rattle.bitcursor.specs.Reading.{Out, got, refused, place, andThen}
+use Rattle.bitcursor.specs.Ranges.{BS-below}
+use Rattle.bitcursor.specs.Format.{Format, pure, _>>=_, relay}
+use Rattle.bitcursor.specs.Inputs.{Places, Payloads, Onward}
+use Rattle.bitcursor.specs.Fields.{main, within, lifted}
+use Rattle.text.specs.declared.Places.{Places as CodePlaces}
+use Rattle.text.specs.declared.version.Version.{Version}
+use Rattle.text.specs.Releases.{releaseNumber}
+use Rattle.text.specs.Answers.{asPlaces, placesOf}
+use Rattle.hatch_format.specs.Caps.{documentCaps}
+use Rattle.hatch_format.specs.declared.Caps.{Caps}
+use Rattle.hatch_format.specs.Values.{Gradient, Plane, Rest as RestValue, Body}
+use Rattle.hatch_format.specs.Layouts.{GradientLaid}
+use Rattle.hatch_format.specs.Entries.{every, words, numbers, pathWords, lineWords, pathNumbers, lineNumbers, pointNumbers}
+use Rattle.hatch_format.specs.Record.{recordOf, zeroRecord}
+use Rattle.hatch_format.specs.Patterns.{rest}
+use Rattle.hatch_format.specs.Gradients.{gradient}
+use Rattle.hatch_format.specs.Hatch.{plane, hatch}
+use Rattle.hatch_format.specs.Call.{roomFor}
+use Rattle.hatch_format.specs.Begins.{BL-begins, BD-begins}
+use Rattle.hatch.specs.declared.lists.Sizes.{Sizes}
+use Rattle.hatch.specs.declared.fronts.Ended.{Ended}
+use Rattle.hatch.specs.declared.fronts.Ended.the-variants.{Done as DoneFront, Refused as RefusedFront}
+use Rattle.hatch.specs.declared.fronts.Front.{Front as FrontRead}
+use Rattle.hatch.specs.declared.rests.Rest.{Rest}
+use Rattle.hatch.specs.declared.rests.RestWalk.the-variants.{Done, Refused}
+use Rattle.hatch.specs.declared.HatchBitsAnswer.{HatchBitsAnswer}
+use Rattle.hatch.specs.declared.Outcome.the-variants.{Read}
+use Rattle.hatch_format.specs.declared.HatchBits.{HatchBits}
+use Rattle.hatch.specs.Gathered.{Entries, all, gathered}
+use Rattle.hatch.specs.Gathers.{all-both}
+use Rattle.hatch.specs.PathGathers.{pathEntries, all-paths}
+use Rattle.hatch.specs.Lists.{Lists, lay, grow, Laid}
+use Rattle.hatch.specs.Heads.{Modest}
+use Rattle.hatch.specs.Tails.{Gives}
+use Rattle.hatch.specs.Rests.{noSizes, restOf, restEntries, restWalk}
+use Rattle.hatch.specs.Fronts.{Front, front, named, whole, hatch-front, frontOf}
+use Rattle.hatch.specs.Bodies.{madeOf, placed, roomy, madeIf, closedOf, layIf, closedLists}
+use Rattle.hatch.specs.Calls.{asBits, laidOver}
+
+pub modest : Modest documentCaps
+modest =
+    record {
+      vertices = omega arith;
+      edges = omega arith;
+      knots = omega arith;
+      controls = omega arith;
+      fits = omega arith;
+      handles = omega arith;
+      paths = omega arith;
+      lines = omega arith;
+      dashes = omega arith;
+      seeds = omega arith;
+    }
+
+-- ---- what the rest's answer tells
+pub rest-done : (o : Out ℕ RestValue) {t : Rest} {q : ℕ} {z : Sizes} → Done t q z ≡ restWalk o
+    → (a : RestValue) × (o ≡ got a q) × (t ≡ restOf a) × (z ≡ grow noSizes (restEntries a))
+rest-done (got a p) {t} {q} {z} e =
+    let i : p ≡ q = cc in
+    (a, ap (got a) i, cc, cc)
+rest-done (refused k p) e = let x : _≡_ {A = ℕ} 0 1 = cc in absurd (omega arith)
+
+pub rest-not : (o : Out ℕ RestValue) {k : Refusal} {q : ℕ} → Refused k q ≡ restWalk o → o ≡ refused k q
+rest-not (got a p) e = let x : _≡_ {A = ℕ} 0 1 = cc in absurd (omega arith)
+rest-not (refused k p) e = cc
+
+pub rest-range : (caps : Caps) (v : Version) (xs : List ℕ) (p : ℕ) {a : RestValue} {q : ℕ} → (rest caps v) .read xs p ≡ got a q
+    → (a .tail .pattern-style < 2 ^ 16) × (a .tail .pattern-type < 2 ^ 16)
+unfolding rest relay
+rest-range caps v xs p {a} {q} e =
+    let l = (rest caps v) .sound xs a p q e .2 .2 .2 in
+    (BS-below (a .tail .pattern-style) (l .1 .code) (l .1 .listed), BS-below (a .tail .pattern-type) (l .2 .1 .code) (l .2 .1 .listed))
+
+-- ---- what the rest lays is the definition's words and numbers
+pub laid-words : (a : RestValue) → restEntries a .words ≡ words a
+laid-words a =
+    ap₂ _++_ (ap (λ (e : Entries). e .words) (all-paths (a .paths)))
+    (ap (λ (e : Entries). e .words ++ []) (all-both lineWords lineNumbers (a .tail .pattern .lines)) ∙ append-nil (every lineWords (a .tail .pattern .lines)))
+
+pub laid-numbers : (a : RestValue) → restEntries a .numbers ≡ numbers a
+laid-numbers a =
+    ap₂ (λ (m n : List ℕ). m ++ (n ++ every pointNumbers (a .tail .ending .seed-points))) (ap (λ (e : Entries). e .numbers) (all-paths (a .paths))) (ap (λ (e : Entries). e .numbers) (all-both lineWords lineNumbers (a .tail .pattern .lines)))
+
+pub used-words : (a : RestValue) → grow noSizes (restEntries a) .words ≡ length (words a)
+used-words a = zero-add (length (restEntries a .words)) ∙ ap length (laid-words a)
+
+pub used-numbers : (a : RestValue) → grow noSizes (restEntries a) .numbers ≡ length (numbers a)
+used-numbers a = zero-add (length (restEntries a .numbers)) ∙ ap length (laid-numbers a)
+
+-- ---- the room
+module _ (nw nn : ℕ) (z : Sizes) where
+  pub short-words : nw < z .words → roomy nw nn z ≡ false
+  short-words h = rw (lt-leb (z .words) nw h)
+
+  pub short-numbers : z .words ≤ nw → nn < z .numbers → roomy nw nn z ≡ false
+  short-numbers g h = rw (le-leb (z .words) nw g, lt-leb (z .numbers) nn h)
+
+  pub room : z .words ≤ nw → z .numbers ≤ nn → roomy nw nn z ≡ true
+  room g h = rw (le-leb (z .words) nw g, le-leb (z .numbers) nn h)
+
+-- ---- the rest behind a front
+module _ (f : FrontRead) (nw nn : ℕ) (p : CodePlaces) (o : Out ℕ RestValue) {t : Rest} {q : ℕ} {z : Sizes} (e : Done t q z ≡ restWalk o) where
+  told : (a : RestValue) × (o ≡ got a q) × (t ≡ restOf a) × (z ≡ grow noSizes (restEntries a))
+  told = rest-done o e
+
+  pub closed-short : {r : HatchBitsAnswer} {l l′ : Lists} → roomy nw nn z ≡ false → r ≡ asBits (refused ListTooShort (placesOf (placed p q))) → l′ ≡ l
+      → (r ≡ closedOf f nw nn p o) × (l′ ≡ closedLists l nw nn o)
+  closed-short {r} {l} {l′} s i j =
+      let b : roomy nw nn (grow noSizes (restEntries (told .0))) ≡ false = ap (roomy nw nn) (sym (told .3)) ∙ s in
+      subst (λ (x : Out ℕ RestValue). (r ≡ closedOf f nw nn p x) × (l′ ≡ closedLists l nw nn x)) (sym (told .1))
+      (i ∙ ap (λ (c : Bool). madeIf c f (told .0) (placed p q)) (sym b), j ∙ ap (λ (c : Bool). layIf c l (told .0)) (sym b))
+
+  pub closed-full : {h : HatchBits} {l l′ : Lists} {xs : List ℕ} → roomy nw nn z ≡ true → h ≡ madeOf f t z (placed p q) → Gives xs restEntries o l noSizes l′
+      → (record { outcome = Read; hatch = h } ≡ closedOf f nw nn p o) × (l′ ≡ closedLists l nw nn o)
+  closed-full {h} {l} {l′} {xs} s i g =
+      let a = told .0 in
+      let b : roomy nw nn (grow noSizes (restEntries a)) ≡ true = ap (roomy nw nn) (sym (told .3)) ∙ s in
+      let k : l′ ≡ lay l noSizes (restEntries a) = subst (λ (x : Out ℕ RestValue). Laid (gathered restEntries x) l noSizes l′) (told .1) (g .laid) in
+      subst (λ (x : Out ℕ RestValue). (record { outcome = Read; hatch = h } ≡ closedOf f nw nn p x) × (l′ ≡ closedLists l nw nn x)) (sym (told .1)) (
+        ap (λ (x : HatchBits). record { outcome = Read; hatch = x }) (i ∙ ap₂ (λ (u : Rest) (y : Sizes). madeOf f u y (placed p q)) (told .2) (told .3)) ∙ ap (λ (c : Bool). madeIf c f a (placed p q)) (sym b),
+        k ∙ ap (λ (c : Bool). layIf c l a) (sym b),
+      )
+
+pub closed-no : (f : FrontRead) (nw nn : ℕ) (p : CodePlaces) (o : Out ℕ RestValue) {k : Refusal} {q : ℕ} {r : HatchBitsAnswer} {l l′ : Lists} → Refused k q ≡ restWalk o
+    → r ≡ asBits (refused k (placesOf (placed p q))) → l′ ≡ l → (r ≡ closedOf f nw nn p o) × (l′ ≡ closedLists l nw nn o)
+closed-no f nw nn p o {k} {q} {r} {l} {l′} e i j =
+    subst (λ (x : Out ℕ RestValue). (r ≡ closedOf f nw nn p x) × (l′ ≡ closedLists l nw nn x)) (sym (rest-not o e)) (i, j)
+
+-- by caps that are known as others
+pub gives-as : {c d : Caps} → c ≡ d → (v : Version) (xs : List ℕ) (p : ℕ) {l l′ : Lists} → Gives xs restEntries ((rest c v) .read xs p) l noSizes l′
+    → Gives xs restEntries ((rest d v) .read xs p) l noSizes l′
+gives-as e v xs p {l} {l′} h = subst (λ (x : Caps). Gives xs restEntries ((rest x v) .read xs p) l noSizes l′) e h
