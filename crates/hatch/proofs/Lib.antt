@@ -14,3 +14,4 @@ pub mod TailEnds
 pub mod RestLaws
 pub mod BodyLaws
 pub mod CallLaws
+pub mod Filled

@@ -42,6 +42,15 @@ filled e (refused k q) l = l
 abbrev pub doubles : Rest → List Float
 doubles a = doublesOf (numbers a)
 
+abbrev pub wordsAfter : Out Places Body → List ℕ → List ℕ
+wordsAfter o l = filled words o l
+
+abbrev pub numbersAfter : Out Places Body → List ℕ → List ℕ
+numbersAfter o l = filled numbers o l
+
+abbrev pub doublesAfter : Out Places Body → List Float → List Float
+doublesAfter o l = filled doubles o l
+
 -- ---- the calls
 abbrev pub callOf : ℕ → List ℕ → ℕ → Strings → ℕ → ℕ → Out Places Body
 callOf release xs start strings nw nn =
@@ -56,3 +65,7 @@ laidOver l (refused k q) = l
 abbrev pub asLengths : Out Places Body → Lengths
 asLengths (got a q) = record { outcome = Read; words = length (words (a .rest)); numbers = length (numbers (a .rest)); places = asPlaces q }
 asLengths (refused k q) = record { outcome = Refused k; words = 0; numbers = 0; places = asPlaces q }
+
+-- longer than any list is
+abbrev pub most : ℕ
+most = 18_446_744_073_709_551_615

@@ -1,6 +1,10 @@
 // The hatch calls: src/entities/hatch.rs of dwg-rs; section 20.4.75 of the specification.
 // One set of walks measures and fills, so that no list is written while a later field can still fail.
 // specs/ promises of each call, on any input, its record, both places and every entry of both lists, as hatch_format defines them.
+ghost use mathlib.Core.Path.{_≡_};
+ghost use lib.ListN.{length};
+ghost use Rattle.hatch_format.specs.Call.{none, lent};
+ghost use Rattle.hatch.specs.Calls.{asBits, asData, wordsAfter, numbersAfter, doublesAfter, callOf};
 use bitcursor::Refusal;
 use hatch_format::Hatch;
 use hatch_format::HatchBits;
@@ -42,4 +46,150 @@ pub struct Lengths {
     pub words: usize,
     pub numbers: usize,
     pub places: Places,
+}
+
+// A hatch body without a reader, from any bytes at any start bit, of any release number; doubles as their 64 bits.
+pub fn decode_bits(
+    main: &[u8],
+    start: usize,
+    release: u64,
+    bits: &mut [u64],
+    words: &mut [u32],
+) -> HatchBitsAnswer
+    ensures { λ r. ⌜ (r ≡ asBits (callOf release (now (main .entry)) start none (length (now (words .entry))) (length (now (bits .entry))))) × ((now (bits .exit) ≡ numbersAfter (callOf release (now (main .entry)) start none (length (now (words .entry))) (length (now (bits .entry)))) (now (bits .entry))) × (now (words .exit) ≡ wordsAfter (callOf release (now (main .entry)) start none (length (now (words .entry))) (length (now (bits .entry)))) (now (words .entry)))) ⌝ }
+{
+    let mut numbers = [0.0f64; 1];
+    let at = Places {
+        main: start,
+        string: 0,
+    };
+    let words_room = words.len();
+    let numbers_room = bits.len();
+    bodies::read_call(
+        main,
+        &main[..0],
+        at,
+        false,
+        0,
+        release,
+        words_room,
+        numbers_room,
+        &mut numbers[..0],
+        bits,
+        words,
+    )
+}
+
+// The same with doubles as f64.
+pub fn decode(
+    main: &[u8],
+    start: usize,
+    release: u64,
+    numbers: &mut [f64],
+    words: &mut [u32],
+) -> HatchAnswer
+    ensures { λ r. ⌜ (r ≡ asData (callOf release (now (main .entry)) start none (length (now (words .entry))) (length (now (numbers .entry))))) × ((now (numbers .exit) ≡ doublesAfter (callOf release (now (main .entry)) start none (length (now (words .entry))) (length (now (numbers .entry)))) (now (numbers .entry))) × (now (words .exit) ≡ wordsAfter (callOf release (now (main .entry)) start none (length (now (words .entry))) (length (now (numbers .entry)))) (now (words .entry)))) ⌝ }
+{
+    let mut bits = [0u64; 1];
+    let at = Places {
+        main: start,
+        string: 0,
+    };
+    let words_room = words.len();
+    let numbers_room = numbers.len();
+    let answer = bodies::read_call(
+        main,
+        &main[..0],
+        at,
+        false,
+        0,
+        release,
+        words_room,
+        numbers_room,
+        numbers,
+        &mut bits[..0],
+        words,
+    );
+    let outcome = answer.outcome;
+    let hatch = answer.hatch;
+    HatchAnswer {
+        outcome: outcome,
+        hatch: record::as_doubles(hatch),
+    }
+}
+
+// With a string reader over any bytes, from any start bit to any end bit.
+pub fn decode_with_strings_bits(
+    main: &[u8],
+    start: usize,
+    string: &[u8],
+    string_start: usize,
+    string_end: usize,
+    release: u64,
+    bits: &mut [u64],
+    words: &mut [u32],
+) -> HatchBitsAnswer
+    ensures { λ r. ⌜ (r ≡ asBits (callOf release (now (main .entry)) start (lent (now (string .entry)) «string_start» «string_end») (length (now (words .entry))) (length (now (bits .entry))))) × ((now (bits .exit) ≡ numbersAfter (callOf release (now (main .entry)) start (lent (now (string .entry)) «string_start» «string_end») (length (now (words .entry))) (length (now (bits .entry)))) (now (bits .entry))) × (now (words .exit) ≡ wordsAfter (callOf release (now (main .entry)) start (lent (now (string .entry)) «string_start» «string_end») (length (now (words .entry))) (length (now (bits .entry)))) (now (words .entry)))) ⌝ }
+{
+    let mut numbers = [0.0f64; 1];
+    let at = Places {
+        main: start,
+        string: string_start,
+    };
+    let words_room = words.len();
+    let numbers_room = bits.len();
+    bodies::read_call(
+        main,
+        string,
+        at,
+        true,
+        string_end,
+        release,
+        words_room,
+        numbers_room,
+        &mut numbers[..0],
+        bits,
+        words,
+    )
+}
+
+// The same with doubles as f64.
+pub fn decode_with_strings(
+    main: &[u8],
+    start: usize,
+    string: &[u8],
+    string_start: usize,
+    string_end: usize,
+    release: u64,
+    numbers: &mut [f64],
+    words: &mut [u32],
+) -> HatchAnswer
+    ensures { λ r. ⌜ (r ≡ asData (callOf release (now (main .entry)) start (lent (now (string .entry)) «string_start» «string_end») (length (now (words .entry))) (length (now (numbers .entry))))) × ((now (numbers .exit) ≡ doublesAfter (callOf release (now (main .entry)) start (lent (now (string .entry)) «string_start» «string_end») (length (now (words .entry))) (length (now (numbers .entry)))) (now (numbers .entry))) × (now (words .exit) ≡ wordsAfter (callOf release (now (main .entry)) start (lent (now (string .entry)) «string_start» «string_end») (length (now (words .entry))) (length (now (numbers .entry)))) (now (words .entry)))) ⌝ }
+{
+    let mut bits = [0u64; 1];
+    let at = Places {
+        main: start,
+        string: string_start,
+    };
+    let words_room = words.len();
+    let numbers_room = numbers.len();
+    let answer = bodies::read_call(
+        main,
+        string,
+        at,
+        true,
+        string_end,
+        release,
+        words_room,
+        numbers_room,
+        numbers,
+        &mut bits[..0],
+        words,
+    );
+    let outcome = answer.outcome;
+    let hatch = answer.hatch;
+    HatchAnswer {
+        outcome: outcome,
+        hatch: record::as_doubles(hatch),
+    }
 }
