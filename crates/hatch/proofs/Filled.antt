@@ -25,7 +25,7 @@ use Rattle.hatch.specs.declared.HatchBitsAnswer.{HatchBitsAnswer}
 use Rattle.hatch.specs.Lists.{Lists, lists, doublesOf}
 use Rattle.hatch.specs.Rests.{restEntries}
 use Rattle.hatch.specs.Bodies.{openedBy, opened}
-use Rattle.hatch.specs.Calls.{asBits, filled, doubles, laidOver}
+use Rattle.hatch.specs.Calls.{asBits, filled, doubles, laidOver, lengthsIn, asLengths}
 use Rattle.hatch.proofs.Laws.{length-doubles}
 use Rattle.hatch.proofs.BodyLaws.{laid-words, laid-numbers}
 
@@ -91,3 +91,8 @@ module _ (c : Call) where
 
     pub doubles-then : length (l .doubles) ≡ c .numbers → l′ .doubles ≡ filled doubles (hatchCall documentCaps c) (l .doubles)
     doubles-then n = ap (λ (x : Lists). x .doubles) over ∙ filled-doubles l n
+
+-- the lengths of an answer are the definition's
+pub lengths-are : (o : Out Places Body) → lengthsIn (asBits o) ≡ asLengths o
+lengths-are (got a q) = refl
+lengths-are (refused k q) = refl

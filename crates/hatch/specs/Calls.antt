@@ -66,6 +66,9 @@ abbrev pub asLengths : Out Places Body → Lengths
 asLengths (got a q) = record { outcome = Read; words = length (words (a .rest)); numbers = length (numbers (a .rest)); places = asPlaces q }
 asLengths (refused k q) = record { outcome = Refused k; words = 0; numbers = 0; places = asPlaces q }
 
+abbrev pub lengthsIn : HatchBitsAnswer → Lengths
+lengthsIn r = record { outcome = r .outcome; words = r .hatch .«words_used»; numbers = r .hatch .«numbers_used»; places = r .hatch .places }
+
 -- longer than any list is
 abbrev pub most : ℕ
 most = 18_446_744_073_709_551_615

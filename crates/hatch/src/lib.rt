@@ -4,7 +4,7 @@
 ghost use mathlib.Core.Path.{_≡_};
 ghost use lib.ListN.{length};
 ghost use Rattle.hatch_format.specs.Call.{none, lent};
-ghost use Rattle.hatch.specs.Calls.{asBits, asData, wordsAfter, numbersAfter, doublesAfter, callOf};
+ghost use Rattle.hatch.specs.Calls.{asBits, asData, asLengths, lengthsIn, wordsAfter, numbersAfter, doublesAfter, callOf, most};
 use bitcursor::Refusal;
 use hatch_format::Hatch;
 use hatch_format::HatchBits;
@@ -192,4 +192,83 @@ pub fn decode_with_strings(
         outcome: outcome,
         hatch: record::as_doubles(hatch),
     }
+}
+
+// Longer than any list is: what a measuring call takes both lists to be.
+const MOST: usize = 0xffff_ffff_ffff_ffff;
+
+// The lengths of an answer.
+fn lengths_of(answer: HatchBitsAnswer) -> Lengths
+    ensures { λ r. ⌜ r ≡ lengthsIn answer ⌝ }
+{
+    let outcome = answer.outcome;
+    let hatch = answer.hatch;
+    let places = hatch.places;
+    Lengths {
+        outcome: outcome,
+        words: hatch.words_used,
+        numbers: hatch.numbers_used,
+        places: places,
+    }
+}
+
+// The lengths that the lists must have for a hatch without a reader, or its refusal: a host measures, lends so much and reads.
+pub fn measure(main: &[u8], start: usize, release: u64) -> Lengths
+    ensures { λ r. ⌜ r ≡ asLengths (callOf release (now (main .entry)) start none most most) ⌝ }
+{
+    let mut numbers = [0.0f64; 1];
+    let mut bits = [0u64; 1];
+    let mut words = [0u32; 1];
+    let at = Places {
+        main: start,
+        string: 0,
+    };
+    let answer = bodies::read_call(
+        main,
+        &main[..0],
+        at,
+        false,
+        0,
+        release,
+        MOST,
+        MOST,
+        &mut numbers[..0],
+        &mut bits[..0],
+        &mut words[..0],
+    );
+    lengths_of(answer)
+}
+
+// The same with a string reader.
+pub fn measure_with_strings(
+    main: &[u8],
+    start: usize,
+    string: &[u8],
+    string_start: usize,
+    string_end: usize,
+    release: u64,
+) -> Lengths
+    ensures { λ r. ⌜ r ≡ asLengths (callOf release (now (main .entry)) start (lent (now (string .entry)) «string_start» «string_end») most most) ⌝ }
+{
+    let mut numbers = [0.0f64; 1];
+    let mut bits = [0u64; 1];
+    let mut words = [0u32; 1];
+    let at = Places {
+        main: start,
+        string: string_start,
+    };
+    let answer = bodies::read_call(
+        main,
+        string,
+        at,
+        true,
+        string_end,
+        release,
+        MOST,
+        MOST,
+        &mut numbers[..0],
+        &mut bits[..0],
+        &mut words[..0],
+    );
+    lengths_of(answer)
 }
