@@ -4,14 +4,15 @@
 //!   the payload's length in bytes, how many of them are stored; the same two for the strings (0 and 0 without a reader);
 //!   the payload's stored bytes, and the strings', each padded to whole words;
 //!   the refusal's number or 0, the place, the second place, how many values, the values (signed ones in two's complement).
-//! A payload of zeros (`zN`) is not stored: its length is N and its stored bytes are 0.
+//! A payload of zeros (`zN`) is not stored: its length is N and its stored bytes are 0. A line with a payload above the limit has no
+//! record: crate limit replays it.
 //!
 //! To add a kind: its number in KINDS and in the program's src/, its further numbers in `request`, its values in `values`.
 
 use std::io::{Read, Write};
 
 /// The name in a request, the number of the kind, and whether this is the call that hands over f64, whose NaN is 7ff8000000000000.
-const KINDS: [(&str, u64, bool); 19] = [
+const KINDS: [(&str, u64, bool); 20] = [
     ("b", 1, false),
     ("bb", 2, false),
     ("3b", 3, false),
@@ -31,7 +32,16 @@ const KINDS: [(&str, u64, bool); 19] = [
     ("rd", 17, true),
     ("dd", 18, true),
     ("prefix", 19, false),
+    ("tv", 20, false),
 ];
+
+/// What the program has room for: the numbers of an answer, the bytes of a record, the bytes of a payload of zeros.
+const ROOM: usize = 1024;
+const SPACE: usize = 65_536;
+const ZEROS: u64 = 4_096;
+
+/// Document 01's limit of a payload, in bytes.
+const LIMIT: u64 = 268_435_456;
 
 /// Which further number is which: a default, or the string start and end; then the lent lengths, of words and of numbers.
 const FIRST: usize = 0;
@@ -126,8 +136,31 @@ fn fields(words: &[&str]) -> Result<Vec<u64>, String> {
     Ok(numbers)
 }
 
+/// Where a text lies, each numbered by its place here.
+const SOURCES: [&str; 3] = ["-", "m", "s"];
+
+/// A text's numbers: source, width, position, count, and its units.
+fn text(answer: &str) -> Result<Vec<u64>, String> {
+    let words: Vec<&str> = answer.split(':').collect();
+    let [source, width, position, count, units] = words[..] else {
+        return Err(format!("no text: {answer}"));
+    };
+    let source = SOURCES.iter().position(|known| *known == source).ok_or(format!("no source: {source}"))?;
+    let mut numbers = vec![source as u64, decimal(width)?, decimal(position)?, decimal(count)?];
+    let units = if units == "-" { "" } else { units };
+    let digits = if numbers[1] == 16 { 4 } else { 2 };
+    if !units.is_ascii() || units.len() as u64 != digits * numbers[3] {
+        return Err(format!("not {count} units: {units}"));
+    }
+    for at in (0..units.len()).step_by(digits as usize) {
+        numbers.push(hex(&units[at..at + digits as usize])?);
+    }
+    Ok(numbers)
+}
+
 fn values(name: &str, answer: &str) -> Result<Vec<u64>, String> {
     match name {
+        "tv" => text(answer),
         "bd" | "rd" | "dd" => Ok(vec![hex(answer)?]),
         "handle" => answer.split(',').map(decimal).collect(),
         _ => Ok(vec![decimal(answer)?]),
@@ -168,6 +201,20 @@ fn as_f64(name: &str, request: &Request, mut outcome: Vec<u64>) -> Option<Vec<u6
     Some(outcome)
 }
 
+/// Whether the program has room for the request and its answer.
+fn room(request: &Request, outcome: &[u64]) -> Result<(), String> {
+    let stored = request.main.stored.len() + request.strings.stored.len();
+    if outcome.len() > ROOM || 8 * outcome.len() + stored + 128 > SPACE {
+        return Err(format!("no room for {} bytes and {} numbers", stored, outcome.len()));
+    }
+    for payload in [&request.main, &request.strings] {
+        if payload.stored.is_empty() && payload.length > ZEROS {
+            return Err(format!("no room for {} zeros", payload.length));
+        }
+    }
+    Ok(())
+}
+
 fn record(line: u64, kind: u64, request: &Request, outcome: &[u64]) -> Vec<u64> {
     let (main, strings) = (&request.main, &request.strings);
     let mut words = vec![line, kind, request.release, request.start];
@@ -189,7 +236,11 @@ fn pack(line: u64, text: &str, out: &mut Vec<u8>) -> Result<(), String> {
     let (asked, answer) = text.split_once('\t').ok_or("no tab")?;
     let words: Vec<&str> = asked.split(' ').collect();
     let request = request(&words)?;
+    if request.main.length > LIMIT || request.strings.length > LIMIT {
+        return Ok(());
+    }
     let outcome = outcome(words[0], answer)?;
+    room(&request, &outcome)?;
     let before = out.len();
     for (_, kind, is_f64) in KINDS.into_iter().filter(|(name, ..)| *name == words[0]) {
         let expected = if is_f64 { as_f64(words[0], &request, outcome.clone()) } else { Some(outcome.clone()) };

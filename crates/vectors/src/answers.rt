@@ -1,4 +1,6 @@
 // The answers of the calls as the numbers that the list has: signed ones in two's complement, doubles as their 64 bits.
+ghost use mathlib.Core.Path.{_≡_};
+use crate::record::ROOM;
 use bitcursor::Read;
 use bitcursor::ReadBool;
 use bitcursor::ReadF64;
@@ -14,6 +16,23 @@ pub enum Code {
     Number(u64, usize),
     Handle(u64, u64, u64, usize),
     Unknown,
+}
+
+// The answer's first four numbers: the refusal or 0, the place, the second place, which is 0 without a string reader, and how many
+// values follow.
+pub fn open(found: &mut [u64; ROOM], refusal: u64, place: usize, second: usize, values: usize) {
+    found[0] = refusal;
+    found[1] = place as u64;
+    found[2] = second as u64;
+    found[3] = values as u64;
+}
+
+// A refusal and its places; how many numbers that are.
+pub fn refuse(found: &mut [u64; ROOM], r: Refusal, place: usize, second: usize) -> usize
+    ensures { λ n. ⌜ n ≡ 4 ⌝ }
+{
+    open(found, bitcursor::refusal_number(r) as u64, place, second, 0);
+    4
 }
 
 fn refused(r: Refusal, place: usize) -> Code {

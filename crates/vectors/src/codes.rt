@@ -29,31 +29,22 @@ fn call(kind: u64, s: &[u8], at: usize, more: u64) -> Code {
     }
 }
 
-// The answer's first four numbers: the refusal or 0, the place, the second place, which neither a code nor a prefix has, and how
-// many values follow.
-pub fn open(found: &mut [u64; ROOM], refusal: u64, place: usize, values: u64) {
-    found[0] = refusal;
-    found[1] = place as u64;
-    found[2] = 0;
-    found[3] = values;
-}
-
 // Calls the code and puts its answer at the start of `found`; how many numbers that are, or 0 where there is no such kind.
 pub fn replay(kind: u64, s: &[u8], at: usize, more: u64, found: &mut [u64; ROOM]) -> usize
     ensures { λ r. ⌜ r ≤ 7 ⌝ }
 {
     match call(kind, s, at, more) {
         Code::Refused(k, p) => {
-            open(found, k, p, 0);
+            answers::open(found, k, p, 0, 0);
             4
         }
         Code::Number(v, p) => {
-            open(found, 0, p, 1);
+            answers::open(found, 0, p, 0, 1);
             found[4] = v;
             5
         }
         Code::Handle(code, counter, value, p) => {
-            open(found, 0, p, 3);
+            answers::open(found, 0, p, 0, 3);
             found[4] = code;
             found[5] = counter;
             found[6] = value;

@@ -1,4 +1,4 @@
-// Replays the Rust's answers through the Rattle calls and compares: src/bitcursor.rs and src/common_entity.rs of dwg-rs, ODA sections 2 and 20.4.1.
+// Replays the Rust's answers through the Rattle calls and compares: src/bitcursor.rs, src/tables/mod.rs (`read_tv`) and src/common_entity.rs of dwg-rs.
 // data/list has the requests with the Rust's answers, data/packed the same as 64-bit words; oracle/pack makes both and says how they lie.
 // It promises nothing of its own: it tests that the definitions, which the calls' contracts equate with, answer as the Rust does.
 ghost use Rattle.io.specs.Counts.{Counts};
@@ -9,6 +9,7 @@ mod compare;
 mod prefixes;
 mod record;
 mod report;
+mod texts;
 mod words;
 
 // Reads the words of a record, if there is room for so many; the number of bytes read.

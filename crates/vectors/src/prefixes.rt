@@ -1,7 +1,6 @@
 // The requests for an entity prefix: the call, and its answer as a list of numbers, the fields in the order of the Rust's answer.
 ghost use Prim.Native.Nat.{_≤_};
 use crate::answers;
-use crate::codes;
 use crate::record::ROOM;
 use common_entity::CommonEntityBits;
 use common_entity::EntityMode;
@@ -87,13 +86,10 @@ pub fn replay(s: &[u8], start: usize, release: u64, found: &mut [u64; ROOM]) -> 
     let fields = b.fields;
     match outcome {
         Outcome::Read => {
-            codes::open(found, 0, b.place, 27);
+            answers::open(found, 0, b.place, 0, 27);
             put(found, fields);
             31
         }
-        Outcome::Refused(k) => {
-            codes::open(found, bitcursor::refusal_number(k) as u64, b.place, 0);
-            4
-        }
+        Outcome::Refused(k) => answers::refuse(found, k, b.place, 0),
     }
 }

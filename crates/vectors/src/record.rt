@@ -1,7 +1,7 @@
 // The records of the packed list, and what replaying one finds. The words of a record, each eight bytes:
 //   0  the line of data/list           1  the kind of request           2  the release           3  the start
 //   4 to 7  further numbers of the request, the first of a DD being its default
-//   8  the payload's length in bytes   9  how many of them are stored: all, or none, and then all are zero
+//   8  the payload's length in bytes   9  how many of them are stored: all, or none, and then all are zero and at most 4,096
 //  10  the strings' length in bytes   11  how many of them are stored
 // then the stored bytes of both, each padded to whole words, and the answer: refusal or 0, place, second place, how many values,
 // the values. Before each record stands the number of its words.
@@ -11,6 +11,7 @@ use crate::codes;
 use crate::compare;
 use crate::prefixes;
 use crate::report;
+use crate::texts;
 use crate::words::word;
 
 // Room for the numbers of an answer.
@@ -39,7 +40,6 @@ const STRINGS: usize = 88;
 pub enum Found {
     Same(u64),
     Differs(u64),
-    LeftOut,
     Malformed,
 }
 
@@ -100,6 +100,9 @@ fn called(r: &[u8], kind: u64, payload: &[u8], found: &mut [u64; ROOM]) -> usize
     if kind == prefixes::KIND {
         return prefixes::replay(payload, start, word(r, RELEASE), found);
     }
+    if kind == texts::KIND {
+        return texts::replay(payload, start, word(r, RELEASE), found);
+    }
     codes::replay(kind, payload, start, word(r, MORE), found)
 }
 
@@ -113,12 +116,12 @@ fn replay_on(r: &[u8], payload: &[u8]) -> Found
     judged(r, kind, &found, n)
 }
 
-// Replays the record's request on so many of the zeros, where there are that many.
+// Replays the record's request on so many of the zeros.
 fn replay_zeros(r: &[u8], zeros: &[u8], size: usize) -> Found
     requires { ⌜ 96 ≤ length (now r) ⌝ }
 {
     if zeros.len() < size {
-        return Found::LeftOut;
+        return Found::Malformed;
     }
     replay_on(r, &zeros[0..size])
 }

@@ -6,9 +6,7 @@ use crate::record::ROOM;
 use crate::words::word;
 use libc::STDOUT_FILENO;
 
-// Where `counts` has what is no kind: the requests left out, all that were compared, and those that differ.
-const LEFT_OUT: usize = 29;
-
+// Where `counts` has what is no kind: all that were compared, and those that differ.
 const COMPARED: usize = 30;
 
 const DIFFER: usize = 31;
@@ -21,7 +19,7 @@ fn bump(counts: &mut [u64; 32], k: usize) {
 
 fn compared(counts: &mut [u64; 32], kind: u64) {
     bump(counts, COMPARED);
-    if kind < 29 {
+    if kind < 30 {
         bump(counts, kind as usize);
     }
 }
@@ -46,7 +44,7 @@ fn write_ten(text: &[u8], at: usize) {
 
 // Where the name of a kind is in the names below.
 fn name_at(kind: u64) -> usize {
-    if kind < 20 {
+    if kind < 21 {
         return 10 * (kind as usize);
     }
     0
@@ -55,7 +53,7 @@ fn name_at(kind: u64) -> usize {
 // The name of a kind, ten characters wide.
 fn name(kind: u64) {
     write_ten(
-        b"unknown   b         bb        3b        bs        bsu       bl        blu       bd        bll       rc        rs        rl        rd        handle    dd        bd f64    rd f64    dd f64    prefix    ",
+        b"unknown   b         bb        3b        bs        bsu       bl        blu       bd        bll       rc        rs        rl        rd        handle    dd        bd f64    rd f64    dd f64    prefix    tv        ",
         name_at(kind),
     );
 }
@@ -76,10 +74,6 @@ pub fn count(found: Found, index: u64, counts: &mut [u64; 32]) -> bool {
         Found::Differs(kind) => {
             compared(counts, kind);
             bump(counts, DIFFER);
-            true
-        }
-        Found::LeftOut => {
-            bump(counts, LEFT_OUT);
             true
         }
         Found::Malformed => {
@@ -132,16 +126,14 @@ fn line(kind: u64, n: u64) {
     write(b"\n");
 }
 
-// How many requests of each kind were compared, how many were left out, and the result.
+// How many requests of each kind were compared, and the result.
 pub fn summary(counts: &[u64; 32]) {
     let mut kind: usize = 0;
-    while kind < 29 {
+    while kind < 30 {
         line(kind as u64, counts[kind]);
         kind += 1;
     }
-    write(b"left out, the payload being too long to be stored: ");
-    decimal(counts[LEFT_OUT]);
-    write(b"\nvectors: ");
+    write(b"vectors: ");
     decimal(counts[COMPARED]);
     write(b" compared, ");
     decimal(counts[DIFFER]);

@@ -7,10 +7,10 @@ use Rattle.vectors.proofs.report.summary.Statement.{statement}
 use Rattle.vectors.proofs.report.summary.Tie as tie
 
 abbrev Inv-loop : tie.InvT-loop
-Inv-loop counts kind₀ t3 t4 t5 t6 kind = Unit {0}
+Inv-loop counts kind₀ t3 t4 t5 kind = Unit {0}
 
 abbrev μ-loop : tie.MeasureT-loop
-μ-loop counts kind₀ t3 t4 t5 t6 kind = 29 - kind
+μ-loop counts kind₀ t3 t4 t5 kind = 30 - kind
 
 loop-holds : tie.Need-loop-holds Inv-loop μ-loop
 loop-holds c = search needs
@@ -63,18 +63,6 @@ slice-aggregate-write-3 c = search needs
 write-requires-3 : tie.Need-write-requires-3 Inv-loop μ-loop
 write-requires-3 c κs = search needs
 
-element-copy-out-decimal-3 : tie.Need-element-copy-out-decimal-3 Inv-loop μ-loop
-element-copy-out-decimal-3 c = search needs
-
-decimal-requires-3 : tie.Need-decimal-requires-3 Inv-loop μ-loop
-decimal-requires-3 c κs = search needs
-
-slice-aggregate-write-4 : tie.Need-slice-aggregate-write-4 Inv-loop μ-loop
-slice-aggregate-write-4 c = search needs
-
-write-requires-4 : tie.Need-write-requires-4 Inv-loop μ-loop
-write-requires-4 c κs = search needs
-
 returns : tie.Need-returns Inv-loop μ-loop
 returns c = search needs
 
@@ -101,8 +89,4 @@ summary-spec =
     decimal-requires-2
     slice-aggregate-write-3
     write-requires-3
-    element-copy-out-decimal-3
-    decimal-requires-3
-    slice-aggregate-write-4
-    write-requires-4
     returns)
