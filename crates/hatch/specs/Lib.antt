@@ -14,3 +14,4 @@ pub mod Fronts
 pub mod Seeds
 pub mod Bodies
 pub mod Calls
+pub mod Demands
