@@ -4,6 +4,7 @@ pub mod FrontJoins
 pub mod Laws
 pub mod Loops
 pub mod RawRuns
+pub mod VertexLaws
 pub mod Lacking
 pub mod SplineHeads
 pub mod PolylineHeads

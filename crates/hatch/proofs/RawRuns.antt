@@ -86,7 +86,7 @@ raw-short xs n p h = ap (gathered numbers) (times-short xs n p h)
 
 -- ---- stores past a list's end change nothing
 module _ {A : Type 0} where
-  sets-out : (l : List A) (i : ℕ) (vs : List A) → length l ≤ i → sets l i vs ≡ l
+  pub sets-out : (l : List A) (i : ℕ) (vs : List A) → length l ≤ i → sets l i vs ≡ l
   sets-out l i [] h = refl
   sets-out l i (v ∷ vs) h =
       ap (λ (m : List A). sets m (suc i) vs) (set-out l i v h) ∙ sets-out l (suc i) vs (omega arith)

@@ -6,6 +6,7 @@ pub mod EdgeGathers
 pub mod PathGathers
 pub mod Lists
 pub mod Stores
+pub mod Vertices
 pub mod Heads
 pub mod Tails
 pub mod Rests

@@ -7,7 +7,7 @@ ghost use lib.ListN.{length};
 ghost use lib.Seq.{sets};
 ghost use Rattle.bitcursor.specs.Answers.{limit};
 ghost use Rattle.hatch.specs.Gathered.{repeated};
-ghost use Rattle.hatch.specs.Walks.{vertex-walk, vertices-walk, bit-walk, curve-walk, fitted-raw, fits-walk, spline-lists-walk, spline-walk, edge-of-walk, edge-walk};
+ghost use Rattle.hatch.specs.Walks.{vertices-walk, bit-walk, curve-walk, fitted-raw, fits-walk, spline-lists-walk, spline-walk, edge-of-walk, edge-walk};
 ghost use Rattle.hatch.specs.Lists.{lists, Ready, Walks};
 ghost use Rattle.hatch.specs.Heads.{splineHead, Modest};
 use crate::counts;
@@ -15,6 +15,7 @@ use crate::lists;
 use crate::lists::Sizes;
 use crate::lists::Walk;
 use crate::runs;
+use crate::vertices;
 use bitcursor::Read;
 use bitcursor::Refusal;
 use bitcursor::sequence;
@@ -27,47 +28,6 @@ pub struct SplineHead {
     pub periodic: u64,
     pub knots: u64,
     pub last: Read,
-}
-
-// A point and the double behind it.
-fn decode_vertex(s: &[u8], at: usize, numbers: &mut [f64], bits: &mut [u64], z: Sizes) -> Walk
-    requires { ⌜ Ready (now s) at z ⌝ }
-    ensures { λ r. ⌜ Walks (now (s .entry)) (vertex-walk .read (now (s .entry)) at) (lists (now (numbers .entry)) (now (bits .entry)) []) z (lists (now (numbers .exit)) (now (bits .exit)) []) r ⌝ }
-{
-    match runs::raw_run(s, at, 2, numbers, bits, z) {
-        Walk::Done(p, y) => runs::double_run(s, p, 1, numbers, bits, y),
-        Walk::Refused(k, p) => Walk::Refused(k, p),
-    }
-}
-
-// n of them.
-fn decode_vertices(
-    s: &[u8],
-    at: usize,
-    n: usize,
-    numbers: &mut [f64],
-    bits: &mut [u64],
-    z: Sizes,
-) -> Walk
-    requires { ⌜ Ready (now s) at z ⌝ }
-    ensures { λ r. ⌜ Walks (now (s .entry)) ((repeated n vertex-walk) .read (now (s .entry)) at) (lists (now (numbers .entry)) (now (bits .entry)) []) z (lists (now (numbers .exit)) (now (bits .exit)) []) r ⌝ }
-{
-    let mut p = at;
-    let mut y = z;
-    let mut i: usize = 0;
-    while i < n {
-        match decode_vertex(s, p, numbers, bits, y) {
-            Walk::Done(q, x) => {
-                p = q;
-                y = x;
-            }
-            Walk::Refused(k, q) => {
-                return Walk::Refused(k, q);
-            }
-        }
-        i += 1;
-    }
-    Walk::Done(p, y)
 }
 
 // n points, with a double behind each or without: without one they are a run of RD.
@@ -84,7 +44,7 @@ pub fn decode_points(
     ensures { λ r. ⌜ Walks (now (s .entry)) ((vertices-walk more n) .read (now (s .entry)) at) (lists (now (numbers .entry)) (now (bits .entry)) []) z (lists (now (numbers .exit)) (now (bits .exit)) []) r ⌝ }
 {
     if more {
-        return decode_vertices(s, at, n, numbers, bits, z);
+        return vertices::decode_vertices(s, at, n, numbers, bits, z);
     }
     runs::raw_run(s, at, 2 * n, numbers, bits, z)
 }

@@ -22,6 +22,7 @@ mod record;
 mod rests;
 mod runs;
 pub mod seeds;
+mod vertices;
 
 pub enum Outcome {
     Read,

@@ -15,7 +15,7 @@ use bitcursor::Passed;
 use bitcursor::Read;
 use bitcursor::words;
 
-fn longer(a: usize, b: usize) -> usize
+pub fn longer(a: usize, b: usize) -> usize
     ensures { λ r. ⌜ (a ≤ r) × (b ≤ r) ⌝ }
 {
     if a < b {

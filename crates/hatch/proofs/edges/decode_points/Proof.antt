@@ -15,7 +15,7 @@ use Rattle.hatch.proofs.edges.decode_points.Statement.{statement}
 use Rattle.hatch.proofs.edges.decode_points.Tie as tie
 use Rattle.hatch.proofs.edges.decode_points.Reads as reads
 use Rattle.hatch.proofs.edges.decode_points.Lts as lts
-use Rattle.hatch.proofs.edges.decode_vertices.Reads as decode-vertices-reads
+use Rattle.hatch.proofs.vertices.decode_vertices.Reads as decode-vertices-reads
 use Rattle.hatch.proofs.runs.raw_run.Reads as raw-run-reads
 
 decode-vertices-requires : tie.Need-decode-vertices-requires
