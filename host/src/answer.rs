@@ -4,14 +4,15 @@ use std::fmt::Display;
 use std::io::{self, BufRead, BufReader, BufWriter, Read, Write};
 
 use crate::codes;
+use crate::hatch_form;
+use crate::hatches::{HatchBody, StringReader};
 use crate::payload::Zeros;
 use crate::prefixes::{self, CommonEntityData};
 use crate::refusal::Refusal;
-use crate::request::{self, Code, CodeRequest, PrefixRequest, Request, TextRequest};
+use crate::request::{self, Code, CodeRequest, HatchRequest, PrefixRequest, Request, TextRequest};
 use crate::texts::{self, Source, Text};
 
 const BAD_REQUEST: &str = "bad request";
-const NOT_YET: &str = "not yet";
 
 /// Answers requests, one line each.
 ///
@@ -21,6 +22,7 @@ const NOT_YET: &str = "not yet";
 /// assert_eq!(answerer.line(b"bd 2 0 C0"), "err 2 2 0");
 /// assert_eq!(answerer.line(b"tv 2 0 40905080"), "ok 26 m:8:10:2:4142");
 /// assert_eq!(answerer.line(b"prefix 2 0 404240"), "err 5 18 0");
+/// assert_eq!(answerer.line(b"hatch 3 0 A9AAA0"), "err 1 22 0");
 /// assert_eq!(answerer.line(b"bd 2 0"), "bad request");
 /// ```
 pub struct Answerer {
@@ -40,7 +42,7 @@ impl Answerer {
             Some(Request::Code(request)) => self.code(&request),
             Some(Request::Text(request)) => self.text(&request),
             Some(Request::Prefix(request)) => self.prefix(&request),
-            Some(Request::Hatch(_)) => NOT_YET.to_string(),
+            Some(Request::Hatch(request)) => self.hatch(&request),
             None => BAD_REQUEST.to_string(),
         }
     }
@@ -81,11 +83,28 @@ impl Answerer {
         let payload = self.zeros.lend(&request.payload);
         written(self.doubles.read_prefix(payload, request.start, request.release))
     }
+
+    fn hatch(&mut self, request: &HatchRequest) -> String {
+        self.zeros.reserve(&request.payload);
+        if let Some(strings) = &request.strings {
+            self.zeros.reserve(&strings.payload);
+        }
+        let strings = request.strings.as_ref().map(|strings| {
+            StringReader { payload: self.zeros.lend(&strings.payload), start: strings.start, end: strings.end }
+        });
+        let payload = self.zeros.lend(&request.payload);
+        let body = HatchBody { payload, start: request.start, release: request.release, strings };
+        let line = match self.doubles {
+            Doubles::Bits => hatch_form::bits_line(&body, request.lent),
+            Doubles::F64 => hatch_form::f64_line(&body, request.lent),
+        };
+        line.unwrap_or_else(|refusal| refused(&refusal))
+    }
 }
 
 /// The protocol's T, SOURCE:WIDTH:POSITION:COUNT:UNITS, of a text in its payload. A text that a reading gave lies in that reading's
 /// payload; if it does not, no answer is better than a wrong one.
-fn text_form(text: &Text, payload: &[u8]) -> String {
+pub(crate) fn text_form(text: &Text, payload: &[u8]) -> String {
     let source = match text.source {
         Source::None => '-',
         Source::Main => 'm',
@@ -178,12 +197,12 @@ fn double(reading: codes::Reading<f64>) -> codes::Reading<String> {
 }
 
 /// The protocol's D, of a double's 64 bits.
-fn digits(bits: u64) -> String {
+pub(crate) fn digits(bits: u64) -> String {
     format!("{bits:016x}")
 }
 
 /// Every NaN is written as one, since an f64 entry promises no NaN's pattern.
-fn one_nan(value: f64) -> u64 {
+pub(crate) fn one_nan(value: f64) -> u64 {
     const NAN: u64 = 0x7ff8_0000_0000_0000;
     if value.is_nan() { NAN } else { value.to_bits() }
 }

@@ -1,9 +1,10 @@
-//! The exported C functions of crates/dwg_hatch/src/lib.rt, and nothing else.
+//! The exported C functions of crates/dwg_hatch/src/lib.rt and bodies.rt, and nothing else.
 //!
 //! No compiler checks these declarations against the Rattle source: a wrong one would be undefined behaviour. So they are few, they
-//! stand here alone, in the order of lib.rt, and `host/tests/boundary.rs` compares the two texts.
+//! stand here alone, in the order of lib.rt and then bodies.rt, and `host/tests/boundary.rs` compares the texts.
 //!
-//! A Rattle `&[u8]` is a pointer and a length; the pointer is never null, also where there are no bytes.
+//! A Rattle `&[u8]` is a pointer and a length; the pointer is never null, also where there are no bytes. A `&mut [u64]` is the same, and
+//! its entries may be written.
 
 /// What a code of a number without sign gives: the refusal's number or 0, the final place, and the value or 0.
 #[repr(C)]
@@ -101,6 +102,119 @@ pub struct PrefixBitsAnswer {
     pub fields: PrefixFields,
 }
 
+/// A colour of a gradient: hatch_format's struct.
+#[repr(C)]
+pub struct GradientColor {
+    pub unknown_double: f64,
+    pub unknown_short: i16,
+    pub rgb: u32,
+    pub ignored_color_byte: u8,
+}
+
+/// The same with the double as its 64 bits.
+#[repr(C)]
+pub struct GradientColorBits {
+    pub unknown_double: u64,
+    pub unknown_short: i16,
+    pub rgb: u32,
+    pub ignored_color_byte: u8,
+}
+
+/// Where a text lies, as [`TextAnswer`] has it.
+#[repr(C)]
+pub struct TextFields {
+    pub source: u8,
+    pub width: u8,
+    pub position: usize,
+    pub count: usize,
+}
+
+/// The gradient of a hatch, or 0 for each where there is none; colours past their count are 0.
+#[repr(C)]
+pub struct GradientFields {
+    pub present: bool,
+    pub angle: f64,
+    pub shift: f64,
+    pub is_single_color: u32,
+    pub tint: f64,
+    pub num_colors: usize,
+    pub colors: [GradientColor; 16],
+    pub name: TextFields,
+}
+
+/// The same with each double as its 64 bits.
+#[repr(C)]
+pub struct GradientBits {
+    pub present: bool,
+    pub angle: u64,
+    pub shift: u64,
+    pub is_single_color: u32,
+    pub tint: u64,
+    pub num_colors: usize,
+    pub colors: [GradientColorBits; 16],
+    pub name: TextFields,
+}
+
+/// The fields of a hatch that are no doubles, under the Rust's names, the counts of what it holds, and the lengths used of both lists.
+#[repr(C)]
+pub struct BodyFields {
+    pub pattern_name: TextFields,
+    pub solid_fill: bool,
+    pub associative: bool,
+    pub pattern_double: bool,
+    pub pattern_style: u16,
+    pub pattern_type: u16,
+    pub num_paths: usize,
+    pub num_pattern_lines: usize,
+    pub num_seed_points: usize,
+    pub words_used: usize,
+    pub numbers_used: usize,
+}
+
+/// What a hatch gives: the refusal's number or 0, the final place in each payload, and the fields or 0 for each.
+#[repr(C)]
+pub struct BodyAnswer {
+    pub refusal: u64,
+    pub place: usize,
+    pub string_place: usize,
+    pub gradient: GradientFields,
+    pub elevation: f64,
+    pub extrusion_x: f64,
+    pub extrusion_y: f64,
+    pub extrusion_z: f64,
+    pub pattern_angle: f64,
+    pub pattern_scale: f64,
+    pub pixel_size: f64,
+    pub fields: BodyFields,
+}
+
+/// The same with each double as its 64 bits.
+#[repr(C)]
+pub struct BodyBitsAnswer {
+    pub refusal: u64,
+    pub place: usize,
+    pub string_place: usize,
+    pub gradient: GradientBits,
+    pub elevation: u64,
+    pub extrusion_x: u64,
+    pub extrusion_y: u64,
+    pub extrusion_z: u64,
+    pub pattern_angle: u64,
+    pub pattern_scale: u64,
+    pub pixel_size: u64,
+    pub fields: BodyFields,
+}
+
+/// What a measuring gives: the refusal's number or 0, the final place in each payload, and the lengths that the lists must have or 0.
+#[repr(C)]
+pub struct LengthsAnswer {
+    pub refusal: u64,
+    pub place: usize,
+    pub string_place: usize,
+    pub words: usize,
+    pub numbers: usize,
+}
+
 extern "C" {
     pub fn dwg_read_b(s: *const u8, length: usize, at: usize) -> CodeAnswer;
     pub fn dwg_read_bb(s: *const u8, length: usize, at: usize) -> CodeAnswer;
@@ -124,54 +238,67 @@ extern "C" {
     pub fn dwg_read_string_tv(s: *const u8, length: usize, at: usize, end: usize) -> TextAnswer;
     pub fn dwg_read_common_entity_data(s: *const u8, length: usize, at: usize, release: u64) -> PrefixAnswer;
     pub fn dwg_read_common_entity_bits(s: *const u8, length: usize, at: usize, release: u64) -> PrefixBitsAnswer;
+    pub fn dwg_hatch_decode(
+        main: *const u8,
+        main_length: usize,
+        start: usize,
+        release: u64,
+        numbers: *mut f64,
+        numbers_length: usize,
+        words: *mut u32,
+        words_length: usize,
+    ) -> BodyAnswer;
+    pub fn dwg_hatch_decode_bits(
+        main: *const u8,
+        main_length: usize,
+        start: usize,
+        release: u64,
+        bits: *mut u64,
+        bits_length: usize,
+        words: *mut u32,
+        words_length: usize,
+    ) -> BodyBitsAnswer;
+    pub fn dwg_hatch_decode_with_strings(
+        main: *const u8,
+        main_length: usize,
+        start: usize,
+        string: *const u8,
+        string_length: usize,
+        string_start: usize,
+        string_end: usize,
+        release: u64,
+        numbers: *mut f64,
+        numbers_length: usize,
+        words: *mut u32,
+        words_length: usize,
+    ) -> BodyAnswer;
+    pub fn dwg_hatch_decode_with_strings_bits(
+        main: *const u8,
+        main_length: usize,
+        start: usize,
+        string: *const u8,
+        string_length: usize,
+        string_start: usize,
+        string_end: usize,
+        release: u64,
+        bits: *mut u64,
+        bits_length: usize,
+        words: *mut u32,
+        words_length: usize,
+    ) -> BodyBitsAnswer;
+    pub fn dwg_hatch_measure(main: *const u8, main_length: usize, start: usize, release: u64) -> LengthsAnswer;
+    pub fn dwg_hatch_measure_with_strings(
+        main: *const u8,
+        main_length: usize,
+        start: usize,
+        string: *const u8,
+        string_length: usize,
+        string_start: usize,
+        string_end: usize,
+        release: u64,
+    ) -> LengthsAnswer;
 }
 
 #[cfg(test)]
-mod tests {
-    use super::*;
-    use std::mem::{offset_of, size_of};
-
-    // The sizes and offsets that the x86-64 C convention gives the structs of lib.rt; the archive holds code for no other machine.
-    #[test]
-    fn answers_lie_as_c_lays_them() {
-        assert_eq!(size_of::<usize>(), 8);
-        assert_eq!(size_of::<CodeAnswer>(), 24);
-        assert_eq!([offset_of!(CodeAnswer, refusal), offset_of!(CodeAnswer, place), offset_of!(CodeAnswer, value)], [0, 8, 16]);
-        assert_eq!(size_of::<SignedAnswer>(), 24);
-        assert_eq!([offset_of!(SignedAnswer, refusal), offset_of!(SignedAnswer, place), offset_of!(SignedAnswer, value)], [0, 8, 16]);
-        assert_eq!(size_of::<DoubleAnswer>(), 24);
-        assert_eq!([offset_of!(DoubleAnswer, refusal), offset_of!(DoubleAnswer, place), offset_of!(DoubleAnswer, value)], [0, 8, 16]);
-        assert_eq!(size_of::<HandleAnswer>(), 32);
-        assert_eq!([offset_of!(HandleAnswer, refusal), offset_of!(HandleAnswer, place)], [0, 8]);
-        let parts = [offset_of!(HandleAnswer, code), offset_of!(HandleAnswer, counter), offset_of!(HandleAnswer, value)];
-        assert_eq!(parts, [16, 17, 24]);
-    }
-
-    #[test]
-    fn a_text_lies_as_c_lays_it() {
-        assert_eq!(size_of::<TextAnswer>(), 40);
-        assert_eq!([offset_of!(TextAnswer, refusal), offset_of!(TextAnswer, place)], [0, 8]);
-        assert_eq!([offset_of!(TextAnswer, source), offset_of!(TextAnswer, width)], [16, 17]);
-        assert_eq!([offset_of!(TextAnswer, position), offset_of!(TextAnswer, count)], [24, 32]);
-    }
-
-    #[test]
-    fn a_prefix_lies_as_c_lays_it() {
-        assert_eq!([size_of::<PrefixFields>(), size_of::<PrefixAnswer>(), size_of::<PrefixBitsAnswer>()], [48, 72, 72]);
-        assert_eq!([offset_of!(PrefixAnswer, refusal), offset_of!(PrefixAnswer, place)], [0, 8]);
-        assert_eq!([offset_of!(PrefixAnswer, ltype_scale), offset_of!(PrefixAnswer, fields)], [16, 24]);
-        assert_eq!([offset_of!(PrefixBitsAnswer, refusal), offset_of!(PrefixBitsAnswer, place)], [0, 8]);
-        assert_eq!([offset_of!(PrefixBitsAnswer, ltype_scale), offset_of!(PrefixBitsAnswer, fields)], [16, 24]);
-    }
-
-    // Each field that is wider than a byte and the byte before it; all others follow each other without room between.
-    #[test]
-    fn the_fields_of_a_prefix_lie_as_c_lays_them() {
-        assert_eq!([offset_of!(PrefixFields, mode), offset_of!(PrefixFields, num_reactors)], [1, 4]);
-        assert_eq!([offset_of!(PrefixFields, shadow_flags), offset_of!(PrefixFields, invisibility)], [14, 16]);
-        assert_eq!([offset_of!(PrefixFields, nolinks), offset_of!(PrefixFields, color_raw)], [18, 20]);
-        assert_eq!([offset_of!(PrefixFields, has_color_rgb), offset_of!(PrefixFields, color_rgb)], [22, 24]);
-        assert_eq!([offset_of!(PrefixFields, has_color_alpha), offset_of!(PrefixFields, color_alpha)], [28, 32]);
-        assert_eq!([offset_of!(PrefixFields, has_data_end_bits), offset_of!(PrefixFields, data_end_bits)], [43, 44]);
-    }
-}
+#[path = "ffi_layouts.rs"]
+mod layouts;

@@ -13,12 +13,15 @@
 //! # Ok::<(), dwg_hatch::Refusal>(())
 //! ```
 //!
-//! So far there are the codes of document 01's section on bitcursor.rs ([`codes`]), texts ([`texts`]), and the entity prefix
-//! ([`prefixes`]).
+//! There are the codes of document 01's section on bitcursor.rs ([`codes`]), texts ([`texts`]), the entity prefix ([`prefixes`]), and
+//! hatch bodies ([`hatches`]).
 
 pub mod answer;
 pub mod codes;
 mod ffi;
+mod hatch_form;
+mod hatch_record;
+pub mod hatches;
 pub mod payload;
 pub mod prefixes;
 pub mod refusal;
@@ -26,6 +29,7 @@ pub mod request;
 pub mod texts;
 
 pub use codes::*;
+pub use hatches::*;
 pub use prefixes::*;
 pub use refusal::Refusal;
 pub use texts::*;

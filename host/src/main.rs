@@ -26,13 +26,17 @@ usage: dwg-hatch answer [--f64]
   dd REL START HEX DEFAULT                                         DEFAULT is 16 hexadecimal digits
   tv REL START HEX                                                 one inline text of the release
   prefix REL START HEX                                             one entity prefix of the release
+  hatch REL START HEX [L NWORDS NNUMBERS]                          one hatch body of the release
+  hatchs REL START HEX STRSTART STREND STRHEX [L NWORDS NNUMBERS]  one with a string reader
 
-REL is the release, 1 to 7 (of a prefix any number), START the start bit. HEX is bytes in hexadecimal, - for no bytes,
-zN for N zero bytes.
-A text's value is m:WIDTH:POSITION:COUNT:UNITS: the bits of a unit, the bit position of the first unit, how many
-there are, and the units in hexadecimal, - for none.
+REL is the release, 1 to 7 (of a prefix or a hatch any number), START the start bit. HEX is bytes in hexadecimal, - for
+no bytes, zN for N zero bytes. L gives the lengths of the lent lists; without it they are long enough.
+A text's value is SOURCE:WIDTH:POSITION:COUNT:UNITS: m (main payload), s (string payload) or - (none), the bits of a
+unit, the bit position of the first unit, how many there are, and the units in hexadecimal, - for none.
 A prefix's value is 0 and its fields, each NAME=VALUE; rgb, alpha and dataend are 0:0 if absent, else 1:NUMBER.
-A reading is answered `ok PLACE VALUE`, a refusal `err NUMBER PLACE 0`, what is not offered yet `not yet`,
+A hatch's value is the string payload's place, 0 without a reader, and its fields, each NAME=VALUE; a list is - if it
+is empty, and a colour is DOUBLE/SHORT/RGB/BYTE.
+A reading is answered `ok PLACE VALUE`, a refusal `err NUMBER PLACE PLACE2`, the second place 0 without a reader,
 and a line that is no request `bad request`.
 ";
 

@@ -121,16 +121,21 @@ pub fn read_string_tv(payload: &[u8], place: usize, end_bit: usize) -> Reading<T
     text(unsafe { ffi::dwg_read_string_tv(payload.as_ptr(), payload.len(), place, end_bit) })
 }
 
-/// The text of an answer. Payload and width are looked at, so that a wrong declaration in ffi.rs cannot pass as a text.
+/// The text of an answer.
 fn text(answer: TextAnswer) -> Reading<Text> {
-    let source = match (answer.source, answer.width) {
+    let source = source(answer.source, answer.width);
+    let text = Text { source, width: answer.width, position: answer.position, count: answer.count };
+    reading(answer.refusal, answer.place, text)
+}
+
+/// A payload by its number. It and the width are looked at, so that a wrong declaration in ffi.rs cannot pass as a text.
+pub(crate) fn source(number: u8, width: u8) -> Source {
+    match (number, width) {
         (0, 0) => Source::None,
         (1, 8 | 16) => Source::Main,
         (2, 16) => Source::String,
         _ => panic!("{OUTSIDE}"),
-    };
-    let text = Text { source, width: answer.width, position: answer.position, count: answer.count };
-    reading(answer.refusal, answer.place, text)
+    }
 }
 
 /// The eight bits from a bit on, if the payload has them.

@@ -2,7 +2,9 @@
 //!
 //! This sees a forgotten or changed function, parameter or field. It is no proof that the two sides agree on how a call is made.
 
-const RATTLE: &str = concat!(env!("CARGO_MANIFEST_DIR"), "/../crates/dwg_hatch/src/lib.rt");
+const LIB: &str = concat!(env!("CARGO_MANIFEST_DIR"), "/../crates/dwg_hatch/src/lib.rt");
+const COLORS: &str = concat!(env!("CARGO_MANIFEST_DIR"), "/../crates/hatch_format/src/lib.rt");
+const BODIES: &str = concat!(env!("CARGO_MANIFEST_DIR"), "/../crates/dwg_hatch/src/bodies.rt");
 const RUST: &str = concat!(env!("CARGO_MANIFEST_DIR"), "/src/ffi.rs");
 
 /// How a function starts in each text.
@@ -13,18 +15,38 @@ fn text(path: &str) -> String {
     std::fs::read_to_string(path).unwrap_or_else(|error| panic!("{path}: {error}"))
 }
 
+/// The Rattle texts whose functions and structs cross the boundary, in ffi.rs's order.
+fn rattle() -> String {
+    [LIB, COLORS, BODIES].map(text).join("\n")
+}
+
 fn lines(text: &str) -> Vec<&str> {
     text.lines().map(str::trim).collect()
 }
 
-/// `NAME(..) -> RESULT` of each line that starts so, with Rattle's slices as the pointer and length that they are in C. Each signature
-/// must stand on one line, since parameters on further lines would not be compared.
+/// `NAME(..) -> RESULT` of each function that starts so, with Rattle's slices as the pointer and length that they are in C. A signature on
+/// several lines has a comma after its last parameter too.
 fn functions(text: &str, start: &str) -> Vec<String> {
-    let found = lines(text).into_iter().filter_map(|line| line.strip_prefix(start));
-    found.map(|rest| {
-        assert!(rest.contains(") -> "), "a signature that is not on one line: {rest}");
-        rest.trim_end_matches(';').replace("s: &[u8]", "s: *const u8, length: usize")
+    let lines = lines(text);
+    let starts = (0..lines.len()).filter(|at| lines[*at].starts_with(start));
+    starts.map(|at| {
+        let end = (at..lines.len()).find(|end| lines[*end].contains(") -> ")).expect("a signature with a result");
+        let signature = lines[at..=end].join(" ").replace("( ", "(").replace(", )", ")");
+        in_c(signature.trim_start_matches(start).trim_end_matches(';'))
     }).collect()
+}
+
+/// A signature with Rattle's slices as C has them: `s`'s length is `length`, any other NAME's is NAME_length.
+fn in_c(signature: &str) -> String {
+    let parameters = signature.split(", ").map(|parameter| {
+        let Some((before, rest)) = parameter.split_once(": &") else { return parameter.to_string() };
+        let name = before.rsplit('(').next().unwrap_or(before);
+        let length = if name == "s" { "length".to_string() } else { format!("{name}_length") };
+        let (pointer, rest) = rest.strip_prefix("mut ").map_or(("*const", rest), |rest| ("*mut", rest));
+        let (kind, after) = rest.strip_prefix('[').and_then(|rest| rest.split_once(']')).expect("a slice");
+        format!("{before}: {pointer} {kind}, {length}: usize{after}")
+    });
+    parameters.collect::<Vec<_>>().join(", ")
 }
 
 /// Each struct's name and fields, one line each, up to its closing brace. Only `#[repr(C)]` structs are taken.
@@ -39,8 +61,8 @@ fn structs(text: &str) -> Vec<String> {
 
 #[test]
 fn functions_are_declared_as_they_are_exported() {
-    let exported = functions(&text(RATTLE), EXPORTED);
-    for start in ["dwg_read_b(", "dwg_read_tv(", "dwg_read_string_tv(", "dwg_read_common_entity_data("] {
+    let exported = functions(&rattle(), EXPORTED);
+    for start in ["dwg_read_b(", "dwg_read_tv(", "dwg_read_string_tv(", "dwg_read_common_entity_data(", "dwg_hatch_decode("] {
         assert!(exported.iter().any(|function| function.starts_with(start)), "{start}");
     }
     assert_eq!(functions(&text(RUST), DECLARED), exported);
@@ -48,8 +70,8 @@ fn functions_are_declared_as_they_are_exported() {
 
 #[test]
 fn structs_have_the_fields_of_the_source() {
-    let source = structs(&text(RATTLE));
-    for start in ["pub struct CodeAnswer {", "pub struct TextAnswer {", "pub struct PrefixFields {"] {
+    let source = structs(&rattle());
+    for start in ["pub struct CodeAnswer {", "pub struct TextAnswer {", "pub struct PrefixFields {", "pub struct GradientColorBits {"] {
         assert!(source.iter().any(|line| line == start), "{start}");
     }
     assert_eq!(structs(&text(RUST)), source);
@@ -67,13 +89,18 @@ fn edits_of_the_declarations_are_seen() {
         ("at: usize, release: u64) -> TextAnswer", "at: usize) -> TextAnswer"),
         ("at: usize, end: usize) -> TextAnswer", "at: usize, end: u32) -> TextAnswer"),
         ("at: usize, default: f64)", "at: usize, default: u64)"),
-        ("    pub width: u8,\n", "    pub width: u16,\n"),
-        ("    pub width: u8,\n", ""),
+        ("    pub place: usize,\n    pub source: u8,\n", "    pub place: usize,\n    pub source: u16,\n"),
+        ("    pub place: usize,\n    pub source: u8,\n", "    pub place: usize,\n"),
         ("    pub ltype_scale: f64,\n", "    pub ltype_scale: u64,\n"),
         ("    pub has_color_rgb: bool,\n    pub color_rgb: u32,\n", "    pub color_rgb: u32,\n    pub has_color_rgb: bool,\n"),
         ("    pub invisibility: i16,\n", "    pub invisibility: u16,\n"),
         ("at: usize, release: u64) -> PrefixAnswer", "at: usize, release: u64) -> PrefixBitsAnswer"),
-        ("    pub position: usize,\n    pub count: usize,\n", "    pub count: usize,\n    pub position: usize,\n"),
+        ("    pub place: usize,\n    pub source: u8,\n", "    pub source: u8,\n    pub place: usize,\n"),
+        ("colors: [GradientColor; 16]", "colors: [GradientColor; 15]"),
+        ("colors: [GradientColorBits; 16]", "colors: [GradientColor; 16]"),
+        (" start: usize,\n        release: u64,\n        numbers: *mut f64,\n        numbers_length: usize,\n", " start: usize,\n        release: u64,\n        numbers: *mut f64,\n"),
+        ("pub fn dwg_hatch_decode_bits(\n        main: *const u8", "pub fn dwg_hatch_decode_bits(\n        main: *mut u8"),
+        ("dwg_hatch_measure(main: *const u8, main_length: usize, start: usize, release: u64)", "dwg_hatch_measure(main: *const u8, main_length: usize, release: u64, start: usize)"),
     ];
     for (old, new) in edits {
         assert_eq!(rust.matches(old).count(), 1, "{old}");

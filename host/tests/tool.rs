@@ -41,12 +41,6 @@ fn examples_are_answered() {
     assert_eq!(answers.lines().collect::<Vec<_>>(), pairs.iter().map(|pair| pair.1).collect::<Vec<_>>());
 }
 
-#[test]
-fn what_is_not_there_yet_is_said() {
-    let requests = "hatch 3 0 A9AAA0\nhatchs 2 0 A9 0 16 4040 L 0 0\nhatch 3 0\n";
-    assert_eq!(answers(&["answer"], requests.as_bytes()), "not yet\nnot yet\nbad request\n");
-}
-
 /// Lengths whose texts are too long for the list of examples: 256, which has a tag of its own, with one closing zero of all zeros dropped;
 /// and the greatest that a length code can name.
 #[test]
@@ -81,16 +75,30 @@ fn xdata_blocks_are_counted() {
     assert!(given[2].contains(" xdata=1 "), "{given:?}");
 }
 
-/// Both entries give the same answers but for a NaN as scale.
+/// Both entries give the same answers but for NaNs, which the f64 entries give as one.
 #[test]
-fn prefixes_are_answered_by_both_entries() {
-    let prefixes: Vec<&str> = include_str!("examples.txt").lines().filter(|line| line.starts_with("prefix ")).collect();
-    let requests: String = prefixes.iter().filter_map(|line| line.split('\t').next()).map(|request| format!("{request}\n")).collect();
-    let expected: Vec<String> = prefixes.iter().filter_map(|line| line.split('\t').nth(1)).map(|answer| {
-        answer.replace("scale=fff0000000000001", "scale=7ff8000000000000")
-    }).collect();
-    assert!(expected.iter().any(|answer| answer.contains("scale=7ff8")), "no NaN among the examples");
+fn prefixes_and_hatches_are_answered_by_both_entries() {
+    let taken = |line: &&str| line.starts_with("prefix ") || line.starts_with("hatch");
+    let examples: Vec<&str> = include_str!("examples.txt").lines().filter(taken).collect();
+    let requests: String = examples.iter().filter_map(|line| line.split('\t').next()).map(|request| format!("{request}\n")).collect();
+    let answered: Vec<&str> = examples.iter().filter_map(|line| line.split('\t').nth(1)).collect();
+    let expected: Vec<String> = answered.iter().map(|answer| with_one_nan(answer)).collect();
+    for kind in ["scale=fff", "nums=7ff", "gcols=7ff"] {
+        assert!(answered.iter().zip(&expected).any(|(answer, one)| answer.contains(kind) && *answer != one), "no NaN as {kind}");
+    }
     assert_eq!(answers(&["answer", "--f64"], requests.as_bytes()).lines().collect::<Vec<_>>(), expected);
+}
+
+/// An answer whose NaNs are written as the one: words of 16 digits.
+fn with_one_nan(answer: &str) -> String {
+    let ends = |letter: char| " ,;/=".contains(letter);
+    let one = |part: &str| {
+        let word = part.trim_end_matches(ends);
+        let bits = u64::from_str_radix(word, 16).ok().filter(|_| word.len() == 16);
+        let nan = bits.is_some_and(|bits| f64::from_bits(bits).is_nan());
+        if nan { part.replace(word, "7ff8000000000000") } else { part.to_string() }
+    };
+    answer.split_inclusive(ends).map(one).collect()
 }
 
 #[test]

@@ -131,7 +131,7 @@ pub fn of_handle(r: ReadHandle) -> HandleAnswer
 }
 
 // Which payload a text lies in, as a number.
-fn source_number(source: Source) -> u8
+pub fn source_number(source: Source) -> u8
     ensures { λ n. ⌜ n ≡ sourceNumber source ⌝ }
 {
     match source {

@@ -14,6 +14,8 @@ ghost use Rattle.dwg_hatch.specs.PrefixBoundary.{bitsAnswer, doubleAnswe
 ghost use Rattle.dwg_hatch.specs.Boundary.{boolAnswer, codeAnswer, signedAnswer, doubleAnswer, handleAnswer, textAnswer};
 
 mod answers;
+pub mod bodies;
+mod hatches;
 mod prefixes;
 
 // What one code gives: the refusal's number or 0, the final place, and the value or 0.

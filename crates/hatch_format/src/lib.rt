@@ -40,6 +40,8 @@ pub fn document_caps() -> Caps
     }
 }
 
+// As C lays it out, since the C boundary hands it over as it is.
+#[repr(C)]
 pub struct GradientColor {
     pub unknown_double: f64,
     pub unknown_short: i16,
@@ -88,6 +90,7 @@ pub struct Hatch {
 }
 
 // The same with each double as its 64 bits.
+#[repr(C)]
 pub struct GradientColorBits {
     pub unknown_double: u64,
     pub unknown_short: i16,
