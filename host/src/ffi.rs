@@ -215,7 +215,7 @@ pub struct LengthsAnswer {
     pub numbers: usize,
 }
 
-extern "C" {
+unsafe extern "C" {
     pub fn dwg_read_b(s: *const u8, length: usize, at: usize) -> CodeAnswer;
     pub fn dwg_read_bb(s: *const u8, length: usize, at: usize) -> CodeAnswer;
     pub fn dwg_read_3b(s: *const u8, length: usize, at: usize) -> CodeAnswer;
