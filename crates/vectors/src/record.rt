@@ -33,11 +33,11 @@ const START: usize = 24;
 
 const MORE: usize = 32;
 
-const MORE_2: usize = 40;
+const STRING_END: usize = 40;
 
-const MORE_3: usize = 48;
+const LENT_WORDS: usize = 48;
 
-const MORE_4: usize = 56;
+const LENT_NUMBERS: usize = 56;
 
 const LENGTH: usize = 64;
 
@@ -123,9 +123,9 @@ fn asked(r: &[u8], kind: u64) -> Asked
         start: word(r, START) as usize,
         release: word(r, RELEASE),
         string_start: word(r, MORE) as usize,
-        string_end: word(r, MORE_2) as usize,
-        words: word(r, MORE_3) as usize,
-        numbers: word(r, MORE_4) as usize,
+        string_end: word(r, STRING_END) as usize,
+        words: word(r, LENT_WORDS) as usize,
+        numbers: word(r, LENT_NUMBERS) as usize,
     }
 }
 
