@@ -4,7 +4,7 @@
 //!   the payload's length in bytes, how many of them are stored; the same two for the strings (0 and 0 without a reader);
 //!   the payload's stored bytes, and the strings', each padded to whole words;
 //!   the refusal's number or 0, the place, the second place, how many values, the values (signed ones in two's complement).
-//! A payload of zeros (`zN`) is not stored: its length is N and its stored bytes are 0. A line with a payload above the limit has no
+//! A payload of zeros (`zN`) is not stored: its length is N and its stored bytes are 0; strings are always stored. A line with a payload above the limit has no
 //! record: crate limit replays it.
 //!
 //! To add a kind: its number in KINDS and in the program's src/, its further numbers in `request`, its values in `values`.
@@ -12,7 +12,7 @@
 use std::io::{Read, Write};
 
 /// The name in a request, the number of the kind, and whether this is the call that hands over f64, whose NaN is 7ff8000000000000.
-const KINDS: [(&str, u64, bool); 20] = [
+const KINDS: [(&str, u64, bool); 22] = [
     ("b", 1, false),
     ("bb", 2, false),
     ("3b", 3, false),
@@ -33,10 +33,14 @@ const KINDS: [(&str, u64, bool); 20] = [
     ("dd", 18, true),
     ("prefix", 19, false),
     ("tv", 20, false),
+    ("hatch", 21, false),
+    ("hatchs", 22, false),
 ];
 
-/// What the program has room for: the numbers of an answer, the bytes of a record, the bytes of a payload of zeros.
+/// What the program has room for: the numbers of an answer, the entries of each lent list, the bytes of a record, the bytes of a payload
+/// of zeros. A hatch without lent lengths is lent all entries.
 const ROOM: usize = 1024;
+const LENT: u64 = 512;
 const SPACE: usize = 65_536;
 const ZEROS: u64 = 4_096;
 
@@ -45,6 +49,9 @@ const LIMIT: u64 = 268_435_456;
 
 /// Which further number is which: a default, or the string start and end; then the lent lengths, of words and of numbers.
 const FIRST: usize = 0;
+const STRING_END: usize = 1;
+const WORDS: usize = 2;
+const NUMBERS: usize = 3;
 
 struct Payload {
     length: u64,
@@ -85,18 +92,45 @@ fn payload(text: &str) -> Result<Payload, String> {
     Ok(Payload { length: stored.len() as u64, stored })
 }
 
+/// The same payload with its zeros stored, if there is room.
+fn stored(payload: Payload) -> Payload {
+    if payload.stored.is_empty() && payload.length <= ZEROS {
+        return Payload { length: payload.length, stored: vec![0; payload.length as usize] };
+    }
+    payload
+}
+
+/// The lent lengths, of words and of numbers.
+fn lent(words: &[&str]) -> Result<[u64; 2], String> {
+    let lengths = match words {
+        [] => [LENT, LENT],
+        ["L", words, numbers] => [decimal(words)?, decimal(numbers)?],
+        _ => return Err("no lent lengths".to_string()),
+    };
+    if lengths.iter().any(|length| *length > LENT) {
+        return Err(format!("no room for lists of {lengths:?}"));
+    }
+    Ok(lengths)
+}
+
 /// NAME REL START MAIN, and what the kind has beside these.
 fn request(words: &[&str]) -> Result<Request, String> {
     let [name, release, start, main, rest @ ..] = words else {
         return Err("too few words".to_string());
     };
     let mut further = [0; 4];
+    let mut strings = Payload { length: 0, stored: Vec::new() };
     match (*name, rest) {
         ("dd", [default]) => further[FIRST] = hex(default)?,
+        ("hatch", lengths) => [further[WORDS], further[NUMBERS]] = lent(lengths)?,
+        ("hatchs", [start, end, bytes, lengths @ ..]) => {
+            [further[FIRST], further[STRING_END]] = [decimal(start)?, decimal(end)?];
+            [further[WORDS], further[NUMBERS]] = lent(lengths)?;
+            strings = stored(payload(bytes)?);
+        }
         (_, []) => {}
         _ => return Err("words left over".to_string()),
     }
-    let strings = Payload { length: 0, stored: Vec::new() };
     Ok(Request { release: decimal(release)?, start: decimal(start)?, further, main: payload(main)?, strings })
 }
 
@@ -121,15 +155,15 @@ fn field(name: &str, text: &str) -> Result<Vec<u64>, String> {
     }
 }
 
-/// The numbers of a prefix's fields.
-fn fields(words: &[&str]) -> Result<Vec<u64>, String> {
-    if words.len() != FIELDS.len() {
+/// The numbers of fields that are called so, each read by `one`.
+fn fields(names: &[&str], one: fn(&str, &str) -> Result<Vec<u64>, String>, words: &[&str]) -> Result<Vec<u64>, String> {
+    if words.len() != names.len() {
         return Err(format!("{} fields", words.len()));
     }
     let mut numbers = Vec::new();
-    for (name, word) in FIELDS.into_iter().zip(words) {
+    for (name, word) in names.iter().zip(words) {
         match word.split_once('=') {
-            Some((found, text)) if found == name => numbers.extend(field(name, text)?),
+            Some((found, text)) if found == *name => numbers.extend(one(name, text)?),
             _ => return Err(format!("no {name}: {word}")),
         }
     }
@@ -158,6 +192,41 @@ fn text(answer: &str) -> Result<Vec<u64>, String> {
     Ok(numbers)
 }
 
+/// What each field of a hatch's answer is called, in the answer's order.
+const HATCH_FIELDS: [&str; 26] = [
+    "grad", "gangle", "gshift", "gsingle", "gtint", "gn", "gcols", "gname", "elev", "ext", "name", "solid", "assoc", "style", "type",
+    "pangle", "pscale", "pdouble", "pixel", "npaths", "nlines", "nseeds", "nw", "nn", "words", "nums",
+];
+
+/// A list of numbers, `-` being none.
+fn list(text: &str, separator: char, one: fn(&str) -> Result<u64, String>) -> Result<Vec<u64>, String> {
+    if text == "-" { Ok(Vec::new()) } else { text.split(separator).map(one).collect() }
+}
+
+/// The colours' numbers: of each the double, the short, the colour and the byte.
+fn colours(text: &str) -> Result<Vec<u64>, String> {
+    let mut numbers = Vec::new();
+    for colour in text.split(';').filter(|colour| *colour != "-") {
+        let words: Vec<&str> = colour.split('/').collect();
+        let [double, short, rgb, byte] = words[..] else {
+            return Err(format!("no colour: {colour}"));
+        };
+        numbers.extend([hex(double)?, decimal(short)?, decimal(rgb)?, decimal(byte)?]);
+    }
+    Ok(numbers)
+}
+
+/// A hatch field's numbers: doubles as their 64 bits.
+fn hatch_field(name: &str, answer: &str) -> Result<Vec<u64>, String> {
+    match name {
+        "gname" | "name" => text(answer),
+        "gcols" => colours(answer),
+        "words" => list(answer, ',', decimal),
+        "gangle" | "gshift" | "gtint" | "elev" | "ext" | "pangle" | "pscale" | "pixel" | "nums" => list(answer, ',', hex),
+        _ => Ok(vec![decimal(answer)?]),
+    }
+}
+
 fn values(name: &str, answer: &str) -> Result<Vec<u64>, String> {
     match name {
         "tv" => text(answer),
@@ -178,8 +247,13 @@ fn outcome(name: &str, answer: &str) -> Result<Vec<u64>, String> {
     let words: Vec<&str> = answer.split(' ').collect();
     match words[..] {
         ["err", number, place, second] => Ok(vec![decimal(number)?, decimal(place)?, decimal(second)?, 0]),
-        ["ok", place, value] if name != "prefix" => Ok(reading(decimal(place)?, 0, values(name, value)?)),
-        ["ok", place, second, ref rest @ ..] if name == "prefix" => Ok(reading(decimal(place)?, decimal(second)?, fields(rest)?)),
+        ["ok", place, second, ref rest @ ..] if name == "prefix" => {
+            Ok(reading(decimal(place)?, decimal(second)?, fields(&FIELDS, field, rest)?))
+        }
+        ["ok", place, second, ref rest @ ..] if name == "hatch" || name == "hatchs" => {
+            Ok(reading(decimal(place)?, decimal(second)?, fields(&HATCH_FIELDS, hatch_field, rest)?))
+        }
+        ["ok", place, value] => Ok(reading(decimal(place)?, 0, values(name, value)?)),
         _ => Err(format!("no answer: {answer}")),
     }
 }
@@ -207,10 +281,11 @@ fn room(request: &Request, outcome: &[u64]) -> Result<(), String> {
     if outcome.len() > ROOM || 8 * outcome.len() + stored + 128 > SPACE {
         return Err(format!("no room for {} bytes and {} numbers", stored, outcome.len()));
     }
-    for payload in [&request.main, &request.strings] {
-        if payload.stored.is_empty() && payload.length > ZEROS {
-            return Err(format!("no room for {} zeros", payload.length));
-        }
+    if request.main.stored.is_empty() && request.main.length > ZEROS {
+        return Err(format!("no room for {} zeros", request.main.length));
+    }
+    if request.strings.stored.len() as u64 != request.strings.length {
+        return Err("strings that are not stored".to_string());
     }
     Ok(())
 }

@@ -8,6 +8,7 @@ use bitcursor::ReadI32;
 use bitcursor::Refusal;
 use common_entity::Outcome;
 use common_entity::PrefixBits;
+use hatch::HatchBitsAnswer;
 use text::ReadText;
 
 pub enum Answer {
@@ -73,5 +74,15 @@ pub fn of_prefix(b: PrefixBits) -> Answer {
     match outcome {
         Outcome::Read => Answer::Reading,
         Outcome::Refused(k) => refused(k, b.place),
+    }
+}
+
+pub fn of_hatch(b: HatchBitsAnswer) -> Answer {
+    let outcome = b.outcome;
+    let hatch = b.hatch;
+    let places = hatch.places;
+    match outcome {
+        hatch::Outcome::Read => Answer::Reading,
+        hatch::Outcome::Refused(k) => refused(k, places.main),
     }
 }

@@ -42,11 +42,29 @@ fn line(request: &[u8], answer: Answer) {
     }
 }
 
+fn hatch_body(release: u64) -> Answer {
+    let mut numbers = [0u64; 1];
+    let mut words = [0u32; 1];
+    answers::of_hatch(hatch::decode_bits(
+        &zeros(),
+        START,
+        release,
+        &mut numbers[..0],
+        &mut words[..0],
+    ))
+}
+
+// An unknown release is refused before the payload's length is looked at.
+fn hatches() {
+    line(b"hatch 8 5 z268435457", hatch_body(8));
+    line(b"hatch 2 5 z268435457", hatch_body(2));
+}
+
 fn prefix(release: u64) -> Answer {
     answers::of_prefix(common_entity::read_common_entity_bits(&zeros(), START, release))
 }
 
-// An unknown release is refused before the payload's length is looked at.
+// Here too an unknown release comes first.
 fn prefixes() {
     line(b"prefix 2 5 z268435457", prefix(2));
     line(b"prefix 8 5 z268435457", prefix(8));
@@ -171,6 +189,7 @@ fn doubles() {
 }
 
 fn main() {
+    hatches();
     prefixes();
     bits();
     shorts();

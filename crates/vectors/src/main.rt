@@ -1,4 +1,5 @@
-// Replays the Rust's answers through the Rattle calls and compares: src/bitcursor.rs, src/tables/mod.rs (`read_tv`) and src/common_entity.rs of dwg-rs.
+// Replays the Rust's answers through the Rattle calls and compares: src/bitcursor.rs, src/tables/mod.rs (`read_tv`),
+// src/common_entity.rs and src/entities/hatch.rs of dwg-rs.
 // data/list has the requests with the Rust's answers, data/packed the same as 64-bit words; oracle/pack makes both and says how they lie.
 // It promises nothing of its own: it tests that the definitions, which the calls' contracts equate with, answer as the Rust does.
 ghost use Rattle.io.specs.Counts.{Counts};
@@ -6,6 +7,7 @@ ghost use Rattle.io.specs.Counts.{Counts};
 mod answers;
 mod codes;
 mod compare;
+mod hatches;
 mod prefixes;
 mod record;
 mod report;

@@ -1,6 +1,7 @@
 // The records of the packed list, and what replaying one finds. The words of a record, each eight bytes:
 //   0  the line of data/list           1  the kind of request           2  the release           3  the start
-//   4 to 7  further numbers of the request, the first of a DD being its default
+//   4 to 7  further numbers of the request: of a DD the default; of a hatch the string start and end and the lent lengths, of words and
+//           of numbers
 //   8  the payload's length in bytes   9  how many of them are stored: all, or none, and then all are zero and at most 4,096
 //  10  the strings' length in bytes   11  how many of them are stored
 // then the stored bytes of both, each padded to whole words, and the answer: refusal or 0, place, second place, how many values,
@@ -9,6 +10,8 @@ ghost use Prim.Native.Nat.{_+_, _/_, _≤_};
 ghost use lib.ListN.{length};
 use crate::codes;
 use crate::compare;
+use crate::hatches;
+use crate::hatches::Asked;
 use crate::prefixes;
 use crate::report;
 use crate::texts;
@@ -30,9 +33,17 @@ const START: usize = 24;
 
 const MORE: usize = 32;
 
+const STRING_END: usize = 40;
+
+const LENT_WORDS: usize = 48;
+
+const LENT_NUMBERS: usize = 56;
+
 const LENGTH: usize = 64;
 
 const STORED: usize = 72;
+
+const STRINGS_LENGTH: usize = 80;
 
 const STRINGS: usize = 88;
 
@@ -91,6 +102,50 @@ fn room() -> [u64; ROOM] {
     [0; ROOM]
 }
 
+// The first byte of the strings, or the end of the record where it has fewer bytes than it says.
+fn strings_at(r: &[u8]) -> usize
+    requires { ⌜ 96 ≤ length (now r) ⌝ }
+    ensures { λ at. ⌜ at ≤ length (now (r .entry)) ⌝ }
+{
+    let a = words_for(word(r, STORED) as usize);
+    if (r.len() - PAYLOAD) / 8 < a {
+        return r.len();
+    }
+    PAYLOAD + 8 * a
+}
+
+// What the record of a hatch asks for.
+fn asked(r: &[u8], kind: u64) -> Asked
+    requires { ⌜ 96 ≤ length (now r) ⌝ }
+{
+    Asked {
+        reader: kind == hatches::WITH_STRINGS,
+        start: word(r, START) as usize,
+        release: word(r, RELEASE),
+        string_start: word(r, MORE) as usize,
+        string_end: word(r, STRING_END) as usize,
+        words: word(r, LENT_WORDS) as usize,
+        numbers: word(r, LENT_NUMBERS) as usize,
+    }
+}
+
+// Calls the hatch that the record asks for, with its strings, which are all stored.
+fn called_hatch(r: &[u8], kind: u64, payload: &[u8], found: &mut [u64; ROOM]) -> usize
+    requires { ⌜ 96 ≤ length (now r) ⌝ }
+    ensures { λ n. ⌜ n ≤ 1024 ⌝ }
+{
+    let size = word(r, STRINGS) as usize;
+    if word(r, STRINGS_LENGTH) as usize != size {
+        return 0;
+    }
+    let at = strings_at(r);
+    if r.len() - at < size {
+        return 0;
+    }
+    let end = at + size;
+    hatches::replay(payload, &r[at..end], asked(r, kind), found)
+}
+
 // Calls what the record asks for and puts its answer at the start of `found`; how many numbers that are.
 fn called(r: &[u8], kind: u64, payload: &[u8], found: &mut [u64; ROOM]) -> usize
     requires { ⌜ 96 ≤ length (now r) ⌝ }
@@ -102,6 +157,9 @@ fn called(r: &[u8], kind: u64, payload: &[u8], found: &mut [u64; ROOM]) -> usize
     }
     if kind == texts::KIND {
         return texts::replay(payload, start, word(r, RELEASE), found);
+    }
+    if kind == hatches::KIND || kind == hatches::WITH_STRINGS {
+        return called_hatch(r, kind, payload, found);
     }
     codes::replay(kind, payload, start, word(r, MORE), found)
 }

@@ -44,7 +44,7 @@ fn write_ten(text: &[u8], at: usize) {
 
 // Where the name of a kind is in the names below.
 fn name_at(kind: u64) -> usize {
-    if kind < 21 {
+    if kind < 23 {
         return 10 * (kind as usize);
     }
     0
@@ -53,7 +53,7 @@ fn name_at(kind: u64) -> usize {
 // The name of a kind, ten characters wide.
 fn name(kind: u64) {
     write_ten(
-        b"unknown   b         bb        3b        bs        bsu       bl        blu       bd        bll       rc        rs        rl        rd        handle    dd        bd f64    rd f64    dd f64    prefix    tv        ",
+        b"unknown   b         bb        3b        bs        bsu       bl        blu       bd        bll       rc        rs        rl        rd        handle    dd        bd f64    rd f64    dd f64    prefix    tv        hatch     hatchs    ",
         name_at(kind),
     );
 }

@@ -70,7 +70,7 @@ fn put_head(found: &mut [u64; ROOM], at: usize, t: Text)
     found[at + 3] = t.count as u64;
 }
 
-fn least(a: usize, b: usize) -> usize
+pub fn least(a: usize, b: usize) -> usize
     ensures { λ r. ⌜ r ≤ b ⌝ }
 {
     if a < b {
