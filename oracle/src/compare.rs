@@ -7,7 +7,6 @@ use std::fs;
 struct Tally {
     requests: usize,
     differ: usize,
-    not_yet: usize,
 }
 
 #[derive(Default)]
@@ -17,7 +16,6 @@ struct Run {
     first: Option<String>,
     requests: usize,
     differ: usize,
-    not_yet: usize,
     missing: usize,
 }
 
@@ -34,18 +32,15 @@ fn outcome(answer: &str) -> String {
 
 impl Run {
     fn add(&mut self, request: &str, ours: &str, theirs: Option<&String>) {
-        let not_yet = theirs.is_some_and(|line| line == "not yet");
-        let differ = !not_yet && theirs.is_none_or(|line| line != ours);
+        let differ = theirs.is_none_or(|line| line != ours);
         let kind = request.split(' ').next().unwrap_or_default().to_string();
         let known = outcome(ours);
         for tally in [self.kinds.entry(kind).or_default(), self.outcomes.entry(known).or_default()] {
             tally.requests += 1;
             tally.differ += usize::from(differ);
-            tally.not_yet += usize::from(not_yet);
         }
         self.requests += 1;
         self.differ += usize::from(differ);
-        self.not_yet += usize::from(not_yet);
         self.missing += usize::from(theirs.is_none());
         if differ && self.first.is_none() {
             let line = theirs.map_or("(no answer line)", String::as_str);
@@ -66,14 +61,14 @@ impl Run {
             println!("answer lines that answer no request: {extra} (counted as differences)");
         }
         let differ = self.differ + extra;
-        println!("compare: {} requests, {differ} differences, {} not yet", self.requests, self.not_yet);
+        println!("compare: {} requests, {differ} differences", self.requests);
     }
 }
 
 fn table(head: &str, rows: &BTreeMap<String, Tally>) {
-    println!("{head:<18} {:>9} {:>9} {:>9}", "requests", "differ", "not yet");
+    println!("{head:<18} {:>9} {:>9}", "requests", "differ");
     for (name, tally) in rows {
-        println!("{name:<18} {:>9} {:>9} {:>9}", tally.requests, tally.differ, tally.not_yet);
+        println!("{name:<18} {:>9} {:>9}", tally.requests, tally.differ);
     }
 }
 
