@@ -1,11 +1,15 @@
 // The seed points of a hatch: the last numbers of the list that a call filled.
 ghost use mathlib.Core.Path.{_≡_};
 ghost use Rattle.hatch.specs.Seeds.{seedsOf};
+use hatch_format::Hatch;
+use hatch_format::HatchBits;
 
-// The coordinates of n seed points among the first `used` numbers; none where there are not so many.
-pub fn seed_points<'a>(numbers: &'a [f64], used: usize, n: usize) -> &'a [f64]
-    ensures { λ r. ⌜ now r ≡ seedsOf (now (numbers .entry)) used n ⌝ }
+// The part of the list that holds the record's seed points; an empty part where the list or the lengths used are too short for them.
+pub fn seed_points<'a>(numbers: &'a [f64], hatch: Hatch) -> &'a [f64]
+    ensures { λ r. ⌜ now r ≡ seedsOf (now (numbers .entry)) (hatch .«numbers_used») (hatch .«num_seed_points») ⌝ }
 {
+    let used = hatch.numbers_used;
+    let n = hatch.num_seed_points;
     if used <= numbers.len() {
         if n <= used / 2 {
             return &numbers[used - 2 * n..used];
@@ -15,9 +19,11 @@ pub fn seed_points<'a>(numbers: &'a [f64], used: usize, n: usize) -> &'a [f64]
 }
 
 // The same of numbers as their 64 bits.
-pub fn seed_points_bits<'a>(bits: &'a [u64], used: usize, n: usize) -> &'a [u64]
-    ensures { λ r. ⌜ now r ≡ seedsOf (now (bits .entry)) used n ⌝ }
+pub fn seed_points_bits<'a>(bits: &'a [u64], hatch: HatchBits) -> &'a [u64]
+    ensures { λ r. ⌜ now r ≡ seedsOf (now (bits .entry)) (hatch .«numbers_used») (hatch .«num_seed_points») ⌝ }
 {
+    let used = hatch.numbers_used;
+    let n = hatch.num_seed_points;
     if used <= bits.len() {
         if n <= used / 2 {
             return &bits[used - 2 * n..used];

@@ -29,8 +29,8 @@ part-result-end c = search needs
 returns : tie.Need-returns
 returns c =
     let a = (c .before .before .before .args) in
-    let few : 2 * a .n ≤ a .used = omega (arith, c .before .if2 .taken) in
-    let e : a .used - (a .used - 2 * a .n) ≡ 2 * a .n = omega arith in
+    let few : 2 * a .hatch .«num_seed_points» ≤ a .hatch .«numbers_used» = omega (arith, c .before .if2 .taken) in
+    let e : a .hatch .«numbers_used» - (a .hatch .«numbers_used» - 2 * a .hatch .«num_seed_points») ≡ 2 * a .hatch .«num_seed_points» = omega arith in
     simp (le-leb _ _ (c .before .before .if1 .taken), le-leb _ _ few, e)
 
 sub-result-3 : tie.Need-sub-result-3
@@ -45,7 +45,7 @@ part-result-end-2 c = search needs
 returns-2 : tie.Need-returns-2
 returns-2 c =
     let a = (c .before .before .args) in
-    ⊎-elim (λ w. let more : a .used < 2 * a .n = omega (arith, w .1 .left) in simp (le-leb _ _ (w .0 .taken), lt-leb _ _ more)) (λ w. simp (lt-leb _ _ (w .left))) (c .before .if1 .came)
+    ⊎-elim (λ w. let more : a .hatch .«numbers_used» < 2 * a .hatch .«num_seed_points» = omega (arith, w .1 .left) in simp (le-leb _ _ (w .0 .taken), lt-leb _ _ more)) (λ w. simp (lt-leb _ _ (w .left))) (c .before .if1 .came)
 
 pub seed-points-bits-spec : {M : Type 1} → statement M
 seed-points-bits-spec =
