@@ -31,24 +31,25 @@ use Rattle.hatch_format.specs.Gradients.{gradient}
 use Rattle.hatch_format.specs.Hatch.{plane, hatch}
 use Rattle.hatch_format.specs.Call.{roomFor}
 use Rattle.hatch_format.specs.Begins.{BL-begins, BD-begins}
-use Rattle.hatch.specs.declared.lists.Sizes.{Sizes}
+use Rattle.hatch_walks.specs.declared.lists.Sizes.{Sizes}
 use Rattle.hatch.specs.declared.fronts.Ended.{Ended}
 use Rattle.hatch.specs.declared.fronts.Ended.the-variants.{Done as DoneFront, Refused as RefusedFront}
 use Rattle.hatch.specs.declared.fronts.Front.{Front as FrontRead}
-use Rattle.hatch.specs.declared.rests.Rest.{Rest}
-use Rattle.hatch.specs.declared.rests.RestWalk.the-variants.{Done, Refused}
+use Rattle.hatch_walks.specs.declared.rests.Rest.{Rest}
+use Rattle.hatch_walks.specs.declared.rests.RestWalk.{RestWalk}
+use Rattle.hatch_walks.specs.declared.rests.RestWalk.the-variants.{Done, Refused}
 use Rattle.hatch.specs.declared.HatchBitsAnswer.{HatchBitsAnswer}
 use Rattle.hatch.specs.declared.Outcome.the-variants.{Read}
 use Rattle.hatch_format.specs.declared.HatchBits.{HatchBits}
-use Rattle.hatch.specs.Gathered.{Entries, all, gathered}
-use Rattle.hatch.specs.Gathers.{all-both}
-use Rattle.hatch.specs.PathGathers.{pathEntries, all-paths}
-use Rattle.hatch.specs.Lists.{Lists, lay, grow, Laid}
-use Rattle.hatch.specs.Heads.{Modest}
-use Rattle.hatch.specs.Tails.{Gives}
-use Rattle.hatch.specs.Rests.{noSizes, restOf, restEntries, restWalk}
+use Rattle.hatch_walks.specs.Gathered.{Entries, all, gathered}
+use Rattle.hatch_walks.specs.Gathers.{all-both}
+use Rattle.hatch_walks.specs.PathGathers.{pathEntries, all-paths}
+use Rattle.hatch_walks.specs.Lists.{Lists, lay, grow, Laid}
+use Rattle.hatch_walks.specs.Heads.{Modest}
+use Rattle.hatch_walks.specs.Tails.{Gives}
+use Rattle.hatch_walks.specs.Rests.{noSizes, restOf, restEntries, restWalk}
 use Rattle.hatch.specs.Fronts.{Front, front, named, whole, hatch-front, frontOf}
-use Rattle.hatch.specs.Bodies.{madeOf, placed, roomy, madeIf, closedOf, layIf, closedLists}
+use Rattle.hatch.specs.Bodies.{madeOf, placed, Walked, roomy, madeIf, closedOf, layIf, closedLists}
 use Rattle.hatch.specs.Calls.{asBits, laidOver}
 
 pub modest : Modest documentCaps
@@ -140,7 +141,21 @@ pub closed-no : (f : FrontRead) (nw nn : ℕ) (p : CodePlaces) (o : Out ℕ Rest
 closed-no f nw nn p o {k} {q} {r} {l} {l′} e i j =
     subst (λ (x : Out ℕ RestValue). (r ≡ closedOf f nw nn p x) × (l′ ≡ closedLists l nw nn x)) (sym (rest-not o e)) (i, j)
 
--- by caps that are known as others
-pub gives-as : {c d : Caps} → c ≡ d → (v : Version) (xs : List ℕ) (p : ℕ) {l l′ : Lists} → Gives xs restEntries ((rest c v) .read xs p) l noSizes l′
+-- ---- a walk that measures, and one that fills
+module _ (xs : List ℕ) (o : Out ℕ RestValue) (l l′ : Lists) {fill : Bool} where
+  pub filled : fill ≡ true → Gives xs restEntries o l noSizes l′ → Walked fill xs o l l′
+  filled e g = subst (λ (b : Bool). Walked b xs o l l′) (sym e) g
+
+  pub measured : fill ≡ false → l′ ≡ l → Walked fill xs o l l′
+  measured e i = subst (λ (b : Bool). Walked b xs o l l′) (sym e) i
+
+-- the same by caps that are known as others
+pub walk-as : {c d : Caps} → c ≡ d → (v : Version) (xs : List ℕ) (p : ℕ) {r w : RestWalk} → r ≡ w → r ≡ restWalk ((rest c v) .read xs p)
+    → w ≡ restWalk ((rest d v) .read xs p)
+walk-as e v xs p i j = sym i ∙ (j ∙ ap (λ (x : Caps). restWalk ((rest x v) .read xs p)) e)
+
+-- and from lists that are known as others
+pub gives-as : {c d : Caps} → c ≡ d → (v : Version) (xs : List ℕ) (p : ℕ) {l m l′ : Lists} → m ≡ l → Gives xs restEntries ((rest c v) .read xs p) m noSizes l′
     → Gives xs restEntries ((rest d v) .read xs p) l noSizes l′
-gives-as e v xs p {l} {l′} h = subst (λ (x : Caps). Gives xs restEntries ((rest x v) .read xs p) l noSizes l′) e h
+gives-as {c} {d} e v xs p {l} {m} {l′} i h =
+    subst (λ (x : Lists). Gives xs restEntries ((rest d v) .read xs p) x noSizes l′) i (subst (λ (x : Caps). Gives xs restEntries ((rest x v) .read xs p) m noSizes l′) e h)

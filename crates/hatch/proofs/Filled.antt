@@ -22,11 +22,10 @@ use Rattle.hatch_format.specs.Entries.{words, numbers}
 use Rattle.hatch_format.specs.Call.{Call, payloadsOf, startsOf, callBy, hatchCall}
 use Rattle.hatch_format.specs.Demand3.{read-iff-laid}
 use Rattle.hatch.specs.declared.HatchBitsAnswer.{HatchBitsAnswer}
-use Rattle.hatch.specs.Lists.{Lists, lists, doublesOf}
-use Rattle.hatch.specs.Rests.{restEntries}
+use Rattle.hatch_walks.specs.Lists.{Lists, lists, doublesOf, length-doubles}
+use Rattle.hatch_walks.specs.Rests.{restEntries}
 use Rattle.hatch.specs.Bodies.{openedBy, opened}
 use Rattle.hatch.specs.Calls.{asBits, filled, doubles, laidOver, lengthsIn, asLengths}
-use Rattle.hatch.proofs.Laws.{length-doubles}
 use Rattle.hatch.proofs.BodyLaws.{laid-words, laid-numbers}
 
 -- the call's definition is the one by payloads and starts

@@ -1,4 +1,5 @@
 -- A body from what its parts' functions answered: its record, and the room that the lists must have. Assumes nothing.
+use mathlib.Core.Path.{_≡_}
 use mathlib.Core.Bool.{Bool, true, false, _&&_}
 use mathlib.Core.List.{List}
 use Prim.Native.Nat.{ℕ}
@@ -19,14 +20,15 @@ use Rattle.hatch_format.specs.Hatch.{hatch}
 use Rattle.hatch_format.specs.Call.{roomFor}
 use Rattle.hatch.specs.declared.Outcome.the-variants.{Read, Refused}
 use Rattle.hatch.specs.declared.HatchBitsAnswer.{HatchBitsAnswer}
-use Rattle.hatch.specs.Lists.{Lists, lay, grow}
-use Rattle.hatch.specs.Rests.{noSizes, restOf, restEntries}
+use Rattle.hatch_walks.specs.Lists.{Lists, lay, grow}
+use Rattle.hatch_walks.specs.Tails.{Gives}
+use Rattle.hatch_walks.specs.Rests.{noSizes, restOf, restEntries}
 use Rattle.bitcursor.specs.Reading.{Out, got, refused}
 use Rattle.text.specs.declared.Places.{Places}
 use Rattle.hatch_format.specs.declared.HatchBits.{HatchBits}
-use Rattle.hatch.specs.declared.lists.Sizes.{Sizes}
+use Rattle.hatch_walks.specs.declared.lists.Sizes.{Sizes}
 use Rattle.hatch.specs.declared.fronts.Front.{Front}
-use Rattle.hatch.specs.declared.rests.Rest.{Rest}
+use Rattle.hatch_walks.specs.declared.rests.Rest.{Rest}
 
 abbrev pub madeOf : Front → Rest → Sizes → Places → HatchBits
 madeOf f a z p =
@@ -54,6 +56,11 @@ madeOf f a z p =
 -- ---- the rest behind a front, whose main place it starts from
 abbrev pub placed : Places → ℕ → Places
 placed p q = record { main = q; string = p .string }
+
+-- a walk that measures leaves the lists as they were; one that fills lays the entries in them
+abbrev pub Walked : Bool → List ℕ → Out ℕ RestValue → Lists → Lists → Type 0
+Walked true xs o l l′ = Gives xs restEntries o l noSizes l′
+Walked false xs o l l′ = l′ ≡ l
 
 -- both lists are long enough for what the walk used
 abbrev pub roomy : ℕ → ℕ → Sizes → Bool

@@ -19,8 +19,8 @@ use Rattle.hatch.specs.declared.Outcome.the-variants.{Read, Refused}
 use Rattle.hatch.specs.declared.HatchAnswer.{HatchAnswer}
 use Rattle.hatch.specs.declared.HatchBitsAnswer.{HatchBitsAnswer}
 use Rattle.hatch.specs.declared.Lengths.{Lengths}
-use Rattle.hatch.specs.Lists.{Lists, lists, doublesOf, lay}
-use Rattle.hatch.specs.Rests.{noSizes, restEntries}
+use Rattle.hatch_walks.specs.Lists.{Lists, lists, doublesOf, lay}
+use Rattle.hatch_walks.specs.Rests.{noSizes, restEntries}
 
 -- ---- the record beside the outcome: zero but for the places on a refusal
 abbrev pub asBits : Out Places Body → HatchBitsAnswer
@@ -50,6 +50,13 @@ numbersAfter o l = filled numbers o l
 
 abbrev pub doublesAfter : Out Places Body → List Float → List Float
 doublesAfter o l = filled doubles o l
+
+-- ---- what a call ensures by what the definition reads: its answer, and each list before and after it
+abbrev pub ReadsBits : Out Places Body → HatchBitsAnswer → (bits bits′ words words′ : List ℕ) → Type 0
+ReadsBits o r bits bits′ words words′ = (r ≡ asBits o) × ((bits′ ≡ numbersAfter o bits) × (words′ ≡ wordsAfter o words))
+
+abbrev pub Reads : Out Places Body → HatchAnswer → (numbers numbers′ : List Float) (words words′ : List ℕ) → Type 0
+Reads o r numbers numbers′ words words′ = (r ≡ asData o) × ((numbers′ ≡ doublesAfter o numbers) × (words′ ≡ wordsAfter o words))
 
 -- ---- the calls
 abbrev pub callOf : ℕ → List ℕ → ℕ → Strings → ℕ → ℕ → Out Places Body

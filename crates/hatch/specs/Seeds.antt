@@ -1,14 +1,16 @@
 -- The seed points are the last numbers that a call used. Assumes nothing.
-use mathlib.Core.Path.{_≡_, refl, ap, subst, _∙_}
+use mathlib.Core.Path.{_≡_, refl, sym, ap, _∙_}
 use mathlib.Core.Bool.{Bool, true, false}
 use mathlib.Core.List.{List, [], _∷_, _++_, append-assoc}
 use Prim.Native.Nat.{ℕ, _-_, _*_, _≤_}
 use native.Mathlib.Omega.{arith}
+use lib.Ieee.{Float}
 use lib.ListN.{length, take, drop, length-append}
 use lib.Seq.{take-at, drop-at}
 use lib.Dec.{leb}
 use borrow.Author.Tests.{le-leb}
 use Rattle.hatch_format.specs.Values.{Point, Rest}
+use Rattle.hatch_walks.specs.Lists.{doublesOf, doubles-append, length-doubles}
 use Rattle.hatch_format.specs.Entries.{every, pointNumbers, pathNumbers, lineNumbers, numbers}
 
 module _ {A : Type 0} where
@@ -37,12 +39,24 @@ points-length : (points : List Point) → length (every pointNumbers points) ≡
 points-length [] = refl
 points-length (a ∷ points) = let h = points-length points in omega (arith, h)
 
-pub seeds-handed : (a : Rest) (behind : List ℕ)
+-- `listed` is how the numbers stand in the list: as their 64 bits, or as doubles
+module _ {A : Type 0} (listed : List ℕ → List A) (joins : (xs ys : List ℕ) → listed (xs ++ ys) ≡ listed xs ++ listed ys) (keeps : (xs : List ℕ) → length (listed xs) ≡ length xs) where
+  seeds-listed : (a : Rest) (behind : List A)
+      → seedsOf (listed (numbers a) ++ behind) (length (numbers a)) (length (a .tail .ending .seed-points)) ≡ listed (every pointNumbers (a .tail .ending .seed-points))
+  seeds-listed a behind =
+      let front = every pathNumbers (a .paths) ++ every lineNumbers (a .tail .pattern .lines) in
+      let seeds = every pointNumbers (a .tail .ending .seed-points) in
+      let n = length (a .tail .ending .seed-points) in
+      let e : front ++ seeds ≡ numbers a = append-assoc (every pathNumbers (a .paths)) (every lineNumbers (a .tail .pattern .lines)) seeds in
+      let i : listed (numbers a) ≡ listed front ++ listed seeds = ap listed (sym e) ∙ joins front seeds in
+      let used : length (numbers a) ≡ length (listed front ++ listed seeds) = sym (keeps (numbers a)) ∙ ap length i in
+      ap (λ (l : List A). seedsOf (l ++ behind) (length (numbers a)) n) i
+      ∙ seeds-last (listed front) (listed seeds) behind n (length (numbers a)) (keeps seeds ∙ points-length (a .tail .ending .seed-points)) used
+
+pub seeds-handed-bits : (a : Rest) (behind : List ℕ)
     → seedsOf (numbers a ++ behind) (length (numbers a)) (length (a .tail .ending .seed-points)) ≡ every pointNumbers (a .tail .ending .seed-points)
-seeds-handed a behind =
-    let paths = every pathNumbers (a .paths) in
-    let lines = every lineNumbers (a .tail .pattern .lines) in
-    let seeds = every pointNumbers (a .tail .ending .seed-points) in
-    let e : (paths ++ lines) ++ seeds ≡ numbers a = append-assoc paths lines seeds in
-    subst (λ (l : List ℕ). seedsOf (l ++ behind) (length l) (length (a .tail .ending .seed-points)) ≡ seeds) e
-    (seeds-last (paths ++ lines) seeds behind (length (a .tail .ending .seed-points)) (length ((paths ++ lines) ++ seeds)) (points-length (a .tail .ending .seed-points)) refl)
+seeds-handed-bits = seeds-listed (λ (l : List ℕ). l) (λ (xs ys : List ℕ). refl) (λ (xs : List ℕ). refl)
+
+pub seeds-handed : (a : Rest) (behind : List Float)
+    → seedsOf (doublesOf (numbers a) ++ behind) (length (numbers a)) (length (a .tail .ending .seed-points)) ≡ doublesOf (every pointNumbers (a .tail .ending .seed-points))
+seeds-handed = seeds-listed doublesOf doubles-append length-doubles

@@ -9,25 +9,25 @@ ghost use Rattle.hatch_format.specs.Caps.{documentCaps};
 ghost use Rattle.hatch_format.specs.Patterns.{rest};
 ghost use Rattle.hatch_format.specs.Hatch.{hatch};
 ghost use Rattle.hatch_format.specs.Call.{roomFor};
-ghost use Rattle.hatch.specs.Lists.{lists};
-ghost use Rattle.hatch.specs.Heads.{Modest};
-ghost use Rattle.hatch.specs.Rests.{restWalk};
+ghost use Rattle.hatch_walks.specs.Lists.{lists};
+ghost use Rattle.hatch_walks.specs.Heads.{Modest};
+ghost use Rattle.hatch_walks.specs.Rests.{restWalk};
 ghost use Rattle.hatch.specs.Calls.{asBits, laidOver};
-ghost use Rattle.hatch.specs.Bodies.{madeOf, closedOf, closedLists, opened};
+ghost use Rattle.hatch.specs.Bodies.{madeOf, Walked, closedOf, closedLists, opened};
 use crate::HatchBitsAnswer;
 use crate::Outcome;
 use crate::fronts;
 use crate::fronts::Ended;
 use crate::fronts::Front;
-use crate::lists::Sizes;
 use crate::record;
-use crate::rests;
-use crate::rests::Rest;
-use crate::rests::RestWalk;
 use bitcursor::Refusal;
 use hatch_format::Caps;
 use hatch_format::HatchBits;
 use hatch_format::Vec3DBits;
+use hatch_walks::lists::Sizes;
+use hatch_walks::rests;
+use hatch_walks::rests::Rest;
+use hatch_walks::rests::RestWalk;
 use text::Places;
 use text::version;
 use text::version::MaybeVersion;
@@ -44,7 +44,7 @@ pub fn refused(k: Refusal, p: Places) -> HatchBitsAnswer
 }
 
 // The same walk over no lists: it only measures.
-pub fn measure_rest(s: &[u8], at: usize, v: Version, caps: Caps) -> RestWalk
+fn measure_rest(s: &[u8], at: usize, v: Version, caps: Caps) -> RestWalk
     requires { ⌜ (length (now s) ≤ limit) × ((at ≤ 8 * length (now s)) × Modest caps) ⌝ }
     ensures { λ r. ⌜ r ≡ restWalk ((rest caps v) .read (now (s .entry)) at) ⌝ }
 {
@@ -60,6 +60,26 @@ pub fn measure_rest(s: &[u8], at: usize, v: Version, caps: Caps) -> RestWalk
         &mut bits[..0],
         &mut words[..0],
     )
+}
+
+// The rest, walked to measure it or to fill the lists with it.
+fn walk_rest(
+    s: &[u8],
+    at: usize,
+    v: Version,
+    caps: Caps,
+    fill: bool,
+    numbers: &mut [f64],
+    bits: &mut [u64],
+    words: &mut [u32],
+) -> RestWalk
+    requires { ⌜ (length (now s) ≤ limit) × ((at ≤ 8 * length (now s)) × Modest caps) ⌝ }
+    ensures { λ r. ⌜ (r ≡ restWalk ((rest caps v) .read (now (s .entry)) at)) × Walked fill (now (s .entry)) ((rest caps v) .read (now (s .entry)) at) (lists (now (numbers .entry)) (now (bits .entry)) (now (words .entry))) (lists (now (numbers .exit)) (now (bits .exit)) (now (words .exit))) ⌝ }
+{
+    if fill {
+        return rests::decode_rest(s, at, v, caps, numbers, bits, words);
+    }
+    measure_rest(s, at, v, caps)
 }
 
 // The record of a body.
@@ -116,7 +136,7 @@ fn fill_rest(
     let at = p.main;
     let string = p.string;
     let caps = hatch_format::document_caps();
-    match measure_rest(main, at, v, caps) {
+    match walk_rest(main, at, v, caps, false, numbers, bits, words) {
         RestWalk::Done(rest, q, z) => {
             let e = Places {
                 main: q,
@@ -128,7 +148,7 @@ fn fill_rest(
             if numbers_room < z.numbers {
                 return refused(Refusal::ListTooShort, e);
             }
-            let again = rests::decode_rest(main, at, v, caps, numbers, bits, words);
+            let again = walk_rest(main, at, v, caps, true, numbers, bits, words);
             HatchBitsAnswer {
                 outcome: Outcome::Read,
                 hatch: made(front, rest, z, e),

@@ -8,7 +8,6 @@ ghost use Rattle.hatch_format.specs.Counts.{times};
 ghost use Rattle.hatch_format.specs.Gradients.{color, block};
 ghost use Rattle.hatch.specs.Fronts.{colorOf, colorsOf, blockOf};
 ghost use Rattle.hatch.specs.Rows.{blockHead};
-use crate::counts;
 use crate::record;
 use bitcursor::Passed;
 use bitcursor::Read;
@@ -16,6 +15,7 @@ use bitcursor::Refusal;
 use bitcursor::sequence;
 use bitcursor::values;
 use hatch_format::GradientColorBits;
+use hatch_walks::counts;
 
 pub enum ColorRead {
     Done(GradientColorBits, usize),

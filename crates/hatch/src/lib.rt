@@ -1,28 +1,20 @@
 // The hatch calls: src/entities/hatch.rs of dwg-rs; section 20.4.75 of the specification.
-// One set of walks measures and fills, so that no list is written while a later field can still fail.
+// The walks of hatch_walks measure first and then fill, so that no list is written while a later field can still fail.
 // specs/ promises of each call, on any input, its record, both places and every entry of both lists, as hatch_format defines them.
 ghost use mathlib.Core.Path.{_≡_};
 ghost use lib.ListN.{length};
 ghost use Rattle.hatch_format.specs.Call.{none, lent};
-ghost use Rattle.hatch.specs.Calls.{asBits, asData, asLengths, lengthsIn, wordsAfter, numbersAfter, doublesAfter, callOf, most};
+ghost use Rattle.hatch.specs.Calls.{ReadsBits, Reads, asLengths, lengthsIn, callOf, most};
 use bitcursor::Refusal;
 use hatch_format::Hatch;
 use hatch_format::HatchBits;
 use text::Places;
 
 mod bodies;
-mod counts;
-mod edges;
 mod fills;
 mod fronts;
-mod lists;
-mod paths;
-mod patterns;
 mod record;
-mod rests;
-mod runs;
 pub mod seeds;
-mod vertices;
 
 pub enum Outcome {
     Read,
@@ -57,7 +49,7 @@ pub fn decode_bits(
     bits: &mut [u64],
     words: &mut [u32],
 ) -> HatchBitsAnswer
-    ensures { λ r. ⌜ (r ≡ asBits (callOf release (now (main .entry)) start none (length (now (words .entry))) (length (now (bits .entry))))) × ((now (bits .exit) ≡ numbersAfter (callOf release (now (main .entry)) start none (length (now (words .entry))) (length (now (bits .entry)))) (now (bits .entry))) × (now (words .exit) ≡ wordsAfter (callOf release (now (main .entry)) start none (length (now (words .entry))) (length (now (bits .entry)))) (now (words .entry)))) ⌝ }
+    ensures { λ r. ⌜ ReadsBits (callOf release (now (main .entry)) start none (length (now (words .entry))) (length (now (bits .entry)))) r (now (bits .entry)) (now (bits .exit)) (now (words .entry)) (now (words .exit)) ⌝ }
 {
     let mut numbers = [0.0f64; 1];
     let at = Places {
@@ -89,7 +81,7 @@ pub fn decode(
     numbers: &mut [f64],
     words: &mut [u32],
 ) -> HatchAnswer
-    ensures { λ r. ⌜ (r ≡ asData (callOf release (now (main .entry)) start none (length (now (words .entry))) (length (now (numbers .entry))))) × ((now (numbers .exit) ≡ doublesAfter (callOf release (now (main .entry)) start none (length (now (words .entry))) (length (now (numbers .entry)))) (now (numbers .entry))) × (now (words .exit) ≡ wordsAfter (callOf release (now (main .entry)) start none (length (now (words .entry))) (length (now (numbers .entry)))) (now (words .entry)))) ⌝ }
+    ensures { λ r. ⌜ Reads (callOf release (now (main .entry)) start none (length (now (words .entry))) (length (now (numbers .entry)))) r (now (numbers .entry)) (now (numbers .exit)) (now (words .entry)) (now (words .exit)) ⌝ }
 {
     let mut bits = [0u64; 1];
     let at = Places {
@@ -130,7 +122,7 @@ pub fn decode_with_strings_bits(
     bits: &mut [u64],
     words: &mut [u32],
 ) -> HatchBitsAnswer
-    ensures { λ r. ⌜ (r ≡ asBits (callOf release (now (main .entry)) start (lent (now (string .entry)) «string_start» «string_end») (length (now (words .entry))) (length (now (bits .entry))))) × ((now (bits .exit) ≡ numbersAfter (callOf release (now (main .entry)) start (lent (now (string .entry)) «string_start» «string_end») (length (now (words .entry))) (length (now (bits .entry)))) (now (bits .entry))) × (now (words .exit) ≡ wordsAfter (callOf release (now (main .entry)) start (lent (now (string .entry)) «string_start» «string_end») (length (now (words .entry))) (length (now (bits .entry)))) (now (words .entry)))) ⌝ }
+    ensures { λ r. ⌜ ReadsBits (callOf release (now (main .entry)) start (lent (now (string .entry)) «string_start» «string_end») (length (now (words .entry))) (length (now (bits .entry)))) r (now (bits .entry)) (now (bits .exit)) (now (words .entry)) (now (words .exit)) ⌝ }
 {
     let mut numbers = [0.0f64; 1];
     let at = Places {
@@ -165,7 +157,7 @@ pub fn decode_with_strings(
     numbers: &mut [f64],
     words: &mut [u32],
 ) -> HatchAnswer
-    ensures { λ r. ⌜ (r ≡ asData (callOf release (now (main .entry)) start (lent (now (string .entry)) «string_start» «string_end») (length (now (words .entry))) (length (now (numbers .entry))))) × ((now (numbers .exit) ≡ doublesAfter (callOf release (now (main .entry)) start (lent (now (string .entry)) «string_start» «string_end») (length (now (words .entry))) (length (now (numbers .entry)))) (now (numbers .entry))) × (now (words .exit) ≡ wordsAfter (callOf release (now (main .entry)) start (lent (now (string .entry)) «string_start» «string_end») (length (now (words .entry))) (length (now (numbers .entry)))) (now (words .entry)))) ⌝ }
+    ensures { λ r. ⌜ Reads (callOf release (now (main .entry)) start (lent (now (string .entry)) «string_start» «string_end») (length (now (words .entry))) (length (now (numbers .entry)))) r (now (numbers .entry)) (now (numbers .exit)) (now (words .entry)) (now (words .exit)) ⌝ }
 {
     let mut bits = [0u64; 1];
     let at = Places {

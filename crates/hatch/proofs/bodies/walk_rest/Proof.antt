@@ -1,0 +1,50 @@
+-- One of two walks: the one that fills the lists, or the one over no lists, which leaves them.
+use mathlib.Core.Path.{refl}
+use denote.Ref.{now}
+use Rattle.hatch_format.specs.Patterns.{rest}
+use Rattle.hatch_walks.specs.Lists.{lists}
+use Rattle.hatch.proofs.BodyLaws.{filled, measured}
+use borrow.Author.Needs.{needs}
+use Rattle.hatch.proofs.bodies.walk_rest.Statement.{statement}
+use Rattle.hatch.proofs.bodies.walk_rest.Tie as tie
+use Rattle.hatch.proofs.bodies.walk_rest.Reads as reads
+use Rattle.hatch.proofs.bodies.walk_rest.Lts as lts
+use Rattle.hatch.proofs.bodies.measure_rest.Reads as measure-rest-reads
+use Rattle.hatch_walks.proofs.rests.decode_rest.Reads as decode-rest-reads
+
+decode-rest-requires : tie.Need-decode-rest-requires
+decode-rest-requires c κs = search needs
+
+same-length : tie.Need-same-length
+same-length c = search needs
+
+same-length-2 : tie.Need-same-length-2
+same-length-2 c = search needs
+
+same-length-3 : tie.Need-same-length-3
+same-length-3 c = search needs
+
+returns : tie.Need-returns
+returns c =
+    let a = (c .before .before .before .before .before .before .before .before .before .before .before .before .before .before .before .args) in
+    ((c .before .before .before .before .before .before .decode-rest) .ensures .0, filled (now (a .s)) ((rest (a .caps) (a .v)) .read (now (a .s)) (a .at)) (lists (now (a .numbers)) (now (a .bits)) (now (a .words))) _ ((c .before .before .before .before .before .before .before .before .before .before .if1) .taken) ((c .before .before .before .before .before .before .decode-rest) .ensures .1))
+
+measure-rest-requires : tie.Need-measure-rest-requires
+measure-rest-requires c κs = search needs
+
+returns-2 : tie.Need-returns-2
+returns-2 c =
+    let a = (c .before .before .before .before .before .before .args) in
+    ((c .measure-rest) .ensures, measured (now (a .s)) ((rest (a .caps) (a .v)) .read (now (a .s)) (a .at)) (lists (now (a .numbers)) (now (a .bits)) (now (a .words))) (lists (now (a .numbers)) (now (a .bits)) (now (a .words))) ((c .before .if1) .left) refl)
+
+pub walk-rest-spec : {M : Type 1} → statement M
+walk-rest-spec =
+    tie.close
+    (tie.spec
+    decode-rest-requires
+    same-length
+    same-length-2
+    same-length-3
+    returns
+    measure-rest-requires
+    returns-2)

@@ -1,0 +1,12 @@
+pub mod Laws
+pub mod Loops
+pub mod RawRuns
+pub mod VertexLaws
+pub mod Lacking
+pub mod SplineHeads
+pub mod PolylineHeads
+pub mod Words
+pub mod Rows
+pub mod TailLaws
+pub mod TailEnds
+pub mod RestLaws

@@ -1,0 +1,12 @@
+pub mod Gathered
+pub mod Walks
+pub mod Runs
+pub mod Gathers
+pub mod EdgeGathers
+pub mod PathGathers
+pub mod Lists
+pub mod Stores
+pub mod Vertices
+pub mod Heads
+pub mod Tails
+pub mod Rests
