@@ -5,7 +5,7 @@ use crate::codes::OUTSIDE;
 use crate::hatches::{GradientColor, GradientFill, Hatch, HatchBody};
 use crate::refusal::Refusal;
 use crate::request::Lent;
-use crate::texts::{Source, Text};
+use crate::texts::Text;
 
 /// What the lent lists hold before a call. What is left of it afterwards is looked at.
 const BEFORE: u32 = 0x5a5a_5a5a;
@@ -90,12 +90,7 @@ fn gradient<Double: Copy>(body: &HatchBody, fill: Option<&GradientFill<Double>>,
 
 /// A text with its units, from the payload that it names.
 fn text(body: &HatchBody, text: &Text) -> String {
-    let payload = match text.source {
-        Source::None => &[],
-        Source::Main => body.payload,
-        Source::String => body.strings.unwrap_or_else(|| panic!("{OUTSIDE}")).payload,
-    };
-    text_form(text, payload)
+    text_form(text, body.payload_of(text).unwrap_or_else(|| panic!("{OUTSIDE}")))
 }
 
 /// The protocol's lists: `-` for no items.
