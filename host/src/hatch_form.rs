@@ -34,7 +34,7 @@ pub(crate) fn f64_line(body: &HatchBody, lent: Option<Lent>) -> Result<String, R
 
 /// How long the lent lists are: as a request says, but not above what the body needs and one entry more, since a request may name any
 /// length and there may not be so much memory. A body that cannot be measured is refused for every list as it is here.
-fn lengths(body: &HatchBody, lent: Option<Lent>) -> Result<Lent, Refusal> {
+pub(crate) fn lengths(body: &HatchBody, lent: Option<Lent>) -> Result<Lent, Refusal> {
     let needed = body.measure()?;
     let lent = lent.unwrap_or(Lent { words: usize::MAX, numbers: usize::MAX });
     Ok(Lent { words: lent.words.min(needed.words + 1), numbers: lent.numbers.min(needed.numbers + 1) })

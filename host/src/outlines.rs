@@ -109,6 +109,38 @@ pub struct HatchPath<Double = f64> {
     pub num_boundary_handles: u32,
 }
 
+impl<Double: Copy> HatchPath<Double> {
+    /// The path's points as they are given, in reading order: vertices, line ends, centres, control points and fit points. What is a direction,
+    /// an ellipse's `endpoint` and the tangents, is not among them; nor is where a bulge or an arc reaches beyond them.
+    ///
+    /// ```
+    /// use dwg_hatch::{HatchEdge, HatchPath, HatchPathSegments, Point2D};
+    /// let [start, end] = [Point2D { x: 1.5, y: 0.0 }, Point2D { x: 0.0, y: 2.5 }];
+    /// let segments = HatchPathSegments::Edges(vec![HatchEdge::Line { start, end }]);
+    /// assert_eq!(HatchPath { flags: 1, segments, num_boundary_handles: 0 }.points(), [start, end]);
+    /// ```
+    pub fn points(&self) -> Vec<Point2D<Double>> {
+        match &self.segments {
+            HatchPathSegments::Polyline { vertices, .. } => vertices.iter().map(|vertex| vertex.point).collect(),
+            HatchPathSegments::Edges(edges) => edges.iter().flat_map(HatchEdge::points).collect(),
+        }
+    }
+}
+
+impl<Double: Copy> HatchEdge<Double> {
+    /// The edge's points, as [`HatchPath::points`] has them.
+    pub fn points(&self) -> Vec<Point2D<Double>> {
+        match self {
+            HatchEdge::Line { start, end } => vec![*start, *end],
+            HatchEdge::Arc { center, .. } | HatchEdge::Ellipse { center, .. } => vec![*center],
+            HatchEdge::Spline { control_points, fits, .. } => {
+                let fit_points = fits.iter().flat_map(|fits| &fits.fit_points);
+                control_points.iter().map(|control| control.point).chain(fit_points.copied()).collect()
+            }
+        }
+    }
+}
+
 /// One line of a pattern.
 #[derive(Clone, Debug, PartialEq, Eq)]
 pub struct PatternLine<Double = f64> {
