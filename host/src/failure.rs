@@ -70,3 +70,13 @@ pub fn shown(word: &[u8]) -> String {
     }
     line
 }
+
+/// A count and what is counted, in its plural unless there is one.
+///
+/// ```
+/// use dwg_hatch::failure::counted;
+/// assert_eq!([counted(0, "path"), counted(1, "path"), counted(2, "path")], ["0 paths", "1 path", "2 paths"]);
+/// ```
+pub fn counted(count: usize, what: &str) -> String {
+    format!("{count} {what}{}", if count == 1 { "" } else { "s" })
+}

@@ -1,6 +1,6 @@
 //! Lines of a file of requests: those that are passed over, and what is wrong with those that are no requests.
 
-use crate::failure::shown;
+use crate::failure::{counted, shown};
 use crate::payload::Payload;
 use crate::request::number;
 
@@ -55,7 +55,7 @@ fn wrong_field(request: &str, names: &[&str], fields: &[&[u8]], lent: bool) -> S
     let lent_names = if lent && fields.len() > names.len() { &LENT[..] } else { &[] };
     let names: Vec<&str> = names.iter().chain(lent_names).copied().collect();
     if fields.len() != names.len() {
-        return format!("{request} takes {}, and {} fields stand after it", names.join(" "), fields.len());
+        return format!("{request} takes {}, and the line has {} after it", names.join(" "), counted(fields.len(), "field"));
     }
     let wrong = names.iter().zip(fields).find_map(|(name, field)| wrong_value(name, field));
     wrong.unwrap_or_else(|| format!("the line is no {request} request"))
@@ -76,5 +76,5 @@ fn wrong_payload(name: &str, field: &[u8]) -> String {
     if let Some(at) = field.iter().position(|byte| !byte.is_ascii_hexdigit()) {
         return format!("{name} has \"{}\" as its digit {}, which is no hexadecimal digit", shown(&field[at..=at]), at + 1);
     }
-    format!("{name} has {} digits, and a byte has two: add or remove one", field.len())
+    format!("{name} has {}, and a byte has two: add or remove one", counted(field.len(), "digit"))
 }

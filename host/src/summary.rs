@@ -1,5 +1,6 @@
 //! Hatches and prefixes as a person reads them: a line for each thing that they hold. Each double has all its digits.
 
+use crate::failure::counted;
 use crate::hatches::{GradientFill, Hatch};
 use crate::input::Item;
 use crate::outlines::{self, HatchEdge, HatchPath, HatchPathSegments, PatternLine, Point2D};
@@ -32,6 +33,9 @@ pub(crate) fn hatch(item: &Item, request: &HatchRequest, typed: &TypedHatch<u64>
         lines.extend(gradient(fill, name));
     }
     lines.extend(record(hatch, &typed.pattern_name));
+    if typed.paths.iter().any(|path| path.flags & outlines::FLAG_DERIVED != 0) {
+        lines.push(line("pixel", format!("size {}", double(hatch.pixel_size))));
+    }
     let numbered = |name: &str, at: usize| format!("{name} {}", at + 1);
     lines.extend(typed.paths.iter().enumerate().flat_map(|(at, path)| [line(&numbered("path", at), path_text(path)), extents(path)]));
     lines.extend(typed.pattern_lines.iter().enumerate().map(|(at, text)| line(&numbered("line", at), pattern_line(text))));
@@ -46,7 +50,7 @@ pub(crate) fn prefix(item: &Item, request: &PrefixRequest, data: &CommonEntityBi
     let linetype = LINETYPES[usize::from(data.ltype_flags & 3)];
     let lines = [
         title(item, "prefix", request.release, request.start, place),
-        line("mode", format!("{} ({:?}); {} reactors", data.raw_mode, data.mode, data.num_reactors)),
+        line("mode", format!("{} ({:?}); reactors: {}", data.raw_mode, data.mode, data.num_reactors)),
         line("color", format!("{}; rgb {}, alpha {}", data.color_raw, hexadecimal(data.color_rgb), hexadecimal(data.color_alpha))),
         line("linetype", format!("{} ({linetype}), scale {}", data.ltype_flags, double(data.ltype_scale))),
         line("", format!("not fixed: {}; on the layer: {}", yes(data.non_fixed_ltype), yes(data.is_on_layer))),
@@ -92,10 +96,10 @@ fn record(hatch: &Hatch<u64>, name: &Name) -> Vec<String> {
     }
     let [x, y, z] = hatch.extrusion.map(double);
     lines.push(line("plane", format!("elevation {}, extrusion ({x}, {y}, {z})", double(hatch.elevation))));
-    lines.push(line("pixel", format!("size {}", double(hatch.pixel_size))));
-    let lists = format!("{} words, {} numbers", hatch.words_used, hatch.numbers_used);
-    let counts = format!("{} paths, {} pattern lines, {} seed points", hatch.num_paths, hatch.num_pattern_lines, hatch.num_seed_points);
-    lines.push(line("holds", format!("{counts}; {lists}")));
+    let items = [(hatch.num_paths, "path"), (hatch.num_pattern_lines, "pattern line"), (hatch.num_seed_points, "seed point")];
+    let items = items.map(|(count, what)| counted(count, what)).join(", ");
+    let lists = [(hatch.words_used, "word"), (hatch.numbers_used, "number")].map(|(count, what)| counted(count, what)).join(", ");
+    lines.push(line("holds", format!("{items}; {lists}")));
     lines
 }
 
@@ -112,22 +116,22 @@ fn text(text: &Text, name: &Name) -> String {
         (None, Name::Bytes(bytes)) => format!("bytes {bytes:02x?}"),
         (None, Name::Characters(characters)) => format!("{characters:?}"),
     };
-    format!("{shown} ({} units of {} bits at bit {}{payload})", text.count, text.width, text.position)
+    format!("{shown} ({} of {} bits at bit {}{payload})", counted(text.count, "unit"), text.width, text.position)
 }
 
 fn path_text(path: &HatchPath<u64>) -> String {
     let segments = match &path.segments {
         HatchPathSegments::Polyline { has_bulge, is_closed, vertices } => {
             let bulges = if *has_bulge { "with bulges" } else { "without bulges" };
-            format!("polyline, {}, {} vertices {bulges}", if *is_closed { "closed" } else { "open" }, vertices.len())
+            format!("polyline, {}, vertices: {}, {bulges}", if *is_closed { "closed" } else { "open" }, vertices.len())
         }
         HatchPathSegments::Edges(edges) => edge_counts(edges),
     };
-    format!("{segments}; flags {}; {} boundary handles", flags(path.flags), path.num_boundary_handles)
+    format!("{segments}; flags {}; boundary handles: {}", flags(path.flags), path.num_boundary_handles)
 }
 
 fn edge_counts(edges: &[HatchEdge<u64>]) -> String {
-    let mut counts = [("lines", 0), ("arcs", 0), ("ellipses", 0), ("splines", 0)];
+    let mut counts = [("line", 0), ("arc", 0), ("ellipse", 0), ("spline", 0)];
     for edge in edges {
         let kind = match edge {
             HatchEdge::Line { .. } => 0,
@@ -137,8 +141,8 @@ fn edge_counts(edges: &[HatchEdge<u64>]) -> String {
         };
         counts[kind].1 += 1;
     }
-    let kinds: Vec<String> = counts.iter().filter(|count| count.1 > 0).map(|(name, count)| format!("{name} {count}")).collect();
-    if kinds.is_empty() { "0 edges".to_string() } else { format!("{} edges ({})", edges.len(), kinds.join(", ")) }
+    let kinds: Vec<String> = counts.iter().filter(|count| count.1 > 0).map(|(name, count)| counted(*count, name)).collect();
+    if kinds.is_empty() { "no edges".to_string() } else { format!("{}: {}", counted(edges.len(), "edge"), kinds.join(", ")) }
 }
 
 /// Flags with the names of their values; what has no name is there as a number.
@@ -164,7 +168,7 @@ fn extents(path: &HatchPath<u64>) -> String {
     };
     match points.len() {
         0 => line("", "no points".to_string()),
-        count => line("", format!("{count} points, x {}, y {}", along(0), along(1))),
+        count => line("", format!("{}, x {}, y {}", counted(count, "point"), along(0), along(1))),
     }
 }
 

@@ -112,7 +112,7 @@ impl Command {
         if switch.is_some() {
             return if value.is_none() { Ok((name, OsString::new())) } else { Err(self.usage(format!("{name} takes no value"))) };
         }
-        let value = value.or(rest.next().map(OsString::as_os_str));
+        let value = value.or_else(|| rest.next().map(OsString::as_os_str));
         value.map(|value| (name, value.to_os_string())).ok_or_else(|| self.usage(format!("{name} is given without its value")))
     }
 
