@@ -14,9 +14,13 @@ pub fn call(words: &[impl AsRef<OsStr>], input: &[u8]) -> Output {
     let mut command = tool();
     command.args(words).stdin(Stdio::piped()).stdout(Stdio::piped()).stderr(Stdio::piped());
     let mut child = command.spawn().expect("the tool starts");
-    // A tool that ends without reading its input has closed the pipe; its answer is what is tested.
-    let _ = child.stdin.take().expect("a pipe").write_all(input);
-    child.wait_with_output().expect("the tool ends")
+    let mut pipe = child.stdin.take().expect("a pipe");
+    // Written while the answers are taken, since a pipe holds only so much. A tool that ends without reading its input has closed the
+    // pipe; its answer is what is tested.
+    std::thread::scope(|scope| {
+        scope.spawn(move || drop(pipe.write_all(input)));
+        child.wait_with_output().expect("the tool ends")
+    })
 }
 
 /// What is printed where all is well.
