@@ -188,7 +188,7 @@ fn bad_lines_are_told_in_one_line() {
 #[test]
 fn a_file_that_cannot_be_read_is_one_line_and_status_1() {
     let hidden = file("hidden.txt", b"hatch 2 0 A9AAA0\n");
-    fs::set_permissions(&hidden, fs::Permissions::from_mode(0)).expect("permissions");
+    fs::set_permissions(&hidden, fs::Permissions::from_mode(0o000)).expect("permissions");
     // Who runs the tests as root may read every file.
     let unreadable = fs::read(&hidden).is_err();
     for before in ["read", "read --json", "prefix", "read --release 2", "prefix --release 2", "read --release 2 --strings"] {
@@ -238,7 +238,8 @@ fn huge_input_is_refused() {
     let output = tool().args(["read", "--release", "2"]).stdin(zeros()).output().expect("the tool starts");
     assert!(refuses(&output, 1).contains("refusal 10 at bit 0: a payload is longer than 268,435,456 bytes"));
     let most = u64::MAX;
-    for line in [format!("hatch {most} {most} -"), format!("hatchs 2 {most} z{most} {most} {most} z{most} L {most} {most}"), format!("prefix 7 {most} -")] {
+    let with_reader = format!("hatchs 2 {most} z{most} {most} {most} z{most} L {most} {most}");
+    for line in [format!("hatch {most} {most} -"), with_reader, format!("prefix 7 {most} -")] {
         refuses(&call(&["read"], line.as_bytes()), 1);
     }
     let options = format!("read --release {most} --start {most} --strings /dev/null --string-start {most} --string-end {most}");
