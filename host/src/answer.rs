@@ -5,7 +5,6 @@ use std::io::{self, BufRead, BufReader, BufWriter, Read, Write};
 
 use crate::codes;
 use crate::hatch_form;
-use crate::hatches::{HatchBody, StringReader};
 use crate::payload::Zeros;
 use crate::prefixes::{self, CommonEntityData};
 use crate::refusal::Refusal;
@@ -85,15 +84,7 @@ impl Answerer {
     }
 
     fn hatch(&mut self, request: &HatchRequest) -> String {
-        self.zeros.reserve(&request.payload);
-        if let Some(strings) = &request.strings {
-            self.zeros.reserve(&strings.payload);
-        }
-        let strings = request.strings.as_ref().map(|strings| {
-            StringReader { payload: self.zeros.lend(&strings.payload), start: strings.start, end: strings.end }
-        });
-        let payload = self.zeros.lend(&request.payload);
-        let body = HatchBody { payload, start: request.start, release: request.release, strings };
+        let body = request.body(&mut self.zeros);
         let line = match self.doubles {
             Doubles::Bits => hatch_form::bits_line(&body, request.lent),
             Doubles::F64 => hatch_form::f64_line(&body, request.lent),

@@ -5,7 +5,7 @@ use crate::codes::OUTSIDE;
 use crate::hatches::{GradientColor, GradientFill, Hatch, HatchBody};
 use crate::refusal::Refusal;
 use crate::request::Lent;
-use crate::texts::{Source, Text};
+use crate::texts::Text;
 
 /// What the lent lists hold before a call. What is left of it afterwards is looked at.
 const BEFORE: u32 = 0x5a5a_5a5a;
@@ -34,7 +34,7 @@ pub(crate) fn f64_line(body: &HatchBody, lent: Option<Lent>) -> Result<String, R
 
 /// How long the lent lists are: as a request says, but not above what the body needs and one entry more, since a request may name any
 /// length and there may not be so much memory. A body that cannot be measured is refused for every list as it is here.
-fn lengths(body: &HatchBody, lent: Option<Lent>) -> Result<Lent, Refusal> {
+pub(crate) fn lengths(body: &HatchBody, lent: Option<Lent>) -> Result<Lent, Refusal> {
     let needed = body.measure()?;
     let lent = lent.unwrap_or(Lent { words: usize::MAX, numbers: usize::MAX });
     Ok(Lent { words: lent.words.min(needed.words + 1), numbers: lent.numbers.min(needed.numbers + 1) })
@@ -90,12 +90,7 @@ fn gradient<Double: Copy>(body: &HatchBody, fill: Option<&GradientFill<Double>>,
 
 /// A text with its units, from the payload that it names.
 fn text(body: &HatchBody, text: &Text) -> String {
-    let payload = match text.source {
-        Source::None => &[],
-        Source::Main => body.payload,
-        Source::String => body.strings.unwrap_or_else(|| panic!("{OUTSIDE}")).payload,
-    };
-    text_form(text, payload)
+    text_form(text, body.payload_of(text).unwrap_or_else(|| panic!("{OUTSIDE}")))
 }
 
 /// The protocol's lists: `-` for no items.

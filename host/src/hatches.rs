@@ -47,9 +47,33 @@ pub struct HatchBody<'a> {
     pub strings: Option<StringReader<'a>>,
 }
 
-// SAFETY, of every call below: a function of ffi.rs takes a slice as its pointer and length, reads no byte outside a payload whatever the
-// numbers are, writes nothing but its answer and entries of the two lists, which are lent for writing and lie apart, and keeps nothing. A
-// slice's pointer is not null, also where the slice is empty.
+/// Calls the entry without or with a string reader, and makes a [`Hatch`] of its answer. It is a macro because the structs of an answer
+/// with f64 and of one with bits are two types with the same fields.
+macro_rules! decode {
+    ($body:expr, $numbers:expr, $words:expr, $decode:path, $decode_with_strings:path) => {{
+        let (bytes, length, at, release) = ($body.payload.as_ptr(), $body.payload.len(), $body.start, $body.release);
+        let (n, nn, w, nw) = ($numbers.as_mut_ptr(), $numbers.len(), $words.as_mut_ptr(), $words.len());
+        let a = match $body.strings {
+            // SAFETY: see the calls' common note below.
+            None => unsafe { $decode(bytes, length, at, release, n, nn, w, nw) },
+            // SAFETY: see there.
+            Some(StringReader { payload: s, start, end }) => unsafe {
+                $decode_with_strings(bytes, length, at, s.as_ptr(), s.len(), start, end, release, n, nn, w, nw)
+            },
+        };
+        let places = Places { main: a.place, string: a.string_place };
+        accepted(a.refusal, places)?;
+        let (extrusion, g) = ([a.extrusion_x, a.extrusion_y, a.extrusion_z], a.gradient);
+        let colors = g.colors.map(|c| color(c.unknown_double, c.unknown_short, c.rgb, c.ignored_color_byte));
+        let fill = fill(g.present, [g.angle, g.shift, g.tint], g.is_single_color, (colors, g.num_colors), &g.name);
+        let doubles = [a.elevation, a.pattern_angle, a.pattern_scale, a.pixel_size];
+        Ok(hatch(fill, extrusion, doubles, a.fields, places))
+    }};
+}
+
+// SAFETY, of every call below and of `decode!`: a function of ffi.rs takes a slice as its pointer and length, reads no byte outside a
+// payload whatever the numbers are, writes nothing but its answer and entries of the two lists, which are lent for writing and lie apart,
+// and keeps nothing. A slice's pointer is not null, also where the slice is empty.
 impl HatchBody<'_> {
     /// The lengths that the lists must have. Refuses as [`HatchBody::decode_into`] does, but never for a list.
     ///
@@ -108,44 +132,12 @@ impl HatchBody<'_> {
     /// # Ok::<(), dwg_hatch::Refusal>(())
     /// ```
     pub fn decode_into(&self, numbers: &mut [f64], words: &mut [u32]) -> Result<Hatch, Refusal> {
-        let (bytes, length, at, release) = (self.payload.as_ptr(), self.payload.len(), self.start, self.release);
-        let (n, nn, w, nw) = (numbers.as_mut_ptr(), numbers.len(), words.as_mut_ptr(), words.len());
-        let a = match self.strings {
-            // SAFETY: see above.
-            None => unsafe { ffi::dwg_hatch_decode(bytes, length, at, release, n, nn, w, nw) },
-            // SAFETY: see above.
-            Some(StringReader { payload: s, start, end }) => unsafe {
-                ffi::dwg_hatch_decode_with_strings(bytes, length, at, s.as_ptr(), s.len(), start, end, release, n, nn, w, nw)
-            },
-        };
-        let places = Places { main: a.place, string: a.string_place };
-        accepted(a.refusal, places)?;
-        let (extrusion, g) = ([a.extrusion_x, a.extrusion_y, a.extrusion_z], a.gradient);
-        let colors = g.colors.map(|c| color(c.unknown_double, c.unknown_short, c.rgb, c.ignored_color_byte));
-        let fill = fill(g.present, [g.angle, g.shift, g.tint], g.is_single_color, (colors, g.num_colors), &g.name);
-        let doubles = [a.elevation, a.pattern_angle, a.pattern_scale, a.pixel_size];
-        Ok(hatch(fill, extrusion, doubles, a.fields, places))
+        decode!(self, numbers, words, ffi::dwg_hatch_decode, ffi::dwg_hatch_decode_with_strings)
     }
 
     /// The same with each double as its 64 bits.
     pub fn decode_bits_into(&self, bits: &mut [u64], words: &mut [u32]) -> Result<Hatch<u64>, Refusal> {
-        let (bytes, length, at, release) = (self.payload.as_ptr(), self.payload.len(), self.start, self.release);
-        let (n, nn, w, nw) = (bits.as_mut_ptr(), bits.len(), words.as_mut_ptr(), words.len());
-        let a = match self.strings {
-            // SAFETY: see above.
-            None => unsafe { ffi::dwg_hatch_decode_bits(bytes, length, at, release, n, nn, w, nw) },
-            // SAFETY: see above.
-            Some(StringReader { payload: s, start, end }) => unsafe {
-                ffi::dwg_hatch_decode_with_strings_bits(bytes, length, at, s.as_ptr(), s.len(), start, end, release, n, nn, w, nw)
-            },
-        };
-        let places = Places { main: a.place, string: a.string_place };
-        accepted(a.refusal, places)?;
-        let (extrusion, g) = ([a.extrusion_x, a.extrusion_y, a.extrusion_z], a.gradient);
-        let colors = g.colors.map(|c| color(c.unknown_double, c.unknown_short, c.rgb, c.ignored_color_byte));
-        let fill = fill(g.present, [g.angle, g.shift, g.tint], g.is_single_color, (colors, g.num_colors), &g.name);
-        let doubles = [a.elevation, a.pattern_angle, a.pattern_scale, a.pixel_size];
-        Ok(hatch(fill, extrusion, doubles, a.fields, places))
+        decode!(self, bits, words, ffi::dwg_hatch_decode_bits, ffi::dwg_hatch_decode_with_strings_bits)
     }
 }
 

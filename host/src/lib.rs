@@ -13,23 +13,40 @@
 //! # Ok::<(), dwg_hatch::Refusal>(())
 //! ```
 //!
-//! There are the codes of document 01's section on bitcursor.rs ([`codes`]), texts ([`texts`]), the entity prefix ([`prefixes`]), and
-//! hatch bodies ([`hatches`]).
+//! [`read_hatch`], [`read_hatch_with_strings`] and [`read_prefix`] give a whole hatch, with its paths, pattern lines and seed points as a tree
+//! ([`outlines`]), and a whole prefix. Below them are the codes of document 01's section on bitcursor.rs ([`codes`]), texts ([`texts`]), the
+//! entity prefix ([`prefixes`]), and hatch bodies with their two lists, as the library hands them over ([`hatches`]).
+//!
+//! The tool's commands have a module each, and share [`words`], [`input`], [`lines`], [`each`] and [`failure`].
 
 pub mod answer;
 pub mod codes;
+pub mod each;
+pub mod failure;
 mod ffi;
 mod hatch_form;
 mod hatch_record;
 pub mod hatches;
+pub mod input;
+pub mod json;
+mod json_forms;
+pub mod lines;
+mod outline_lists;
+pub mod outlines;
 pub mod payload;
 pub mod prefixes;
+pub mod read;
 pub mod refusal;
 pub mod request;
+mod summary;
 pub mod texts;
+pub mod typed;
+pub mod words;
 
 pub use codes::*;
 pub use hatches::*;
+pub use outlines::*;
 pub use prefixes::*;
 pub use refusal::Refusal;
 pub use texts::*;
+pub use typed::*;

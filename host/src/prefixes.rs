@@ -74,6 +74,22 @@ pub struct CommonEntityData<Scale = f64> {
 /// The same with the scale as its 64 bits, a NaN's too.
 pub type CommonEntityBits = CommonEntityData<u64>;
 
+/// The prefix of an entity of a release, and the place after it: [`read_common_entity_data`] by the name that goes with
+/// [`read_hatch`](crate::read_hatch).
+///
+/// ```
+/// // The hatch body of the same payload starts where the prefix ends.
+/// let (data, place) = dwg_hatch::read_prefix(&[0x85, 0xd0, 0x87, 0x40], 0, 2)?;
+/// assert_eq!((data.color_raw, data.lineweight, place), (256, 29, 26));
+///
+/// let refusal = dwg_hatch::read_prefix(&[0x85], 0, 8).unwrap_err();
+/// assert_eq!(refusal.to_string(), "refusal 9 at bit 0: the release is not 1 to 7; name a release from 1 (R14) to 7 (R2018)");
+/// # Ok::<(), dwg_hatch::Refusal>(())
+/// ```
+pub fn read_prefix(payload: &[u8], start: usize, release: u64) -> Reading<CommonEntityData> {
+    read_common_entity_data(payload, start, release)
+}
+
 /// The prefix of an entity of a release. A NaN as scale comes as one NaN whatever its pattern; [`read_common_entity_bits`] gives the
 /// pattern.
 ///

@@ -1,6 +1,7 @@
 //! A line of the protocol as a request.
 
-use crate::payload::Payload;
+use crate::hatches::{HatchBody, StringReader};
+use crate::payload::{Payload, Zeros};
 
 /// A request line, taken apart.
 #[derive(Clone, Debug, PartialEq, Eq)]
@@ -83,6 +84,26 @@ pub struct HatchRequest {
     pub strings: Option<Strings>,
     /// The lengths of the lent lists; without them the lists are long enough.
     pub lent: Option<Lent>,
+}
+
+impl HatchRequest {
+    /// The body that the request names, its zeros lent.
+    ///
+    /// ```
+    /// use dwg_hatch::request::{parse, Request};
+    /// let Some(Request::Hatch(request)) = parse(b"hatch 2 0 A9AAA0") else { panic!("no hatch request") };
+    /// let mut zeros = dwg_hatch::payload::Zeros::default();
+    /// assert!(request.body(&mut zeros).read()?.paths.is_empty());
+    /// # Ok::<(), dwg_hatch::Refusal>(())
+    /// ```
+    pub fn body<'a>(&'a self, zeros: &'a mut Zeros) -> HatchBody<'a> {
+        zeros.reserve(&self.payload);
+        self.strings.iter().for_each(|strings| zeros.reserve(&strings.payload));
+        let lend = |payload| zeros.lend(payload);
+        let reader = |strings: &'a Strings| StringReader { payload: lend(&strings.payload), start: strings.start, end: strings.end };
+        let strings = self.strings.as_ref().map(reader);
+        HatchBody { payload: lend(&self.payload), start: self.start, release: self.release, strings }
+    }
 }
 
 /// A string reader.

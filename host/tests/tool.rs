@@ -1,36 +1,13 @@
-//! The tool as a person or a script calls it.
+//! The tool's words, and `answer`.
+
+mod calls;
 
 use std::ffi::OsStr;
 use std::io::Write;
 use std::os::unix::ffi::OsStrExt;
-use std::process::{Command, Output, Stdio};
+use std::process::Stdio;
 
-fn tool() -> Command {
-    Command::new(env!("CARGO_BIN_EXE_dwg-hatch"))
-}
-
-fn call(words: &[&str], input: &[u8]) -> Output {
-    let mut command = tool();
-    command.args(words).stdin(Stdio::piped()).stdout(Stdio::piped()).stderr(Stdio::piped());
-    let mut child = command.spawn().expect("the tool starts");
-    // A tool that ends without reading its input has closed the pipe; its answer is what is tested.
-    let _ = child.stdin.take().expect("a pipe").write_all(input);
-    child.wait_with_output().expect("the tool ends")
-}
-
-fn answers(words: &[&str], input: &[u8]) -> String {
-    let output = call(words, input);
-    assert!(output.status.success() && output.stderr.is_empty(), "{output:?}");
-    String::from_utf8(output.stdout).expect("answers are ASCII")
-}
-
-/// One line on standard error, nothing on standard output, and the status.
-fn refuses(output: &Output, status: i32) {
-    assert_eq!(output.status.code(), Some(status), "{output:?}");
-    assert!(output.stdout.is_empty(), "{output:?}");
-    let text = String::from_utf8_lossy(&output.stderr);
-    assert!(text.starts_with("dwg-hatch: ") && text.ends_with('\n') && text.lines().count() == 1, "{text}");
-}
+use calls::{answers, call, refuses, tool};
 
 #[test]
 fn examples_are_answered() {
@@ -119,8 +96,14 @@ fn lines_of_any_bytes_are_answered() {
 
 #[test]
 fn help_is_there_for_all_commands() {
-    assert!(answers(&["--help"], b"").contains("answer"));
-    assert!(answers(&["answer", "--help"], b"").contains("--f64"));
+    let help = answers(&["--help"], b"");
+    for (command, option) in [("answer", "--f64"), ("read", "--json"), ("prefix", "--json")] {
+        assert!(help.contains(&format!("\n  {command} ")), "{command}");
+        for word in ["--help", "-h"] {
+            let help = answers(&[command, word], b"");
+            assert!(help.contains(&format!("usage: dwg-hatch {command} ")) && help.contains(option), "{help}");
+        }
+    }
 }
 
 #[test]

@@ -1,0 +1,85 @@
+//! What `--help` says.
+
+pub const HELP: &str = "\
+Reads hatch bodies and entity prefixes of DWG drawings with a proved reader.
+
+usage: dwg-hatch COMMAND [OPTION]...
+
+  read      read hatch bodies and prefixes: a summary of each, or everything as JSON
+  prefix    read entity prefixes alone
+  answer    answer request lines on standard input, one line each, for programs
+
+dwg-hatch COMMAND --help says more about a command.
+";
+
+pub const READ_HELP: &str = "\
+Reads hatch bodies and entity prefixes, and prints a summary of each, or everything as JSON.
+
+usage: dwg-hatch read [--json] [FILE]
+       dwg-hatch read [--json] --release N [--start BIT] [--strings FILE [--string-start BIT] [--string-end BIT]] [FILE]
+
+  --json               print one JSON object a line for each request, with every field; docs/JSON.md has their names.
+                       Finite doubles are the shortest numbers that give the same double back, NaNs and infinities
+                       strings with their 64 bits, as \"0x7ff8000000000001\"
+  --release N          the file is binary and holds a hatch body of this release: 1 R14, 2 R2000, 3 R2004, 4 R2007,
+                       5 R2010, 6 R2013, 7 R2018
+  --start BIT          where the body starts in it, in bits from its first byte's top bit; 0 if not given
+  --strings FILE       the texts come from this binary file, through a string reader
+  --string-start BIT   where the string reader starts; 0 if not given
+  --string-end BIT     where it ends; the file's end if not given
+
+Without --release FILE has request lines:
+
+  hatch REL START HEX [L NWORDS NNUMBERS]
+  hatchs REL START HEX STRSTART STREND STRHEX [L NWORDS NNUMBERS]
+  prefix REL START HEX
+
+REL is the release, START the start bit. HEX is bytes in hexadecimal, - for no bytes, zN for N zero bytes. Lines that
+are blank or start with # are passed over. FILE - , or none, is standard input. No file is written to.
+
+What is refused is a line on standard error, with the refusal's number, what it means, its bit and what to do; with
+--json it is an object too. The status is 0 if all was read, 1 if something was refused or a file cannot be read, 2 if
+the command or a line is wrong; other lines are read all the same, but a line that is no text ends the reading.
+";
+
+pub const PREFIX_HELP: &str = "\
+Reads entity prefixes, and prints a summary of each, or everything as JSON. A hatch body starts where its prefix ends.
+
+usage: dwg-hatch prefix [--json] [FILE]
+       dwg-hatch prefix [--json] --release N [--start BIT] [FILE]
+
+  --json         print one JSON object a line for each request, with every field; docs/JSON.md has their names
+  --release N    the file is binary and holds a prefix of this release, 1 (R14) to 7 (R2018)
+  --start BIT    where the prefix starts in it, in bits from its first byte's top bit; 0 if not given
+
+Without --release FILE has request lines: prefix REL START HEX, as dwg-hatch read --help has them. The same goes for
+refusals and for the status.
+";
+
+pub const ANSWER_HELP: &str = "\
+Answers request lines on standard input, one answer line each, in order.
+
+usage: dwg-hatch answer [--f64]
+
+  --f64     read doubles by the entries that hand over f64, and write a NaN as 7ff8000000000000;
+            else by the entries that hand over a double's 64 bits
+
+  b|bb|3b|bs|bsu|bl|blu|bd|bll|rc|rs|rl|rd|handle REL START HEX    one code
+  dd REL START HEX DEFAULT                                         DEFAULT is 16 hexadecimal digits
+  tv REL START HEX                                                 one inline text of the release
+  prefix REL START HEX                                             one entity prefix of the release
+  hatch REL START HEX [L NWORDS NNUMBERS]                          one hatch body of the release
+  hatchs REL START HEX STRSTART STREND STRHEX [L NWORDS NNUMBERS]  one with a string reader
+
+REL is the release, 1 to 7 (of a prefix or a hatch any number), START the start bit. HEX is bytes in hexadecimal, - for
+no bytes, zN for N zero bytes. L gives the lengths of the lent lists; without it they are long enough.
+A text's value is SOURCE:WIDTH:POSITION:COUNT:UNITS: m (main payload), s (string payload) or - (none), the bits of a
+unit, the bit position of the first unit, how many there are, and the units in hexadecimal, - for none.
+A prefix's value is 0 and its fields, each NAME=VALUE; rgb, alpha and dataend are 0:0 if absent, else 1:NUMBER.
+A hatch's value is the string payload's place, 0 without a reader, and its fields, each NAME=VALUE; a list is - if it
+is empty, and a colour is DOUBLE/SHORT/RGB/BYTE.
+A reading is answered `ok PLACE VALUE`, a refusal `err NUMBER PLACE PLACE2`, the second place 0 without a reader,
+and a line that is no request `bad request`.
+";
+
+pub const TRY_HELP: &str = "dwg-hatch --help lists what there is";
