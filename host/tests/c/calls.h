@@ -54,6 +54,9 @@ typedef enum Slot { SLOT_MAIN, SLOT_STRING, SLOT_BITS, SLOT_DOUBLES, SLOT_WORDS,
 void *lend(Slot slot, size_t bytes);
 void take_back(Slot slot, void *memory);
 
+/* The request that a line holds, with its payloads lent; false if it is none. The text is taken apart. */
+bool parse(char *text, Request *request);
+
 void answer(const Request *request, Line *line);
 void answer_hatch(const Request *request, Line *line);
 
