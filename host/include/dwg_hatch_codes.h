@@ -47,6 +47,25 @@ typedef enum DwgRefusal {
     DWG_LIST_TOO_SHORT = 11        /* the hatch is readable, but a lent list is too short for it */
 } DwgRefusal;
 
+/* What a refusal's number means, in a few words; never null, also for a number that is none of them. */
+static inline const char *dwg_refusal_meaning(uint64_t refusal) {
+    switch (refusal) {
+    case DWG_READ: return "the reading is whole";
+    case DWG_TOO_FEW_BITS: return "too few bits are left for the next read";
+    case DWG_RESERVED_TAG: return "a BL or BD starts with the tag 11, which stands for no number";
+    case DWG_COUNT_TOO_LARGE: return "a count is above its cap, or above the bits that are left";
+    case DWG_EDGE_KIND: return "an edge's kind is not 1 to 4";
+    case DWG_HANDLE_COUNTER: return "a handle's counter is above 8";
+    case DWG_TEXT_PAST_END: return "a text of the string payload passes the string reader's end bit";
+    case DWG_NOT_UTF16: return "a text's 16-bit units are not UTF-16";
+    case DWG_TOO_MANY_XDATA_BLOCKS: return "there are 256 nonzero XDATA blocks, which is more than are read";
+    case DWG_UNKNOWN_RELEASE: return "the release is not 1 to 7";
+    case DWG_PAYLOAD_TOO_LONG: return "a payload is longer than 268,435,456 bytes";
+    case DWG_LIST_TOO_SHORT: return "the hatch is readable, but a lent list is too short for it";
+    default: return "this number is not in the table of refusals";
+    }
+}
+
 /* What a code gives: the refusal's number or 0, the bit after the code (or where the reading stopped), and the value or 0. */
 typedef struct DwgCodeAnswer {
     uint64_t refusal;
