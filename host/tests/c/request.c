@@ -1,6 +1,7 @@
 /* A line of the protocol as a request. */
 #include "calls.h"
 
+#include <errno.h>
 #include <stdlib.h>
 #include <string.h>
 
@@ -16,8 +17,9 @@ static bool number(const char *word, size_t *value) {
     if (word == NULL || word[0] == 0 || word[strspn(word, "0123456789")] != 0) {
         return false;
     }
+    errno = 0;
     *value = (size_t)strtoull(word, NULL, 10);
-    return true;
+    return errno == 0;
 }
 
 static int digit(char c) {
