@@ -200,7 +200,8 @@ int main(void) {
     for (size_t i = 0; i < count; i++) {
         check_case(&cases[i], main_end, string_end);
     }
-    printf("limits: %zu layouts that end at the last bit of %zu bytes are answered as in short payloads, and one byte more is refused\n", count, LIMIT);
+    printf("limits: %zu layouts that end at the last bit of %zu bytes are answered as in short payloads, and one byte more is refused\n",
+           count, LIMIT);
     check_largest(main_end);
     return 0;
 }
