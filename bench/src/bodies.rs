@@ -157,10 +157,13 @@ pub const SMALL: [Named; 4] = [
     ("hatch, 1 path, 4 lines", |name| lines(name, 1, 4)),
 ];
 
-/// About so many megabytes (1,048,576 bytes): paths of 16,384 vertices.
+/// So many megabytes (1,048,576 bytes) and a few bytes: four paths to each.
 pub fn of_megabytes(megabytes: u32, bulges: bool) -> Body {
-    let (paths, bulge) = if bulges { (megabytes * 8 / 3, Some(Coded::Full)) } else { (megabytes * 4, None) };
-    polylines(format!("{megabytes} MB"), paths, 16_384, bulge)
+    let (vertices, bulge, name) = match bulges {
+        false => (16_384, None, "vertices without bulges"),
+        true => (10_810, Some(Coded::Full), "vertices with bulges in all their bytes"),
+    };
+    polylines(format!("{megabytes} MB of {name}"), 4 * megabytes, vertices, bulge)
 }
 
 /// An entity prefix: colour 256, scale 1.0, lineweight 29; or with an XDATA block of 20 bytes, 4 bytes of graphics and a colour with rgb.

@@ -31,7 +31,7 @@ use std::process::ExitCode;
 use rows::{Rows, grouped};
 
 const USAGE: &str = "usage: bench ROUNDS
-       bench names                    the names of the rows whose calls are counted, one a line
+       bench rows                     the rows whose calls are counted, each looked at: name, tab, bytes
        bench repeat ROW SIDE TIMES    calls a row's side (0 the Rust, 1 as f64, 2 as 64 bits) so many times";
 
 fn micro(_: usize, seconds: f64) -> String {
@@ -53,24 +53,25 @@ fn time(rounds: usize) -> Result<(), String> {
     rows::print("Body (microseconds of a call)", rows::large(), rounds, micro)?;
     rows::print("Small call (calls per second)", rows::small(), rounds, per_second)?;
     rows::print("String payload of 16,777,216 bytes (microseconds of a call)", rows::string_starts(16_777_216), rounds, micro)?;
-    rows::print("Vertices without bulges (nanoseconds per byte)", rows::growth(false), rounds.div_ceil(3), nanos_per_byte)?;
-    rows::print("Vertices with bulges in all their bytes (nanoseconds per byte)", rows::growth(true), rounds.div_ceil(3), nanos_per_byte)
+    let growth: Rows = [false, true].into_iter().flat_map(|bulges| rows::growth(&[1, 4, 16, 64], bulges)).collect();
+    rows::print("Growth (nanoseconds per byte)", growth, rounds.div_ceil(3), nanos_per_byte)
 }
 
 /// The rows whose calls are counted. The Rust looks for a string start bit by bit, so that the string payload is short here.
 fn counted() -> Rows {
-    [rows::large(), rows::small(), rows::string_starts(65_536)].into_iter().flatten().collect()
+    let growths = [false, true].map(|bulges| rows::growth(&[1, 4, 16], bulges));
+    [rows::large(), rows::small(), rows::string_starts(65_536)].into_iter().chain(growths).flatten().collect()
 }
 
 fn names() -> Result<(), String> {
-    counted().iter().try_for_each(|make| make().map(|row| println!("{}", row.name)))
+    counted().iter().try_for_each(|make| make(true).map(|row| println!("{}\t{}", row.name, row.bytes)))
 }
 
 fn repeat(row: &str, side: &str, times: &str) -> Result<(), String> {
     let numbers = (row.parse::<usize>(), side.parse::<usize>(), times.parse());
     let (Ok(row), Ok(side), Ok(times)) = numbers else { return Err(USAGE.to_string()) };
     let rows = counted();
-    let mut row = rows.get(row).ok_or(USAGE)?()?;
+    let mut row = rows.get(row).ok_or(USAGE)?(false)?;
     row.sides.get_mut(side).ok_or(USAGE)?(times);
     Ok(())
 }
@@ -79,7 +80,7 @@ fn main() -> ExitCode {
     let words: Vec<String> = std::env::args().skip(1).collect();
     let words: Vec<&str> = words.iter().map(String::as_str).collect();
     let done = match words.as_slice() {
-        ["names"] => names(),
+        ["rows"] => names(),
         ["repeat", row, side, times] => repeat(row, side, times),
         [rounds] => rounds.parse().ok().filter(|rounds| *rounds > 0).ok_or(USAGE.to_string()).and_then(time),
         _ => Err(USAGE.to_string()),

@@ -5,14 +5,14 @@ use std::time::Instant;
 use crate::bodies::{self, Named};
 use crate::sides::{self, Row};
 
-/// What makes a row, when it is its turn, since the large ones take much room.
-pub type Make = Box<dyn Fn() -> Result<Row, String>>;
+/// What makes a row, when it is its turn, since the large ones take much room; with `true` it is first looked that both sides read it.
+pub type Make = Box<dyn Fn(bool) -> Result<Row, String>>;
 
 /// The rows of a table.
 pub type Rows = Vec<Make>;
 
 fn named(list: &'static [Named]) -> Rows {
-    list.iter().map(|(name, make)| Box::new(move || sides::of_body(make(name))) as Make).collect()
+    list.iter().map(|(name, make)| Box::new(move |checked| sides::of_body(make(name), checked)) as Make).collect()
 }
 
 pub fn large() -> Rows {
@@ -21,20 +21,20 @@ pub fn large() -> Rows {
 
 pub fn small() -> Rows {
     let mut rows = named(&bodies::SMALL);
-    rows.push(Box::new(|| sides::of_prefix("prefix, 39 bits", bodies::prefix(false))));
-    rows.push(Box::new(|| sides::of_prefix("prefix with XDATA, graphics and an rgb", bodies::prefix(true))));
+    rows.push(Box::new(|checked| sides::of_prefix("prefix, 39 bits", bodies::prefix(false), checked)));
+    rows.push(Box::new(|checked| sides::of_prefix("prefix with XDATA, graphics and an rgb", bodies::prefix(true), checked)));
     rows
 }
 
 /// Starts in a string payload of so many bytes; the text takes 26 bits.
 pub fn string_starts(length: usize) -> Rows {
-    let row = |name: &'static str, start| Box::new(move || sides::of_string_start(name, length, start)) as Make;
+    let row = |name: &'static str, start| Box::new(move |checked| sides::of_string_start(name, length, start, checked)) as Make;
     vec![row("string start at bit 0", 0), row("string start at the end", 8 * length - 26)]
 }
 
-pub fn growth(bulges: bool) -> Rows {
-    let row = |megabytes| Box::new(move || sides::of_body(bodies::of_megabytes(megabytes, bulges))) as Make;
-    vec![row(1), row(4), row(16), row(64)]
+pub fn growth(megabytes: &[u32], bulges: bool) -> Rows {
+    let row = |of: u32| Box::new(move |checked| sides::of_body(bodies::of_megabytes(of, bulges), checked)) as Make;
+    megabytes.iter().map(|of| row(*of)).collect()
 }
 
 /// The best times of one call by each side, in seconds. The sides take turns, so that a busy machine slows all three; short calls are
@@ -74,7 +74,7 @@ pub fn grouped(value: f64, digits: usize) -> String {
 pub fn print(title: &str, rows: Rows, rounds: usize, shown: fn(usize, f64) -> String) -> Result<(), String> {
     println!("\n| {title} | Rust | as f64 | times | as 64 bits | times |\n|---|---|---|---|---|---|");
     for make in rows {
-        let mut row = make()?;
+        let mut row = make(true)?;
         let times = best(&mut row, rounds);
         let [rust, f64_entry, bits_entry] = times.map(|seconds| shown(row.bytes, seconds));
         let [_, f64_ratio, bits_ratio] = times.map(|seconds| times[0] / seconds);
