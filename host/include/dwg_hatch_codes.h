@@ -3,13 +3,14 @@
  * What holds for every function of the three headers:
  *
  * - A payload is a pointer to its first byte and its length in bytes. Bits are numbered from 0, from the top bit of each byte. A start bit
- *   may be any number; one past the payload is refusal 1 at that bit.
+ *   may be any number; one past the payload is refusal 1 at that bit (dwg_read_string_tv asks its end bit first).
  * - `release` is 1 R14, 2 R2000, 3 R2004, 4 R2007, 5 R2010, 6 R2013, 7 R2018; any other number is refusal 9.
  * - A payload above DWG_PAYLOAD_LIMIT bytes is refusal 10, and none of its bytes is read.
  * - Every call comes to an end and gives one of two: the whole reading, with `refusal` 0, or a refusal: `refusal` is a number of
  *   DwgRefusal, the places say where the reading stopped, every other field is 0, and a lent list is unchanged.
- * - Pointers are never null, also where the length is 0, and are aligned for what they point to; a payload or a list is at most
- *   PTRDIFF_MAX bytes. Break one of these and the call is undefined: it is all that is asked of the caller.
+ * - Asked of the caller, and nothing else is: a pointer is never null, also where its length is 0, is aligned for what it points to, and
+ *   the whole length may be read, of a list also written; a payload or a list is at most PTRDIFF_MAX bytes; a list lies apart from every
+ *   other list and payload of the call; nothing else writes to them during the call. Two payloads may overlap.
  * - A call keeps no state, allocates nothing and keeps no pointer. Calls may run at the same time in any threads, also on one payload; a
  *   list is lent to one call at a time.
  * - Doubles are IEEE 754 binary64. A function that ends in _bits gives each double as its 64 bits, whatever they are; the others give the

@@ -1,6 +1,6 @@
 /* Payloads at document 01's limit and one byte above it, for every exported function: a code that ends at the last bit of a payload of exactly
  * the limit is read as at the end of a short payload, and one byte more is refusal 10. Behind each payload lies a page that may not be
- * touched. Then one body that fills a payload of the limit from its first vertex to its last bit. */
+ * touched, and a payload above the limit may not be touched at all. Then one body that fills a payload of the limit to its last bit. */
 #include "calls.h"
 
 #include <stdio.h>
@@ -48,12 +48,19 @@ static const Case cases[] = {
     {KIND_HATCHS, 2, "A9", 8, "4040", 16},
 };
 
-/* Room for a payload of one byte more than the limit, zeros, that ends at a page that may not be touched: its last byte is end[-1]. */
+/* Room for a payload of the limit, zeros, that ends at a page that may not be touched: its last byte is end[-1]. */
 static uint8_t *room_end(void) {
-    size_t room = LIMIT + PAGE;
+    size_t room = LIMIT;
     uint8_t *memory = (uint8_t *)mmap(NULL, room + PAGE, PROT_READ | PROT_WRITE, MAP_PRIVATE | MAP_ANONYMOUS | MAP_NORESERVE, -1, 0);
     claim(memory != MAP_FAILED && mprotect(memory + room, PAGE, PROT_NONE) == 0, "there is room for a payload at the limit");
     return memory + room;
+}
+
+/* One byte more than the limit, none of which may be touched. */
+static Payload above_limit(void) {
+    void *memory = mmap(NULL, LIMIT + PAGE, PROT_NONE, MAP_PRIVATE | MAP_ANONYMOUS | MAP_NORESERVE, -1, 0);
+    claim(memory != MAP_FAILED, "there is room for a payload above the limit");
+    return (Payload){(const uint8_t *)memory, LIMIT + 1};
 }
 
 static size_t hex_bytes(const char *hex, uint8_t *bytes) {
@@ -110,7 +117,7 @@ static size_t place_of(const char *line) {
 }
 
 /* At the limit and above it: in the main payload; with a reader also in the string payload, and in both. */
-static void check_case(const Case *c, uint8_t *main_end, uint8_t *string_end) {
+static void check_case(const Case *c, uint8_t *main_end, uint8_t *string_end, Payload above_it) {
     static Line small, large, above;
     uint8_t bits[32] = {0}, string_bits[32] = {0};
     size_t length = hex_bytes(c->hex, bits), string_length = hex_bytes(c->string_hex, string_bits);
@@ -120,7 +127,6 @@ static void check_case(const Case *c, uint8_t *main_end, uint8_t *string_end) {
     put_last_bits(string_end, string_bits, c->string_bits);
     Payload shorts[2] = {{main_end - length, length}, {string_end - string_length, string_length}};
     Payload longs[2] = {{main_end - LIMIT, LIMIT}, {string_end - LIMIT, LIMIT}};
-    Payload aboves[2] = {{main_end - LIMIT - 1, LIMIT + 1}, {string_end - LIMIT - 1, LIMIT + 1}};
     Request request = request_of(c, shorts[0], shorts[1]);
     answer(&request, &small);
 
@@ -131,7 +137,7 @@ static void check_case(const Case *c, uint8_t *main_end, uint8_t *string_end) {
         claim(same_but_moved(small.text, large.text, moved, string_moved), "a payload at the limit is read as a short one");
         claim(place_of(large.text) == place_of(small.text) + moved, "its place is where it lies");
 
-        request = request_of(c, (which & 1 ? aboves : shorts)[0], (which & 2 ? aboves : shorts)[1]);
+        request = request_of(c, which & 1 ? above_it : shorts[0], which & 2 ? above_it : shorts[1]);
         answer(&request, &above);
         snprintf(wanted, sizeof wanted, "err 10 %zu %zu", request.start, c->kind == KIND_HATCHS ? request.string_start : 0);
         claim(strcmp(above.text, wanted) == 0, "a payload above the limit is refusal 10 at the start bits");
@@ -196,9 +202,10 @@ static void check_largest(uint8_t *end) {
 
 int main(void) {
     uint8_t *main_end = room_end(), *string_end = room_end();
+    Payload above_it = above_limit();
     size_t count = sizeof cases / sizeof *cases;
     for (size_t i = 0; i < count; i++) {
-        check_case(&cases[i], main_end, string_end);
+        check_case(&cases[i], main_end, string_end, above_it);
     }
     printf("limits: %zu layouts that end at the last bit of %zu bytes are answered as in short payloads, and one byte more is refused\n",
            count, LIMIT);
