@@ -77,8 +77,8 @@ pub fn print(title: &str, rows: Rows, rounds: usize, shown: fn(usize, f64) -> St
         let mut row = make(true)?;
         let times = best(&mut row, rounds);
         let [rust, f64_entry, bits_entry] = times.map(|seconds| shown(row.bytes, seconds));
-        let [_, f64_ratio, bits_ratio] = times.map(|seconds| times[0] / seconds);
-        println!("| {} | {rust} | {f64_entry} | {f64_ratio:.1} | {bits_entry} | {bits_ratio:.1} |", row.name);
+        let [_, f64_ratio, bits_ratio] = times.map(|seconds| times[0] / seconds).map(|ratio| grouped(ratio, usize::from(ratio < 100.0)));
+        println!("| {} | {rust} | {f64_entry} | {f64_ratio} | {bits_entry} | {bits_ratio} |", row.name);
     }
     Ok(())
 }
