@@ -1,6 +1,7 @@
 /* The fuzzer: each input is a request (input.h), answered by the library through its C headers and by the Rust, and the two lines must be
  * the same. Payloads and lists lie against a page that may not be touched, behind them or in front of them, so that a read or a write
- * outside them ends the run; calls.h's claims are looked at on every input. */
+ * outside them ends the run; calls.h's claims are looked at on every input. Then every bit past the final places is turned over, and the
+ * library must give the same line again (demand 3). */
 #include "input.h"
 
 #include <stdio.h>
@@ -101,6 +102,37 @@ static void check_payload(Payload payload, const uint8_t *before) {
     claim(memcmp(payload.bytes, before, payload.length) == 0, "a payload is as it was");
 }
 
+/* The final place in each payload: after `ok`, or after `err` and the refusal's number. A code's second number is its value. */
+static void places_of(const Line *line, const Request *r, size_t *main_place, size_t *string_place) {
+    char *rest = line->text + 3;
+    if (line->text[0] == 'e') {
+        strtoull(line->text + 4, &rest, 10);
+    }
+    *main_place = (size_t)strtoull(rest, &rest, 10);
+    *string_place = r->kind == KIND_HATCHS ? (size_t)strtoull(rest, &rest, 10) : 0;
+}
+
+/* Turns every bit from a place on over. */
+static void turn_over(Payload payload, size_t place) {
+    uint8_t *bytes = (uint8_t *)payload.bytes;
+    for (size_t i = place / 8; i < payload.length; i++) {
+        bytes[i] ^= (uint8_t)(i == place / 8 ? 0xff >> place % 8 : 0xff);
+    }
+}
+
+static void check_bits_past_the_places(const Request *r, const Line *line) {
+    static Line again;
+    size_t main_place, string_place;
+    places_of(line, r, &main_place, &string_place);
+    turn_over(r->main, main_place);
+    turn_over(r->string, string_place);
+    answer(r, &again);
+    if (strcmp(line->text, again.text) != 0) {
+        fprintf(stderr, "fuzz: bits past the final places change the answer\n  before: %s\n  after: %s\n", line->text, again.text);
+        abort();
+    }
+}
+
 int LLVMFuzzerTestOneInput(const uint8_t *input, size_t size) {
     static Line line;
     size_t length = 0;
@@ -117,5 +149,6 @@ int LLVMFuzzerTestOneInput(const uint8_t *input, size_t size) {
         abort();
     }
     rust_answer_done(rust, length);
+    check_bits_past_the_places(&request, &line);
     return 0;
 }

@@ -24,10 +24,19 @@ static bool spoiled(uint64_t refusal, size_t numbers_used) {
     return MISTAKE == 2 && refusal == 0 && numbers_used > 6;
 }
 
+/* 6: the style of a hatch that is read is told wrongly where the same hatch was read before, in both entries alike. */
+static uint16_t remembered(uint16_t style, uint64_t refusal, size_t place, size_t *before) {
+    bool again = MISTAKE == 6 && refusal == 0 && place == *before;
+    *before = place;
+    return again ? style + 1 : style;
+}
+
 DwgBodyAnswer __wrap_dwg_hatch_decode(const uint8_t *main, size_t length, size_t start, uint64_t release, double *numbers, size_t nn,
                                       uint32_t *words, size_t nw) {
+    static size_t before;
     DwgBodyAnswer a = __real_dwg_hatch_decode(main, length, start, release, numbers, nn, words, nw);
     a.place = late(a.refusal, a.place);
+    a.fields.pattern_style = remembered(a.fields.pattern_style, a.refusal, a.place, &before);
     if (spoiled(a.refusal, a.fields.numbers_used)) {
         *(uint64_t *)(void *)&numbers[5] &= ~(uint64_t)1;
     }
@@ -37,8 +46,10 @@ DwgBodyAnswer __wrap_dwg_hatch_decode(const uint8_t *main, size_t length, size_t
 /* 3: a byte behind the payload is read. 4: a list that is too short is written to. 5: an entry past the length used is written to. */
 DwgBodyBitsAnswer __wrap_dwg_hatch_decode_bits(const uint8_t *main, size_t length, size_t start, uint64_t release, uint64_t *bits, size_t nn,
                                                uint32_t *words, size_t nw) {
+    static size_t before;
     DwgBodyBitsAnswer a = __real_dwg_hatch_decode_bits(main, length, start, release, bits, nn, words, nw);
     a.place = late(a.refusal, a.place);
+    a.fields.pattern_style = remembered(a.fields.pattern_style, a.refusal, a.place, &before);
     if (spoiled(a.refusal, a.fields.numbers_used)) {
         bits[5] &= ~(uint64_t)1;
     }
