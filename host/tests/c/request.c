@@ -42,10 +42,7 @@ static bool payload(const char *word, Slot slot, Payload *out) {
         }
     }
     length = length > DWG_PAYLOAD_LIMIT + 1 ? DWG_PAYLOAD_LIMIT + 1 : length;
-    uint8_t *bytes = (uint8_t *)lend(slot, length);
-    if (zeros) {
-        memset(bytes, 0, length);
-    }
+    uint8_t *bytes = (uint8_t *)lend(slot, length); /* zeros, by lend_exact.c */
     for (size_t i = 0; i < length && !zeros; i++) {
         if (digit(word[2 * i]) < 0 || digit(word[2 * i + 1]) < 0) {
             take_back(slot, bytes);
