@@ -21,6 +21,10 @@
 #ifndef DWG_HATCH_CODES_H
 #define DWG_HATCH_CODES_H
 
+#if !defined(__x86_64__) || defined(_WIN32)
+#error "libdwg_hatch.a links into x86-64 programs with the System V calling convention alone: build for such a machine"
+#endif
+
 #include <stdbool.h>
 #include <stddef.h>
 #include <stdint.h>
