@@ -1,10 +1,10 @@
 //! The bodies that are timed, laid out from document 01's field order at release 5, each with the numbers that a reading must give.
 
-use crate::bits::Bits;
 use crate::rng::Rng;
+use crate::writer::Writer;
 
 pub struct Body {
-    pub name: &'static str,
+    pub name: String,
     pub bytes: Vec<u8>,
     pub numbers: Vec<u64>,
     pub words: usize,
@@ -18,7 +18,7 @@ enum Coded {
 }
 
 struct Pen {
-    out: Bits,
+    out: Writer,
     rng: Rng,
     numbers: Vec<u64>,
     words: usize,
@@ -71,8 +71,8 @@ impl Pen {
 }
 
 /// A solid hatch with no gradient and no names; the paths are written by the caller's function.
-fn body(name: &'static str, paths: u32, mut path: impl FnMut(&mut Pen)) -> Body {
-    let mut pen = Pen { out: Bits::default(), rng: Rng::new(7), numbers: Vec::new(), words: 0 };
+fn body(name: impl Into<String>, paths: u32, mut path: impl FnMut(&mut Pen)) -> Body {
+    let mut pen = Pen { out: Writer::new(), rng: Rng::new(7), numbers: Vec::new(), words: 0 };
     pen.out.put(0b10_10_10_10_10_10_10, 14); // gradient: BL flag, BL, BD angle, BD shift, BL single, BD tint, BL count, all 0
     pen.out.put(0b10, 2); // gradient name: BS 0
     pen.out.put(0b10_10_10_01, 8); // elevation 0, extrusion 0, 0, 1
@@ -85,12 +85,10 @@ fn body(name: &'static str, paths: u32, mut path: impl FnMut(&mut Pen)) -> Body 
         pen.words += 1;
     }
     pen.out.put(0b10_10_10, 6); // style 0, type 0, no seeds
-    pen.out.put(0, (8 - pen.out.place() % 8) % 8);
-    let byte = |eight: &[bool]| eight.iter().fold(0u8, |value, bit| value << 1 | u8::from(*bit));
-    Body { name, bytes: pen.out.bits.chunks(8).map(byte).collect(), numbers: pen.numbers, words: pen.words }
+    Body { name: name.into(), bytes: pen.out.bytes, numbers: pen.numbers, words: pen.words }
 }
 
-fn polylines(name: &'static str, paths: u32, vertices: u32, bulge: Option<Coded>) -> Body {
+fn polylines(name: impl Into<String>, paths: u32, vertices: u32, bulge: Option<Coded>) -> Body {
     body(name, paths, |pen| {
         pen.word(3); // external, polyline
         pen.switch(bulge.is_some());
@@ -105,7 +103,19 @@ fn polylines(name: &'static str, paths: u32, vertices: u32, bulge: Option<Coded>
     })
 }
 
-fn splines(name: &'static str, paths: u32, edges: u32, knots: u32, controls: u32, fits: u32) -> Body {
+fn lines(name: &str, paths: u32, edges: u32) -> Body {
+    body(name, paths, |pen| {
+        pen.word(1); // external, edges
+        pen.word(edges);
+        for _ in 0..edges {
+            pen.out.put(1, 8); // a line
+            pen.words += 1;
+            pen.rd(4);
+        }
+    })
+}
+
+fn splines(name: &str, paths: u32, edges: u32, knots: u32, controls: u32, fits: u32) -> Body {
     body(name, paths, |pen| {
         pen.word(1); // external, edges
         pen.word(edges);
@@ -129,13 +139,61 @@ fn splines(name: &'static str, paths: u32, edges: u32, knots: u32, controls: u32
     })
 }
 
-pub fn all() -> Vec<Body> {
-    vec![
-        polylines("100 paths x 1,000 vertices, no bulges", 100, 1_000, None),
-        polylines("100 paths x 1,000 vertices, bulges in all bytes", 100, 1_000, Some(Coded::Full)),
-        polylines("100 paths x 1,000 vertices, bulges as tags", 100, 1_000, Some(Coded::Short)),
-        splines("100 paths x 10 splines, 100 knots, 100 controls, 50 fits", 100, 10, 100, 100, 50),
-        splines("100 paths x 10 splines, 1,000 knots, 10 controls", 100, 10, 1_000, 10, 0),
-        polylines("1 path x 4 vertices, no bulges", 1, 4, None),
-    ]
+/// A row of a table: its name, and what makes its body.
+pub type Named = (&'static str, fn(&str) -> Body);
+
+pub const LARGE: [Named; 5] = [
+    ("100 paths, 1,000 vertices each, no bulges", |name| polylines(name, 100, 1_000, None)),
+    ("the same, bulges in all their bytes", |name| polylines(name, 100, 1_000, Some(Coded::Full))),
+    ("the same, bulges as tags alone", |name| polylines(name, 100, 1_000, Some(Coded::Short))),
+    ("1,000 splines, 100 knots, 100 control points, 50 fit points each", |name| splines(name, 100, 10, 100, 100, 50)),
+    ("1,000 splines, 1,000 knots, 10 control points each", |name| splines(name, 100, 10, 1_000, 10, 0)),
+];
+
+pub const SMALL: [Named; 4] = [
+    ("hatch, no path", |name| polylines(name, 0, 0, None)),
+    ("hatch, 1 path, 4 vertices, no bulges", |name| polylines(name, 1, 4, None)),
+    ("hatch, 1 path, 4 vertices, bulges in all their bytes", |name| polylines(name, 1, 4, Some(Coded::Full))),
+    ("hatch, 1 path, 4 lines", |name| lines(name, 1, 4)),
+];
+
+/// So many megabytes (1,048,576 bytes) and a few bytes: four paths to each.
+pub fn of_megabytes(megabytes: u32, bulges: bool) -> Body {
+    let (vertices, bulge, name) = match bulges {
+        false => (16_384, None, "vertices without bulges"),
+        true => (10_810, Some(Coded::Full), "vertices with bulges in all their bytes"),
+    };
+    polylines(format!("{megabytes} MB of {name}"), 4 * megabytes, vertices, bulge)
+}
+
+/// An entity prefix: colour 256, scale 1.0, lineweight 29; or with an XDATA block of 20 bytes, 4 bytes of graphics and a colour with rgb.
+pub fn prefix(more: bool) -> Vec<u8> {
+    let mut out = Writer::new();
+    if more {
+        out.put(0b01, 2);
+        out.put(20, 8); // XDATA: its size, a handle, the bytes
+        out.put(0x510f, 16);
+        (0..20).for_each(|byte| out.put(byte, 8));
+    }
+    out.put(0b10, 2); // no more XDATA
+    out.put(u64::from(more), 1);
+    if more {
+        out.put(0b001, 3);
+        out.put(4, 8); // graphics: BLL size, the bytes
+        out.put(0x0102_0304, 32);
+    }
+    out.put(0b00_10_1, 5); // mode 0, no reactors, no dictionary
+    if more {
+        out.put(0, 2);
+        out.put_low_first(0x8000, 2); // a colour with rgb
+        out.put(0, 2);
+        out.put_low_first(0xc2ff_8040, 4);
+    } else {
+        out.put(0b11, 2); // colour 256
+    }
+    out.put(0b01, 2); // scale 1.0
+    out.put(0, 6 + 8 + 3); // linetype, plot style, material, shadow, visual styles
+    out.put(0b10, 2); // invisibility 0
+    out.put(29, 8); // lineweight
+    out.bytes
 }

@@ -1,0 +1,84 @@
+//! The tables: which rows they have, and how a row is printed, as Markdown.
+
+use std::time::Instant;
+
+use crate::bodies::{self, Named};
+use crate::sides::{self, Row};
+
+/// What makes a row, when it is its turn, since the large ones take much room; with `true` it is first looked that both sides read it.
+pub type Make = Box<dyn Fn(bool) -> Result<Row, String>>;
+
+/// The rows of a table.
+pub type Rows = Vec<Make>;
+
+fn named(list: &'static [Named]) -> Rows {
+    list.iter().map(|(name, make)| Box::new(move |checked| sides::of_body(make(name), checked)) as Make).collect()
+}
+
+pub fn large() -> Rows {
+    named(&bodies::LARGE)
+}
+
+pub fn small() -> Rows {
+    let mut rows = named(&bodies::SMALL);
+    rows.push(Box::new(|checked| sides::of_prefix("prefix, 39 bits", bodies::prefix(false), checked)));
+    rows.push(Box::new(|checked| sides::of_prefix("prefix with XDATA, graphics and an rgb", bodies::prefix(true), checked)));
+    rows
+}
+
+/// Starts in a string payload of so many bytes; the text takes 26 bits.
+pub fn string_starts(length: usize) -> Rows {
+    let row = |name: &'static str, start| Box::new(move |checked| sides::of_string_start(name, length, start, checked)) as Make;
+    vec![row("string start at bit 0", 0), row("string start at the end", 8 * length - 26)]
+}
+
+pub fn growth(megabytes: &[u32], bulges: bool) -> Rows {
+    let row = |of: u32| Box::new(move |checked| sides::of_body(bodies::of_megabytes(of, bulges), checked)) as Make;
+    megabytes.iter().map(|of| row(*of)).collect()
+}
+
+/// The best times of one call by each side, in seconds. The sides take turns, so that a busy machine slows all three; short calls are
+/// timed many at once.
+fn best(row: &mut Row, rounds: usize) -> [f64; 3] {
+    let calls = row.sides.each_mut().map(|side| {
+        let began = Instant::now();
+        side(1);
+        (2_000_000 / began.elapsed().as_nanos().max(1)).max(1) as u32
+    });
+    let mut best = [f64::INFINITY; 3];
+    for _ in 0..rounds {
+        for (index, side) in row.sides.iter_mut().enumerate() {
+            let began = Instant::now();
+            side(calls[index]);
+            best[index] = best[index].min(began.elapsed().as_secs_f64() / f64::from(calls[index]));
+        }
+    }
+    best
+}
+
+/// A number with commas between its thousands, and so many digits behind the point.
+pub fn grouped(value: f64, digits: usize) -> String {
+    let text = format!("{value:.digits$}");
+    let (whole, rest) = text.split_at(text.find('.').unwrap_or(text.len()));
+    let mut out = String::new();
+    for (index, digit) in whole.chars().enumerate() {
+        if index > 0 && (whole.len() - index) % 3 == 0 {
+            out.push(',');
+        }
+        out.push(digit);
+    }
+    out + rest
+}
+
+/// Prints a table whose cells are `shown` of a row's bytes and one side's seconds, with the ratios to the Rust's time.
+pub fn print(title: &str, rows: Rows, rounds: usize, shown: fn(usize, f64) -> String) -> Result<(), String> {
+    println!("\n| {title} | Rust | as f64 | times | as 64 bits | times |\n|---|---|---|---|---|---|");
+    for make in rows {
+        let mut row = make(true)?;
+        let times = best(&mut row, rounds);
+        let [rust, f64_entry, bits_entry] = times.map(|seconds| shown(row.bytes, seconds));
+        let [_, f64_ratio, bits_ratio] = times.map(|seconds| times[0] / seconds).map(|ratio| grouped(ratio, usize::from(ratio < 100.0)));
+        println!("| {} | {rust} | {f64_entry} | {f64_ratio} | {bits_entry} | {bits_ratio} |", row.name);
+    }
+    Ok(())
+}

@@ -1,0 +1,185 @@
+/* Hatch bodies of DWG drawings, proved: the C boundary of libdwg_hatch.a. This header brings the prefixes and the codes too.
+ *
+ * A body is measured, lists of the measured lengths are lent, and the body is read (host/examples/hatch.c does so and prints it):
+ *
+ *     DwgLengthsAnswer lengths = dwg_hatch_measure(payload, payload_length, start, release);
+ *     if (lengths.refusal != DWG_READ) { ... lengths.refusal says why, lengths.place at which bit ... }
+ *     ... numbers has room for lengths.numbers doubles, words for lengths.words ...
+ *     DwgBodyAnswer body = dwg_hatch_decode(payload, payload_length, start, release, numbers, lengths.numbers, words, lengths.words);
+ *
+ * What goes to the lists, in reading order:
+ *
+ * - words: of each path its flags; then bulge, closed and the vertex count (flag value 2 set) or the edge count (clear); of each edge its
+ *   kind, then ccw (kinds 2 and 3) or degree, rational, periodic, knots, controls and fits (kind 4; fits are 0 before release 5); last the
+ *   path's handle count; after all paths the dash count of each pattern line;
+ * - numbers: all other doubles of paths, pattern lines (angle, origin, offset, dashes) and seeds; absent bulges, weights and tangents have
+ *   no entry. The seed points are the last 2 * num_seed_points of the numbers_used.
+ *
+ * dwg_hatch_codes.h says what holds for every function: pointers, refusals, threads, doubles.
+ */
+#ifndef DWG_HATCH_H
+#define DWG_HATCH_H
+
+#include "dwg_hatch_codes.h"
+#include "dwg_hatch_prefix.h"
+
+#ifdef __cplusplus
+extern "C" {
+#endif
+
+/* The most colours that a gradient has. */
+#define DWG_GRADIENT_COLORS 16
+
+/* A colour of a gradient. */
+typedef struct DwgGradientColor {
+    double unknown_double;
+    int16_t unknown_short;
+    uint32_t rgb;
+    uint8_t ignored_color_byte;
+} DwgGradientColor;
+
+/* The same with the double as its 64 bits. */
+typedef struct DwgGradientColorBits {
+    uint64_t unknown_double;
+    int16_t unknown_short;
+    uint32_t rgb;
+    uint8_t ignored_color_byte;
+} DwgGradientColorBits;
+
+/* Where a text lies, as DwgTextAnswer has it. */
+typedef struct DwgTextFields {
+    uint8_t source; /* a number of DwgSource */
+    uint8_t width;
+    size_t position;
+    size_t count;
+} DwgTextFields;
+
+/* The gradient of a hatch, or 0 for each where there is none; colours past their count are 0. */
+typedef struct DwgGradientFields {
+    bool present;
+    double angle;
+    double shift;
+    uint32_t is_single_color;
+    double tint;
+    size_t num_colors;
+    DwgGradientColor colors[DWG_GRADIENT_COLORS];
+    DwgTextFields name;
+} DwgGradientFields;
+
+/* The same with each double as its 64 bits. */
+typedef struct DwgGradientBits {
+    bool present;
+    uint64_t angle;
+    uint64_t shift;
+    uint32_t is_single_color;
+    uint64_t tint;
+    size_t num_colors;
+    DwgGradientColorBits colors[DWG_GRADIENT_COLORS];
+    DwgTextFields name;
+} DwgGradientBits;
+
+/* The fields of a hatch that are no doubles, the counts of what it holds, and the lengths used of both lists. */
+typedef struct DwgBodyFields {
+    DwgTextFields pattern_name;
+    bool solid_fill;
+    bool associative;
+    bool pattern_double;
+    uint16_t pattern_style;
+    uint16_t pattern_type;
+    size_t num_paths;
+    size_t num_pattern_lines;
+    size_t num_seed_points;
+    size_t words_used;
+    size_t numbers_used;
+} DwgBodyFields;
+
+/* What a hatch gives: the refusal's number or 0, the final place in each payload (without a string reader the second is 0), and the fields
+ * or 0 for each. */
+typedef struct DwgBodyAnswer {
+    uint64_t refusal;
+    size_t place;
+    size_t string_place;
+    DwgGradientFields gradient;
+    double elevation;
+    double extrusion_x;
+    double extrusion_y;
+    double extrusion_z;
+    double pattern_angle;
+    double pattern_scale;
+    double pixel_size;
+    DwgBodyFields fields;
+} DwgBodyAnswer;
+
+/* The same with each double as its 64 bits. */
+typedef struct DwgBodyBitsAnswer {
+    uint64_t refusal;
+    size_t place;
+    size_t string_place;
+    DwgGradientBits gradient;
+    uint64_t elevation;
+    uint64_t extrusion_x;
+    uint64_t extrusion_y;
+    uint64_t extrusion_z;
+    uint64_t pattern_angle;
+    uint64_t pattern_scale;
+    uint64_t pixel_size;
+    DwgBodyFields fields;
+} DwgBodyBitsAnswer;
+
+/* What a measuring gives: the refusal's number or 0, the final place in each payload, and the lengths that the lists must have or 0. */
+typedef struct DwgLengthsAnswer {
+    uint64_t refusal;
+    size_t place;
+    size_t string_place;
+    size_t words;
+    size_t numbers;
+} DwgLengthsAnswer;
+
+/* ---- measuring: nothing is lent but the payloads, and nothing is written */
+
+/* The lengths that the lists must have for the hatch body at bit `start`, texts inline. On a refusal (9, then 10, then 1, 2, 3, 4, 7 as the
+ * fields have it; never 11): number, place (9, 10: `start`), string_place 0, both lengths 0. */
+DwgLengthsAnswer dwg_hatch_measure(const uint8_t *main, size_t main_length, size_t start, uint64_t release);
+
+/* The same with a string reader: the texts come from the string payload, at every release, from bit `string_start` on; the reader ends at
+ * bit `string_end`, which may be any number. The two payloads may be the same bytes. On a refusal (9; 10 of the main, then of the string
+ * payload; 1 if string_start is past that payload, with `start` and that payload's length in bits as places; then 1, 2, 3, 4, 6, 7 as the
+ * fields have it; never 11): number, both places (9, 10: the start bits), both lengths 0. */
+DwgLengthsAnswer dwg_hatch_measure_with_strings(const uint8_t *main, size_t main_length, size_t start, const uint8_t *string,
+                                                size_t string_length, size_t string_start, size_t string_end, uint64_t release);
+
+/* ---- reading: two lists are lent. They are the caller's own arrays, lent as they lie: nothing is copied or converted, and the two must
+ * lie apart from each other and from the payloads. The entries up to words_used and numbers_used are what was read; entries past them
+ * keep every bit that they had. A list longer than needed is fine; one too short is refusal 11, after all other refusals. */
+
+/* The hatch body at bit `start`, texts inline, doubles as double. The host's array of doubles `numbers` is lent as it lies, bit for bit:
+ * an entry read has the payload's 64 bits (where these are a NaN's it is a NaN, of no promised pattern), and an entry not read keeps all
+ * its 64 bits, also a NaN's. On a refusal (as of dwg_hatch_measure, and last 11): number, place (9, 10: `start`; 11: where the body
+ * ends), string_place 0, every other field 0, and both lists unchanged, bit for bit. */
+DwgBodyAnswer dwg_hatch_decode(const uint8_t *main, size_t main_length, size_t start, uint64_t release, double *numbers,
+                               size_t numbers_length, uint32_t *words, size_t words_length);
+
+/* The same with each double as its 64 bits, NaNs too. A host's array of doubles is lent as it lies, bit for bit, as (uint64_t *)numbers: the
+ * archive holds machine code, so no assumption of a C compiler about aliasing reaches into the call. On a refusal: as of
+ * dwg_hatch_decode. */
+DwgBodyBitsAnswer dwg_hatch_decode_bits(const uint8_t *main, size_t main_length, size_t start, uint64_t release, uint64_t *bits,
+                                        size_t bits_length, uint32_t *words, size_t words_length);
+
+/* The hatch body with a string reader, as dwg_hatch_measure_with_strings has it, doubles as double. The host's array of doubles is lent as
+ * it lies, bit for bit, as of dwg_hatch_decode. On a refusal (as of dwg_hatch_measure_with_strings, and last 11): number, both places (9,
+ * 10: the start bits; 11: where the body ends), every other field 0, and both lists unchanged, bit for bit. */
+DwgBodyAnswer dwg_hatch_decode_with_strings(const uint8_t *main, size_t main_length, size_t start, const uint8_t *string,
+                                            size_t string_length, size_t string_start, size_t string_end, uint64_t release,
+                                            double *numbers, size_t numbers_length, uint32_t *words, size_t words_length);
+
+/* The same with each double as its 64 bits, NaNs too. A host's array of doubles is lent as it lies, bit for bit, as (uint64_t *)numbers. On a
+ * refusal: as of dwg_hatch_decode_with_strings. */
+DwgBodyBitsAnswer dwg_hatch_decode_with_strings_bits(const uint8_t *main, size_t main_length, size_t start, const uint8_t *string,
+                                                     size_t string_length, size_t string_start, size_t string_end, uint64_t release,
+                                                     uint64_t *bits, size_t bits_length, uint32_t *words, size_t words_length);
+
+#ifdef __cplusplus
+}
+#endif
+
+#endif
