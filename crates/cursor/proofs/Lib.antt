@@ -1,0 +1,4 @@
+pub mod Moves
+pub mod AnswerKinds
+pub mod Thin
+pub mod ThinWith
