@@ -1,4 +1,6 @@
 pub mod Moves
+pub mod Starts
 pub mod AnswerKinds
 pub mod Thin
 pub mod ThinWith
+pub mod Asked

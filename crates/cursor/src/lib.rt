@@ -13,6 +13,7 @@ use bitcursor::Handle;
 use bitcursor::Refusal;
 
 pub mod moved;
+pub mod strings;
 
 // The byte and, in it, the bit at which the next reading starts; 0 is a byte's top bit. Any two numbers are a cursor.
 pub struct BitCursor {
