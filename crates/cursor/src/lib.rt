@@ -12,6 +12,7 @@ ghost use Rattle.cursor.specs.Cursors.{saturated, placeOf, cursorAt, rea
 use bitcursor::Handle;
 use bitcursor::Refusal;
 
+pub mod lent;
 pub mod moved;
 pub mod strings;
 
