@@ -1,2 +1,3 @@
 pub mod Cursors
 pub mod Readers
+pub mod Repeated
