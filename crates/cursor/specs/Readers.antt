@@ -1,7 +1,7 @@
 -- Where a string reader starts, what its next text is, and where it stands afterwards. Assumes nothing.
 use mathlib.Core.Bool.{Bool, true, false}
 use mathlib.Core.List.{List}
-use Prim.Native.Nat.{ℕ}
+use Prim.Native.Nat.{ℕ, _-_}
 use lib.Dec.{leb}
 use denote.Ref.{RefT}
 use Rattle.bitcursor.specs.declared.Refusal.the-variants.{TooFewBits}
@@ -17,6 +17,7 @@ use Rattle.cursor.specs.declared.strings.AnswerText.{AnswerText}
 use Rattle.cursor.specs.declared.strings.AnswerText.the-variants.{Found, Refused}
 use Rattle.cursor.specs.declared.strings.MovedStart.{MovedStart}
 use Rattle.cursor.specs.declared.strings.MovedText.{MovedText}
+use Rattle.cursor.specs.declared.readings.NextText.{NextText}
 
 -- a start within the payload, its end included; past it refusal 1 at the payload's end
 unfoldable pub starts : List ℕ → ℕ → Out ℕ (Unit {0})
@@ -48,3 +49,14 @@ movedText o = record { answer = answerText o; place = place o }
 -- the reader of a payload at a place, with an end bit
 abbrev pub readerOn : RefT (List ℕ) → ℕ → ℕ → StringReader
 readerOn payload p end = record { payload = payload; place = p; «end_bit» = end }
+
+-- a reader made at a start bit, its next text, and what it says afterwards. Where no reader is made, it stands at the refusal's place
+abbrev pub nextText : List ℕ → ℕ → ℕ → NextText
+nextText xs start end =
+    record {
+      start = answerStart (startAt xs start);
+      text = answerText (textAt xs (place (startAt xs start)) end);
+      exhausted = leb end (place (textAt xs (place (startAt xs start)) end));
+      position = place (textAt xs (place (startAt xs start)) end);
+      remaining = end - place (textAt xs (place (startAt xs start)) end);
+    }

@@ -14,6 +14,7 @@ use bitcursor::Refusal;
 
 pub mod lent;
 pub mod moved;
+pub mod readings;
 pub mod strings;
 
 // The byte and, in it, the bit at which the next reading starts; 0 is a byte's top bit. Any two numbers are a cursor.

@@ -7,6 +7,7 @@ ghost use Rattle.io.specs.Counts.{Counts};
 mod answers;
 mod codes;
 mod compare;
+mod cursors;
 mod hatches;
 mod prefixes;
 mod record;

@@ -10,6 +10,7 @@ ghost use Prim.Native.Nat.{_+_, _/_, _≤_};
 ghost use lib.ListN.{length};
 use crate::codes;
 use crate::compare;
+use crate::cursors;
 use crate::hatches;
 use crate::hatches::Asked;
 use crate::prefixes;
@@ -47,9 +48,10 @@ const STRINGS_LENGTH: usize = 80;
 
 const STRINGS: usize = 88;
 
-// What replaying a record finds, with its kind.
+// What replaying a record finds, with its kind. `Lent` is the same answer twice, by value and by a lent cursor or reader.
 pub enum Found {
     Same(u64),
+    Lent(u64),
     Differs(u64),
     Malformed,
 }
@@ -164,14 +166,37 @@ fn called(r: &[u8], kind: u64, payload: &[u8], found: &mut [u64; ROOM]) -> usize
     codes::replay(kind, payload, start, word(r, MORE), found)
 }
 
-// Replays the record's request on its payload.
+// Replays a code's request by a lent cursor, where the kind has a thin reader.
+fn replay_lent(r: &[u8], kind: u64, payload: &[u8]) -> Found
+    requires { ⌜ 96 ≤ length (now r) ⌝ }
+{
+    let start = word(r, START) as usize;
+    let mut found = room();
+    let n = cursors::replay(kind, payload, start, word(r, MORE), &mut found);
+    if n == 0 {
+        return Found::Same(kind);
+    }
+    match judged(r, kind, &found, n) {
+        Found::Same(k) => Found::Lent(k),
+        Found::Lent(k) => Found::Lent(k),
+        Found::Differs(k) => Found::Differs(k),
+        Found::Malformed => Found::Malformed,
+    }
+}
+
+// Replays the record's request on its payload: by value, and then by what can be lent.
 fn replay_on(r: &[u8], payload: &[u8]) -> Found
     requires { ⌜ 96 ≤ length (now r) ⌝ }
 {
     let kind = word(r, KIND);
     let mut found = room();
     let n = called(r, kind, payload, &mut found);
-    judged(r, kind, &found, n)
+    match judged(r, kind, &found, n) {
+        Found::Same(k) => replay_lent(r, k, payload),
+        Found::Lent(k) => Found::Lent(k),
+        Found::Differs(k) => Found::Differs(k),
+        Found::Malformed => Found::Malformed,
+    }
 }
 
 // Replays the record's request on so many of the zeros.

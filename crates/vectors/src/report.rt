@@ -6,7 +6,9 @@ use crate::record::ROOM;
 use crate::words::word;
 use libc::STDOUT_FILENO;
 
-// Where `counts` has what is no kind: all that were compared, and those that differ.
+// Where `counts` has what is no kind: those that were compared by a lent cursor too, all that were compared, and those that differ.
+const CURSOR: usize = 23;
+
 const COMPARED: usize = 30;
 
 const DIFFER: usize = 31;
@@ -44,7 +46,7 @@ fn write_ten(text: &[u8], at: usize) {
 
 // Where the name of a kind is in the names below.
 fn name_at(kind: u64) -> usize {
-    if kind < 23 {
+    if kind < 24 {
         return 10 * (kind as usize);
     }
     0
@@ -53,7 +55,7 @@ fn name_at(kind: u64) -> usize {
 // The name of a kind, ten characters wide.
 fn name(kind: u64) {
     write_ten(
-        b"unknown   b         bb        3b        bs        bsu       bl        blu       bd        bll       rc        rs        rl        rd        handle    dd        bd f64    rd f64    dd f64    prefix    tv        hatch     hatchs    ",
+        b"unknown   b         bb        3b        bs        bsu       bl        blu       bd        bll       rc        rs        rl        rd        handle    dd        bd f64    rd f64    dd f64    prefix    tv        hatch     hatchs    cursor    ",
         name_at(kind),
     );
 }
@@ -69,6 +71,11 @@ pub fn count(found: Found, index: u64, counts: &mut [u64; 32]) -> bool {
     match found {
         Found::Same(kind) => {
             compared(counts, kind);
+            true
+        }
+        Found::Lent(kind) => {
+            compared(counts, kind);
+            bump(counts, CURSOR);
             true
         }
         Found::Differs(kind) => {
