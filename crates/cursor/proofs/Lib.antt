@@ -6,3 +6,5 @@ pub mod ThinWith
 pub mod Lends
 pub mod LendsWith
 pub mod Asked
+pub mod Tokens
+pub mod Questions

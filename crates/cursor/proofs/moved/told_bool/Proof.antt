@@ -1,7 +1,5 @@
 -- By cases of the answer: the value or the refusal stays, and its place becomes a cursor.
-use mathlib.Core.Path.{_≡_, sym, ap, _∙_}
 use borrow.Author.Needs.{needs}
-use Rattle.cursor.specs.Cursors.{toldBool}
 use Rattle.cursor.proofs.moved.told_bool.Statement.{statement}
 use Rattle.cursor.proofs.moved.told_bool.Tie as tie
 

@@ -1,7 +1,5 @@
 -- By cases of the answer: the value or the refusal stays, and its place becomes a cursor.
-use mathlib.Core.Path.{_≡_, sym, ap, _∙_}
 use borrow.Author.Needs.{needs}
-use Rattle.cursor.specs.Cursors.{toldF64}
 use Rattle.cursor.proofs.moved.told_f64.Statement.{statement}
 use Rattle.cursor.proofs.moved.told_f64.Tie as tie
 

@@ -1,11 +1,11 @@
 -- By cases of the answer: the value, which fits its type, or the refusal stays, and its place becomes a cursor.
-use mathlib.Core.Path.{_≡_, sym, ap, _∙_}
+use mathlib.Core.Path.{ap}
 use lib.IntN.{ℤ}
 use mir.Syntax.{w16}
 use mir.Facts.{toZ-ofZ}
 use borrow.Author.Needs.{needs}
 use Rattle.cursor.specs.declared.AnswerI16.the-variants.{Value}
-use Rattle.cursor.specs.Cursors.{cursorAt, toldI16}
+use Rattle.cursor.specs.Cursors.{cursorAt}
 use Rattle.cursor.proofs.moved.told_i16.Statement.{statement}
 use Rattle.cursor.proofs.moved.told_i16.Tie as tie
 

@@ -1,5 +1,5 @@
 -- By cases of the answer of the call by value.
-use mathlib.Core.Path.{_≡_, sym, ap, _∙_}
+use mathlib.Core.Path.{sym, ap, _∙_}
 use denote.Ref.{now}
 use borrow.Author.Needs.{needs}
 use Rattle.cursor.specs.Readers.{textAt}

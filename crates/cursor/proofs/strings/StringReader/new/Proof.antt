@@ -40,7 +40,6 @@ use denote.Triple.Spec.{Meets, tripleOf}
 use denote.Triple.Table.{entered, cited}
 use denote.Triple.Walked.{says, Stays, stay-none, stay-none-slice, walkOf, goes-none, goes-none-slice, Walks, ends-at, walked, walk-meets}
 use denote.Exit.{yes}
-use Rattle.cursor.specs.declared.strings.StringReader.{StringReader}
 use Rattle.cursor.specs.declared.strings.AnswerStart.{AnswerStart}
 use Rattle.cursor.specs.declared.strings.MovedStart.{MovedStart}
 use Rattle.cursor.specs.declared.strings.Opening.{Opening}
