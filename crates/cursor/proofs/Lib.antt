@@ -7,4 +7,5 @@ pub mod Lends
 pub mod LendsWith
 pub mod Asked
 pub mod Tokens
+pub mod Loans
 pub mod Questions

@@ -10,6 +10,7 @@ mod compare;
 mod cursors;
 mod hatches;
 mod prefixes;
+mod readers;
 mod record;
 mod report;
 mod texts;
