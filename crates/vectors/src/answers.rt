@@ -35,7 +35,7 @@ pub fn refuse(found: &mut [u64; ROOM], r: Refusal, place: usize, second: usize) 
     4
 }
 
-fn refused(r: Refusal, place: usize) -> Code {
+pub fn refused(r: Refusal, place: usize) -> Code {
     Code::Refused(bitcursor::refusal_number(r) as u64, place)
 }
 
@@ -47,6 +47,10 @@ fn signed(v: i64) -> u64 {
 }
 
 pub fn of_short(v: i16) -> u64 {
+    signed(v as i64)
+}
+
+pub fn of_long(v: i32) -> u64 {
     signed(v as i64)
 }
 
@@ -73,7 +77,7 @@ pub fn of_i16(r: ReadI16) -> Code {
 
 pub fn of_i32(r: ReadI32) -> Code {
     match r {
-        ReadI32::Value(v, p) => Code::Number(signed(v as i64), p),
+        ReadI32::Value(v, p) => Code::Number(of_long(v), p),
         ReadI32::Refused(k, p) => refused(k, p),
     }
 }

@@ -29,11 +29,11 @@ fn call(kind: u64, s: &[u8], at: usize, more: u64) -> Code {
     }
 }
 
-// Calls the code and puts its answer at the start of `found`; how many numbers that are, or 0 where there is no such kind.
-pub fn replay(kind: u64, s: &[u8], at: usize, more: u64, found: &mut [u64; ROOM]) -> usize
+// Puts a code's answer at the start of `found`; how many numbers that are, or 0 where there is none.
+pub fn put(answer: Code, found: &mut [u64; ROOM]) -> usize
     ensures { λ r. ⌜ r ≤ 7 ⌝ }
 {
-    match call(kind, s, at, more) {
+    match answer {
         Code::Refused(k, p) => {
             answers::open(found, k, p, 0, 0);
             4
@@ -52,4 +52,11 @@ pub fn replay(kind: u64, s: &[u8], at: usize, more: u64, found: &mut [u64; ROOM]
         }
         Code::Unknown => 0,
     }
+}
+
+// Calls the code and puts its answer at the start of `found`; how many numbers that are, or 0 where there is no such kind.
+pub fn replay(kind: u64, s: &[u8], at: usize, more: u64, found: &mut [u64; ROOM]) -> usize
+    ensures { λ r. ⌜ r ≤ 7 ⌝ }
+{
+    put(call(kind, s, at, more), found)
 }

@@ -10,12 +10,16 @@ ghost use Prim.Native.Nat.{_+_, _/_, _≤_};
 ghost use lib.ListN.{length};
 use crate::codes;
 use crate::compare;
+use crate::cursors;
 use crate::hatches;
 use crate::hatches::Asked;
 use crate::prefixes;
+use crate::readers;
 use crate::report;
 use crate::texts;
 use crate::words::word;
+use cursor::readings;
+use cursor::readings::NextText;
 
 // Room for the numbers of an answer.
 pub const ROOM: usize = 1024;
@@ -47,9 +51,10 @@ const STRINGS_LENGTH: usize = 80;
 
 const STRINGS: usize = 88;
 
-// What replaying a record finds, with its kind.
+// What replaying a record finds, with its kind. `Lent` is the same answer twice, by value and by a lent cursor or reader.
 pub enum Found {
     Same(u64),
+    Lent(u64),
     Differs(u64),
     Malformed,
 }
@@ -164,14 +169,86 @@ fn called(r: &[u8], kind: u64, payload: &[u8], found: &mut [u64; ROOM]) -> usize
     codes::replay(kind, payload, start, word(r, MORE), found)
 }
 
-// Replays the record's request on its payload.
+// Replays a code's request by a lent cursor, where the kind has a thin reader.
+fn replay_cursor(r: &[u8], kind: u64, payload: &[u8]) -> Found
+    requires { ⌜ 96 ≤ length (now r) ⌝ }
+{
+    let start = word(r, START) as usize;
+    let mut found = room();
+    let n = cursors::replay(kind, payload, start, word(r, MORE), &mut found);
+    if n == 0 {
+        return Found::Same(kind);
+    }
+    match judged(r, kind, &found, n) {
+        Found::Same(k) => Found::Lent(k),
+        Found::Lent(k) => Found::Lent(k),
+        Found::Differs(k) => Found::Differs(k),
+        Found::Malformed => Found::Malformed,
+    }
+}
+
+// Compares what a string reader found with the record's answer, whose first three numbers start at byte `at`.
+fn judged_reader(r: &[u8], kind: u64, at: usize, n: NextText) -> Found
+    requires { ⌜ (96 ≤ length (now r)) × (at + 24 ≤ length (now r)) ⌝ }
+{
+    if !readers::compares(n, word(r, RELEASE), word(r, at)) {
+        return Found::Same(kind);
+    }
+    let mut found = room();
+    readers::put(n, word(r, at + 8) as usize, &mut found);
+    if readers::is_consistent(n, word(r, STRING_END) as usize) {
+        if compare::same(r, at, &found, 3) {
+            return Found::Lent(kind);
+        }
+    }
+    report::difference(word(r, LINE), kind);
+    report::stored(r, at);
+    report::found(&found, 3);
+    Found::Differs(kind)
+}
+
+// Replays the text of a hatch by a string reader over the record's strings.
+fn replay_reader(r: &[u8], kind: u64) -> Found
+    requires { ⌜ 96 ≤ length (now r) ⌝ }
+{
+    let size = word(r, STRINGS) as usize;
+    let first = strings_at(r);
+    if r.len() - first < size {
+        return Found::Malformed;
+    }
+    let at = answer_at(r);
+    if r.len() - at < 24 {
+        return Found::Malformed;
+    }
+    let end = first + size;
+    let start = word(r, MORE) as usize;
+    let n = readings::next_text(&r[first..end], start, word(r, STRING_END) as usize);
+    judged_reader(r, kind, at, n)
+}
+
+// Replays the request by what can be lent: a hatch's text by a reader, a code by a cursor.
+fn replay_lent(r: &[u8], kind: u64, payload: &[u8]) -> Found
+    requires { ⌜ 96 ≤ length (now r) ⌝ }
+{
+    if kind == hatches::WITH_STRINGS {
+        return replay_reader(r, kind);
+    }
+    replay_cursor(r, kind, payload)
+}
+
+// Replays the record's request on its payload: by value, and then by what can be lent.
 fn replay_on(r: &[u8], payload: &[u8]) -> Found
     requires { ⌜ 96 ≤ length (now r) ⌝ }
 {
     let kind = word(r, KIND);
     let mut found = room();
     let n = called(r, kind, payload, &mut found);
-    judged(r, kind, &found, n)
+    match judged(r, kind, &found, n) {
+        Found::Same(k) => replay_lent(r, k, payload),
+        Found::Lent(k) => Found::Lent(k),
+        Found::Differs(k) => Found::Differs(k),
+        Found::Malformed => Found::Malformed,
+    }
 }
 
 // Replays the record's request on so many of the zeros.

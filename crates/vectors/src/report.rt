@@ -1,12 +1,18 @@
 // What the program writes: a line for each difference, and what was compared.
 ghost use Prim.Native.Nat.{_≤_};
 ghost use lib.ListN.{length};
+use crate::hatches;
 use crate::record::Found;
 use crate::record::ROOM;
 use crate::words::word;
 use libc::STDOUT_FILENO;
 
-// Where `counts` has what is no kind: all that were compared, and those that differ.
+// Where `counts` has what is no kind: those that were compared by a lent cursor too, and by a string reader, all that were compared, and
+// those that differ.
+const CURSOR: usize = 23;
+
+const READER: usize = 24;
+
 const COMPARED: usize = 30;
 
 const DIFFER: usize = 31;
@@ -44,7 +50,7 @@ fn write_ten(text: &[u8], at: usize) {
 
 // Where the name of a kind is in the names below.
 fn name_at(kind: u64) -> usize {
-    if kind < 23 {
+    if kind < 25 {
         return 10 * (kind as usize);
     }
     0
@@ -53,7 +59,7 @@ fn name_at(kind: u64) -> usize {
 // The name of a kind, ten characters wide.
 fn name(kind: u64) {
     write_ten(
-        b"unknown   b         bb        3b        bs        bsu       bl        blu       bd        bll       rc        rs        rl        rd        handle    dd        bd f64    rd f64    dd f64    prefix    tv        hatch     hatchs    ",
+        b"unknown   b         bb        3b        bs        bsu       bl        blu       bd        bll       rc        rs        rl        rd        handle    dd        bd f64    rd f64    dd f64    prefix    tv        hatch     hatchs    cursor    reader    ",
         name_at(kind),
     );
 }
@@ -64,11 +70,24 @@ fn malformed(index: u64) {
     write(b" is malformed\n");
 }
 
+// Where what was lent is counted: a reader for a hatch, a cursor for a code.
+fn lent(kind: u64) -> usize {
+    if kind == hatches::WITH_STRINGS {
+        return READER;
+    }
+    CURSOR
+}
+
 // Adds what replaying the index-th record found; whether to go on: behind a malformed record nothing says where the next begins.
 pub fn count(found: Found, index: u64, counts: &mut [u64; 32]) -> bool {
     match found {
         Found::Same(kind) => {
             compared(counts, kind);
+            true
+        }
+        Found::Lent(kind) => {
+            compared(counts, kind);
+            bump(counts, lent(kind));
             true
         }
         Found::Differs(kind) => {

@@ -1,0 +1,3 @@
+pub mod Cursors
+pub mod Readers
+pub mod Repeated
