@@ -1,0 +1,169 @@
+//! The command `draw`: the outlines of hatches as a picture.
+//!
+//! Outlines are drawn in each hatch's own plane, as its coordinates stand; elevation and extrusion move nothing.
+
+use std::io::Write;
+
+use crate::draw_runs::{self, GREATEST};
+use crate::draw_svg::{self, Figure, Outline};
+use crate::draw_view::{Extents, View};
+use crate::failure::{counted, shown, Failure};
+use crate::hatches::ReadHatch;
+use crate::input::{Entry, Input, Item, Kind};
+use crate::out_file;
+use crate::outlines::{HatchPath, HatchPathSegments, Point2D};
+use crate::payload::Zeros;
+use crate::read;
+use crate::refusal::Refusal;
+use crate::request::{number, HatchRequest};
+use crate::typed::{Name, TypedHatch};
+use crate::words::{Command, Options};
+
+/// The command.
+pub const DRAW: Command = Command { name: "draw", kind: Kind::Hatch, switches: &["--single"], values: &["--output", "--view", "--width"] };
+
+/// The picture's width where none is asked for.
+const WIDTH: u32 = 1000;
+
+/// Draws the hatches of the input as SVG, to the file that `--output` names, else to `output`. What is refused, each line that is no request
+/// and each outline that cannot be drawn is a line on `errors`, and the rest is drawn; if nothing is left of it, no picture is written. Gives
+/// the tool's status: 0 if all was drawn, 1 if something was refused or could not be drawn, 2 if a line was no request. Where a file cannot be
+/// read or written it fails, and leaves the output as it was.
+///
+/// ```
+/// use dwg_hatch::{draw, input::Input, words::Options};
+/// let missing = Input::Requests("no such file".into());
+/// let failure = draw::run(&Options::default(), &missing, Vec::new(), Vec::new()).unwrap_err();
+/// assert_eq!(failure.status(), 1);
+/// ```
+pub fn run(options: &Options, input: &Input, mut output: impl Write, mut errors: impl Write) -> Result<u8, Failure> {
+    let (width, asked, single) = (width(options)?, asked(options)?, options.has("--single"));
+    let file = options.value("--output").filter(|file| *file != "-");
+    file.map_or(Ok(()), |file| out_file::is_no_input(file, input))?;
+    let (mut figures, mut problems) = (Vec::new(), Problems { status: 0, lines: Vec::new() });
+    let mut zeros = Zeros::default();
+    for item in input.items()? {
+        match item {
+            Ok(item) => figures.extend(figure(&item, &mut zeros, single, &mut problems)),
+            Err(Failure::Usage(line)) => problems.add(2, line),
+            Err(failure) => return Err(failure),
+        }
+    }
+    let nothing = figures.iter().all(|figure: &Figure| figure.extents().is_empty());
+    if !nothing || problems.status == 0 {
+        let svg = picture(input, &figures, asked, width, single);
+        match file {
+            Some(file) => out_file::write(file, svg.as_bytes())?,
+            None => output.write_all(svg.as_bytes()).and_then(|()| output.flush())?,
+        }
+    }
+    problems.lines.iter().for_each(|line| {
+        let _ = writeln!(errors, "dwg-hatch: {line}");
+    });
+    Ok(problems.status)
+}
+
+/// What is to be said after the picture is written, and the status for it.
+struct Problems {
+    status: u8,
+    lines: Vec<String>,
+}
+
+impl Problems {
+    fn add(&mut self, status: u8, line: String) {
+        self.status = self.status.max(status);
+        self.lines.push(line);
+    }
+}
+
+fn width(options: &Options) -> Result<u32, Failure> {
+    let Some(value) = options.value("--width") else { return Ok(WIDTH) };
+    let given = number(value.as_encoded_bytes()).and_then(|width| u32::try_from(width).ok());
+    let wrong = || DRAW.usage(format!("--width is \"{}\", which is no number of pixels from 1 to {}", shown(value.as_encoded_bytes()), View::TALLEST));
+    given.filter(|width| (1..=View::TALLEST).contains(width)).ok_or_else(wrong)
+}
+
+/// The view that is asked for.
+fn asked(options: &Options) -> Result<Option<Extents>, Failure> {
+    let Some(value) = options.value("--view") else { return Ok(None) };
+    let bytes = value.as_encoded_bytes();
+    let wrong = || DRAW.usage(format!("--view is \"{}\", which is not X,Y,WIDTH,HEIGHT with a width and a height above 0", shown(bytes)));
+    value.to_str().and_then(Extents::parse).map(Some).ok_or_else(wrong)
+}
+
+fn picture(input: &Input, figures: &[Figure], asked: Option<Extents>, width: u32, single: bool) -> String {
+    let mut all = Extents::default();
+    let seen = figures.iter().map(Figure::extents).filter(|extents| !extents.is_empty());
+    seen.flat_map(|extents| [extents.least, extents.greatest]).for_each(|corner| all.include(corner));
+    let name = input.name();
+    if all.is_empty() {
+        return draw_svg::empty(&name, width);
+    }
+    let view = View::new(asked.unwrap_or_else(|| all.with_margin()), width);
+    draw_svg::picture(&name, if single { "single" } else { "double" }, figures, &view)
+}
+
+/// An item's hatch. `None` if it is refused, or a prefix, which has no outlines.
+fn figure(item: &Item, zeros: &mut Zeros, single: bool, problems: &mut Problems) -> Option<Figure> {
+    let Entry::Hatch(request) = &item.entry else { return None };
+    let typed = match typed(request, zeros, single) {
+        Ok(typed) => typed,
+        Err(refusal) => {
+            problems.add(1, format!("{}: {refusal}", item.origin));
+            return None;
+        }
+    };
+    let mut left_out = |what: String| {
+        let why = format!("a number of it is not finite, or above {GREATEST:e}");
+        problems.add(1, format!("{}: {what} is left out, since {why}; the rest is drawn", item.origin));
+    };
+    let mut paths = Vec::new();
+    for (at, path) in typed.paths.iter().enumerate() {
+        let runs = draw_runs::of_path(path);
+        match runs.iter().all(draw_runs::Run::is_drawable) {
+            true if runs.is_empty() => {}
+            true => paths.push(Outline { title: path_title(at, path, &runs), runs }),
+            false => left_out(format!("path {}", at + 1)),
+        }
+    }
+    let mut seeds = Vec::new();
+    for (at, seed) in typed.seed_points.iter().enumerate() {
+        match seed.x.abs() <= GREATEST && seed.y.abs() <= GREATEST {
+            true => seeds.push(Point2D { x: seed.x, y: seed.y }),
+            false => left_out(format!("seed point {}", at + 1)),
+        }
+    }
+    Some(Figure { title: title(item, &typed), paths, seeds })
+}
+
+/// The hatch, with the numbers of its outlines narrowed if it is to be seen in single precision.
+fn typed(request: &HatchRequest, zeros: &mut Zeros, single: bool) -> Result<TypedHatch, Refusal> {
+    let body = request.body(zeros);
+    let mut read: ReadHatch = read::lists(&body, request.lent, |numbers, words| body.decode_into(numbers, words))?;
+    if single {
+        read.numbers.iter_mut().for_each(|number| *number = f64::from(*number as f32));
+    }
+    Ok(body.read_as(read))
+}
+
+fn title(item: &Item, typed: &TypedHatch) -> String {
+    let name = match (&typed.pattern_name, typed.pattern_name.as_str()) {
+        (_, Some(name)) => name.to_string(),
+        (Name::Bytes(bytes), None) => shown(bytes),
+        (Name::Characters(name), None) => name.clone(),
+    };
+    let [x, y, z] = typed.hatch.extrusion;
+    let plane = if [x, y, z] == [0.0, 0.0, 1.0] { String::new() } else { format!(" (in its own plane; its extrusion is {x:?}, {y:?}, {z:?})") };
+    format!("{}: {name}{plane}", item.origin)
+}
+
+fn path_title(at: usize, path: &HatchPath, runs: &[draw_runs::Run]) -> String {
+    let made_of = match &path.segments {
+        HatchPathSegments::Polyline { vertices, .. } => format!("polyline, {}", counted(vertices.len(), "point")),
+        HatchPathSegments::Edges(edges) => counted(edges.len(), "edge"),
+    };
+    let mut instead: Vec<&str> = runs.iter().filter_map(|run| run.instead).collect();
+    instead.dedup();
+    let dashed = if instead.is_empty() { String::new() } else { format!("; dashed: {}", instead.join(", ")) };
+    format!("path {}: {made_of}, flags {}{dashed}", at + 1, path.flags)
+}
