@@ -12,8 +12,8 @@ const FLAT_BULGE: f64 = 0.01;
 /// The angle of such a segment: a bulge is the tangent of a quarter of it.
 const FLAT_SWEEP: f64 = 0.04;
 
-/// Angles that differ by less than this from a whole turn are one: 6.283185307 is a whole circle too.
-const SAME_ANGLE: f64 = 1e-9;
+/// Angles that differ by less than this from a whole turn are one: what was computed in single precision, 6.2831855, is a whole circle too.
+const SAME_ANGLE: f64 = 1e-6;
 
 /// A part of an ellipse: the points `center + major * cos t + minor * sin t`, where `minor` is `major` turned by a quarter counterclockwise
 /// and times `ratio`, for `t` from `start` to `start + sweep`.
