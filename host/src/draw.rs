@@ -133,7 +133,7 @@ fn figure(item: &Item, zeros: &mut Zeros, single: bool, problems: &mut Problems)
             false => left_out(format!("seed point {}", at + 1)),
         }
     }
-    Some(Figure { title: title(item, &typed), paths, seeds })
+    Some(Figure { title: title(item, &typed), is_solid: typed.hatch.solid_fill, paths, seeds })
 }
 
 /// The hatch, with the numbers of its outlines narrowed if it is to be seen in single precision.

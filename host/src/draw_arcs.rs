@@ -60,6 +60,11 @@ impl Arc {
         [Arc { sweep, ..*self }, Arc { start: self.start + sweep, sweep, ..*self }]
     }
 
+    /// The same arc from its end to its start.
+    pub fn reversed(&self) -> Arc {
+        Arc { start: self.start + self.sweep, sweep: -self.sweep, ..*self }
+    }
+
     /// Whether it runs counterclockwise. A ratio below 0 turns it round.
     pub fn is_counter_clockwise(&self) -> bool {
         (self.sweep > 0.0) == (self.ratio >= 0.0)

@@ -58,6 +58,22 @@ impl Run {
         Some(Run { start, steps: points.map(Step::Line).collect(), is_closed: false, instead: None })
     }
 
+    /// Where it ends.
+    pub fn end(&self) -> Point2D {
+        self.steps.last().map_or(self.start, Step::end)
+    }
+
+    /// The same run from its end to its start.
+    pub fn reversed(&self) -> Run {
+        let ends: Vec<Point2D> = [self.start].into_iter().chain(self.steps.iter().map(Step::end)).collect();
+        let steps = self.steps.iter().zip(ends).rev().map(|(step, start)| match step {
+            Step::Line(_) => Step::Line(start),
+            Step::Curve([first, second, _]) => Step::Curve([*second, *first, start]),
+            Step::Arc(arc, _) => Step::Arc(arc.reversed(), start),
+        });
+        Run { start: self.end(), steps: steps.collect(), ..*self }
+    }
+
     /// Whether every number of it is finite and none is above [`GREATEST`]. A NaN is not.
     pub fn is_drawable(&self) -> bool {
         let numbers = self.steps.iter().flat_map(Step::numbers);
@@ -75,6 +91,27 @@ impl Run {
             }
         }
     }
+}
+
+/// A path's runs as one way round: an edge whose end is nearer to the edge before it than its start is taken from its end.
+pub(crate) fn chained(runs: &[Run]) -> Vec<Run> {
+    let mut chained: Vec<Run> = Vec::with_capacity(runs.len());
+    for (at, run) in runs.iter().enumerate() {
+        let backward = match (chained.last(), runs.get(at + 1)) {
+            (Some(before), _) => distance(before.end(), run.end()) < distance(before.end(), run.start),
+            (None, Some(next)) => {
+                let to_next = |point: Point2D| distance(point, next.start).min(distance(point, next.end()));
+                to_next(run.start) < to_next(run.end())
+            }
+            (None, None) => false,
+        };
+        chained.push(if backward { run.reversed() } else { run.clone() });
+    }
+    chained
+}
+
+fn distance(one: Point2D, other: Point2D) -> f64 {
+    (one.x - other.x).hypot(one.y - other.y)
 }
 
 /// A path's runs: one of a polyline, one of each edge.
@@ -129,6 +166,32 @@ mod tests {
             numbers[at] = f64::NAN;
             assert_eq!(drawable(numbers), at == 7, "number {at}");
         }
+    }
+
+    /// A square's sides, all but the third as they should be; the first is turned round in its turn.
+    #[test]
+    fn edges_are_chained_whichever_way_they_run() {
+        let corners = [[0.0, 0.0], [4.0, 0.0], [4.0, 4.0], [0.0, 4.0], [0.0, 0.0]].map(|[x, y]| Point2D { x, y });
+        let sides: Vec<Run> = corners.windows(2).filter_map(|ends| Run::lines([ends[0], ends[1]])).collect();
+        assert_eq!(chained(&sides), sides);
+        for turned in 0..4 {
+            let mut given = sides.clone();
+            given[turned] = given[turned].reversed();
+            assert_eq!(chained(&given), sides, "side {turned}");
+        }
+    }
+
+    #[test]
+    fn a_run_reversed_twice_is_itself() {
+        let point = |x, y| Point2D { x, y };
+        let arc = Arc::of_edge(point(1.0, 1.0), point(2.0, 0.0), 0.5, [0.25, 1.25], false);
+        let steps = vec![Step::Line(point(1.0, 2.0)), Step::Curve([point(2.0, 3.0), point(3.0, 3.0), arc.at(arc.start)]), Step::Arc(arc, arc.at(-1.25))];
+        let run = Run { start: point(0.0, 0.0), steps, is_closed: false, instead: None };
+        let back = run.reversed();
+        assert_eq!((back.start, back.end()), (run.end(), run.start));
+        let Step::Arc(turned, _) = &back.steps[0] else { panic!("no arc") };
+        assert!(turned.is_counter_clockwise() != arc.is_counter_clockwise() && turned.at(turned.start) == run.end());
+        assert_eq!(back.reversed(), run);
     }
 
     #[test]

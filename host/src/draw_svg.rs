@@ -4,7 +4,7 @@
 use std::fmt::Write;
 
 use crate::draw_arcs::Arc;
-use crate::draw_runs::{Run, Step};
+use crate::draw_runs::{self, Run, Step};
 use crate::draw_view::{Extents, View};
 use crate::outlines::Point2D;
 
@@ -12,6 +12,8 @@ use crate::outlines::Point2D;
 pub(crate) struct Figure {
     /// Where it was asked for, and its pattern's name.
     pub title: String,
+    /// Whether it is solid; else it is drawn lighter.
+    pub is_solid: bool,
     /// Its boundary paths.
     pub paths: Vec<Outline>,
     /// Its seed points.
@@ -32,6 +34,7 @@ const COLOURS: [&str; 6] = ["#1f5fa8", "#b3541e", "#2c7d4f", "#8a3c8c", "#8f7a12
 const STYLE: &str = "\
 path { fill: none; stroke: currentColor; stroke-width: 1.5; stroke-linecap: round; stroke-linejoin: round; vector-effect: non-scaling-stroke }
 .fill { fill: currentColor; fill-opacity: 0.22; fill-rule: evenodd; stroke: none }
+.lined { fill-opacity: 0.08 }
 .instead { stroke-dasharray: 6 4 }
 .seed { stroke: #000 }
 text { font: 16px sans-serif }";
@@ -85,7 +88,8 @@ fn group(svg: &mut String, figure: &Figure, colour: &str, view: &View) {
     add(format!("<g color=\"{colour}\"><title>{}</title>", escaped(&figure.title)));
     if !figure.paths.is_empty() {
         let areas: String = figure.paths.iter().map(|path| pen.area(&path.runs)).collect();
-        add(format!("<path class=\"fill\" d=\"{areas}\"/>"));
+        let lined = if figure.is_solid { "" } else { " lined" };
+        add(format!("<path class=\"fill{lined}\" d=\"{areas}\"/>"));
     }
     for path in &figure.paths {
         let title = escaped(&path.title);
@@ -119,7 +123,7 @@ impl Pen<'_> {
     fn area(&self, runs: &[Run]) -> String {
         let mut data = String::new();
         let mut at = None;
-        for run in runs {
+        for run in draw_runs::chained(runs) {
             let start = self.point(run.start);
             match &at {
                 None => data.extend(["M", &start]),
@@ -127,7 +131,7 @@ impl Pen<'_> {
                 Some(_) => {}
             }
             data.push_str(&self.steps(&run.steps));
-            at = Some(self.point(run.steps.last().map_or(run.start, Step::end)));
+            at = Some(self.point(run.end()));
         }
         data + "Z"
     }

@@ -94,7 +94,7 @@ fn titles_are_escaped() {
 
 #[test]
 fn what_is_out_of_view_is_not_written() {
-    let figure = |x: f64| Figure { title: format!("at {x}"), paths: Vec::new(), seeds: vec![point(x, 5.0)] };
+    let figure = |x: f64| Figure { title: format!("at {x}"), is_solid: true, paths: Vec::new(), seeds: vec![point(x, 5.0)] };
     let svg = picture("name", "double", &[figure(5.0), figure(50.0)], &view());
     assert!(svg.contains("<title>at 5</title>") && !svg.contains("<title>at 50</title>"), "{svg}");
     assert!(svg.contains("d=\"M46 50L54 50M50 46L50 54\""), "{svg}");

@@ -59,7 +59,8 @@ refusals and for the status.
 
 pub const DRAW_HELP: &str = "\
 Draws the outlines of hatch bodies as one picture in SVG, which a browser shows: polylines with their bulges, lines, arcs,
-ellipses and splines, light inside by the even-odd rule, so that islands are holes, and seed points as crosses.
+ellipses and splines, light inside by the even-odd rule, so that islands are holes (lighter where the hatch is not solid),
+and seed points as crosses.
 
 usage: dwg-hatch draw [--output FILE] [--view X,Y,WIDTH,HEIGHT] [--width PIXELS] [--single] [FILE]
        dwg-hatch draw [OPTION]... --release N [--start BIT] [--strings FILE [--string-start BIT] [--string-end BIT]] [FILE]
