@@ -1,50 +1,15 @@
-//! `draw`: pictures of good input, and every kind of bad input and output.
+//! `draw`: pictures of good input, and every kind of bad input.
 
 mod calls;
-mod layouts;
+mod drawings;
 mod svg_text;
 
-use std::fs;
-use std::os::unix::fs::{symlink, PermissionsExt};
-use std::path::{Path, PathBuf};
 use std::process::Output;
 
-use calls::{answers, call, file, refuses, tool};
-use dwg_hatch::{HatchPath, HatchPathSegments, Name, Point2D, Vertex};
-use layouts::{Fill, Numbers, Plan};
+use calls::{answers, call, file, refuses};
+use drawings::layouts::{Numbers, Plan};
+use drawings::{hatch, line, point, polyline, TRIANGLE};
 use svg_text::{elements, path_numbers};
-
-/// A line with one closed polyline of release 2, with no bulges unless given.
-fn polyline(points: &[(f64, f64)], bulge: Option<f64>) -> String {
-    let vertex = |(x, y): &(f64, f64)| Vertex { point: point(*x, *y), bulge: bulge.map(f64::to_bits) };
-    let segments = HatchPathSegments::Polyline { has_bulge: bulge.is_some(), is_closed: true, vertices: points.iter().map(vertex).collect() };
-    hatch(b"SOLID", vec![HatchPath { flags: 3, segments, num_boundary_handles: 0 }], Vec::new())
-}
-
-fn point(x: f64, y: f64) -> Point2D<u64> {
-    Point2D { x: x.to_bits(), y: y.to_bits() }
-}
-
-fn hatch(name: &[u8], paths: Vec<HatchPath<u64>>, seeds: Vec<Point2D<u64>>) -> String {
-    let names = [Vec::new(), name.to_vec()].map(Name::Bytes);
-    let fill = Fill { doubles: [0; 3], colours: Vec::new() };
-    let plane = [0.0, 0.0, 0.0, 1.0].map(f64::to_bits);
-    let plan = Plan { release: 2, names, gradient: false, fill, plane, style: 0, solid: true, paths, lines: Vec::new(), seeds };
-    line(&plan, &mut Numbers(1), false)
-}
-
-fn line(plan: &Plan, n: &mut Numbers, reader: bool) -> String {
-    let [main, strings] = plan.lay_out(n, reader);
-    let hex = |bytes: Vec<u8>| if bytes.is_empty() { "-".to_string() } else { bytes.iter().map(|byte| format!("{byte:02x}")).collect() };
-    // Handle counts must not pass the bits behind them, so some bytes are there.
-    let main_hex = hex(main.bytes(200));
-    match reader {
-        true => format!("hatchs {} 0 {main_hex} 0 {} {}\n", plan.release, strings.0.len(), hex(strings.bytes(0))),
-        false => format!("hatch {} 0 {main_hex}\n", plan.release),
-    }
-}
-
-const TRIANGLE: [(f64, f64); 3] = [(0.0, 0.0), (4.0, 0.0), (4.0, 3.0)];
 
 /// A picture, a line on standard error and the status. Gives both texts.
 fn draws_and_says(output: &Output, status: i32) -> (String, String) {
@@ -54,21 +19,6 @@ fn draws_and_says(output: &Output, status: i32) -> (String, String) {
     let svg = String::from_utf8(output.stdout.clone()).expect("UTF-8");
     path_numbers(&elements(&svg));
     (svg, said)
-}
-
-/// A new folder below target/. Each test names its own.
-fn folder(name: &str) -> PathBuf {
-    let folder = PathBuf::from(env!("CARGO_TARGET_TMPDIR")).join(name);
-    let _ = fs::remove_dir_all(&folder);
-    fs::create_dir_all(&folder).expect("a folder");
-    folder
-}
-
-fn names(folder: &Path) -> Vec<String> {
-    let names = fs::read_dir(folder).expect("a folder").map(|entry| entry.expect("an entry").file_name().to_string_lossy().into_owned());
-    let mut names: Vec<String> = names.collect();
-    names.sort();
-    names
 }
 
 #[test]
@@ -224,78 +174,4 @@ fn bodies_of_any_doubles_end_in_a_picture_or_lines() {
         }
     }
     assert!(drawn > 200, "{drawn} had more than the triangle");
-}
-
-#[test]
-fn a_picture_is_written_to_its_file() {
-    let folder = folder("draw-output");
-    let (output, input) = (folder.join("a picture.svg"), folder.join("in.txt"));
-    fs::write(&input, polyline(&TRIANGLE, None)).expect("a file");
-    let words = ["draw".as_ref(), "--output".as_ref(), output.as_os_str(), input.as_os_str()];
-    assert_eq!(answers(&words, b""), "");
-    let first = fs::read_to_string(&output).expect("a picture");
-    elements(&first);
-    // An old file is replaced and keeps its permissions; a link stays one.
-    fs::write(&output, "old").expect("a file");
-    fs::set_permissions(&output, fs::Permissions::from_mode(0o640)).expect("permissions");
-    let link = folder.join("link.svg");
-    symlink("a picture.svg", &link).expect("a link");
-    answers(&["draw".as_ref(), "--output".as_ref(), link.as_os_str(), input.as_os_str()], b"");
-    assert_eq!(fs::read_to_string(&output).expect("a picture"), first);
-    assert_eq!(fs::metadata(&output).expect("a file").permissions().mode() & 0o777, 0o640);
-    assert!(fs::symlink_metadata(&link).expect("a link").is_symlink());
-    assert_eq!(names(&folder), ["a picture.svg", "in.txt", "link.svg"]);
-    let to_stdout = answers(&["draw".as_ref(), "--output=-".as_ref(), input.as_os_str()], b"");
-    assert_eq!(to_stdout, first);
-}
-
-#[test]
-fn a_failure_keeps_the_old_picture_and_leaves_nothing_else() {
-    let folder = folder("draw-kept");
-    let output = folder.join("old.svg");
-    fs::write(&output, "old").expect("a file");
-    let with = |file: &str, input: &[u8]| call(&["draw".as_ref(), "--output".as_ref(), output.as_os_str(), file.as_ref()], input);
-    refuses(&with("no such file", b""), 1);
-    refuses(&with("/", b""), 1);
-    refuses(&with("-", b"hatch 3 0 C0\n"), 1);
-    refuses(&with("-", b"nothing\n"), 2);
-    assert_eq!((fs::read_to_string(&output).expect("a file").as_str(), names(&folder)), ("old", vec!["old.svg".to_string()]));
-}
-
-#[test]
-fn outputs_that_cannot_be_written_are_one_line_and_status_1() {
-    let folder = folder("draw-unwritable");
-    let input = polyline(&TRIANGLE, None);
-    for name in ["none/out.svg", ".", "..", "out.svg/", ""] {
-        let output = folder.join(name);
-        let said = refuses(&call(&["draw".as_ref(), "--output".as_ref(), output.as_os_str()], input.as_bytes()), 1);
-        assert!(said.contains("cannot be written"), "{name}: {said}");
-    }
-    refuses(&call(&["draw", "--output", "/dev/null"], input.as_bytes()), 1);
-    refuses(&call(&["draw", "--output", ""], input.as_bytes()), 1);
-    assert!(names(&folder).is_empty() && !fs::metadata("/dev/null").expect("the null device").is_file());
-}
-
-#[test]
-fn the_input_is_never_written_to() {
-    let folder = folder("draw-input");
-    let input = folder.join("in.txt");
-    let text = polyline(&TRIANGLE, None);
-    fs::write(&input, &text).expect("a file");
-    symlink("in.txt", folder.join("link.txt")).expect("a link");
-    for name in ["in.txt", "./in.txt", "link.txt"] {
-        let output = tool().args(["draw", "--output", name, "in.txt"]).current_dir(&folder).output().expect("the tool starts");
-        assert!(refuses(&output, 2).contains("is a file of the input"));
-    }
-    let words = ["draw", "--release=2", "--strings", "in.txt", "--output", "link.txt", "-"];
-    refuses(&tool().args(words).current_dir(&folder).output().expect("the tool starts"), 2);
-    assert_eq!(fs::read_to_string(&input).expect("a file"), text);
-}
-
-#[test]
-fn a_full_disk_is_one_line_and_status_1() {
-    let full = fs::OpenOptions::new().write(true).open("/dev/full").expect("the full device");
-    let input = file("draw-full.txt", polyline(&TRIANGLE, None).as_bytes());
-    let output = tool().arg("draw").arg(input).stdout(full).output().expect("the tool starts");
-    assert!(refuses(&output, 1).contains("writing failed"));
 }

@@ -1,4 +1,5 @@
 //! A look at a picture's text that does not lean on what wrote it: elements closed in order, entities whole, numbers finite.
+#![allow(dead_code)]
 
 /// The elements of a text that is well formed, as their start tags. Panics where it is not.
 pub fn elements(svg: &str) -> Vec<String> {
