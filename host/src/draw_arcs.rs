@@ -107,8 +107,8 @@ impl Arc {
 fn turn(start: f64, end: f64) -> f64 {
     let given = end - start;
     let turn = given.rem_euclid(TAU);
-    let whole = turn < SAME_ANGLE || turn > TAU - SAME_ANGLE;
-    if whole && given.abs() > PI { TAU } else { turn }
+    let part = (SAME_ANGLE..=TAU - SAME_ANGLE).contains(&turn);
+    if !part && given.abs() > PI { TAU } else { turn }
 }
 
 /// A polyline's run; `None` if it has no vertices. Its closing segment has the last vertex's bulge; where it is open that bulge has no segment.

@@ -115,8 +115,8 @@ fn turns_are_one_at_most() {
     assert_eq!(turn(1.0, 1.0), 0.0);
     let single = f64::from(TAU as f32);
     assert!(single > TAU);
-    assert_eq!([turn(0.0, TAU), turn(0.0, single), turn(single, 0.0), turn(0.0, 6.283185), turn(TAU, 0.0), turn(0.0, 2.0 * TAU)], [TAU; 6]);
-    assert_eq!([turn(0.0, 1e-9), turn(0.0, 6.2831)], [1e-9, 6.2831]);
+    assert_eq!([turn(0.0, TAU), turn(0.0, single), turn(single, 0.0), turn(0.0, TAU - 2e-7), turn(TAU, 0.0), turn(0.0, 2.0 * TAU)], [TAU; 6]);
+    assert_eq!([turn(0.0, 1e-9), turn(0.0, 6.25)], [1e-9, 6.25]);
     assert!((turn(0.0, 2.5 * PI) - FRAC_PI_2).abs() < 1e-12 && (turn(FRAC_PI_2, 0.0) - 1.5 * PI).abs() < 1e-12);
 }
 

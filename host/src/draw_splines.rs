@@ -94,10 +94,10 @@ impl Spline<'_> {
         Some(Run { start, steps, is_closed: false, instead: None })
     }
 
-    /// Any other: lines through points of it, 32 a span, fewer where the spans are many.
+    /// Any other: lines through points of it, 32 a span, and 8 at least where the spans are many.
     fn lines(&self) -> Option<Run> {
         let spans = self.spans();
-        let parts = if self.degree == 1 { 1 } else { (4096 / spans.len().max(1)).clamp(4, 32) };
+        let parts = if self.degree == 1 { 1 } else { (1024 / spans.len().max(1)).clamp(8, 32) };
         let along = |span: usize, part: usize| {
             let [a, b] = [self.knots[span], self.knots[span + 1]];
             let value = if part == parts { b } else { a + (b - a) * (part as f64 / parts as f64) };

@@ -60,16 +60,22 @@ pub(crate) fn picture(name: &str, precision: &str, figures: &[Figure], view: &Vi
     let Point2D { x, y } = view.corner();
     let head = format!("Hatch outlines in {precision} precision. The point ({x:?}, {y:?}) of the drawing is this picture's upper left corner");
     let mut svg = opened(view.width, view.height, name, &format!("{head}, and a unit of it is {:?} pixels here.", view.scale));
-    let seen = figures.iter().enumerate().filter(|(_, figure)| figure.extents().meets(&view.extents));
-    seen.for_each(|(at, figure)| group(&mut svg, figure, COLOURS[at % COLOURS.len()], view));
+    let seen: Vec<usize> = (0..figures.len()).filter(|at| figures[*at].extents().meets(&view.extents)).collect();
+    seen.iter().for_each(|at| group(&mut svg, &figures[*at], COLOURS[at % COLOURS.len()], view));
+    if seen.is_empty() {
+        svg += &note("Nothing of the drawing lies in this view.");
+    }
     svg + "</svg>\n"
 }
 
 /// The picture where there is nothing to draw.
 pub(crate) fn empty(name: &str, width: u32) -> String {
-    let note = "Nothing to draw: no outlines were read.";
-    let svg = opened(width, 60, name, note);
-    format!("{svg}<text x=\"20\" y=\"36\">{note}</text>\n</svg>\n")
+    let why = "Nothing to draw: no outlines were read.";
+    opened(width, 60, name, why) + &note(why) + "</svg>\n"
+}
+
+fn note(text: &str) -> String {
+    format!("<text x=\"20\" y=\"36\">{}</text>\n", escaped(text))
 }
 
 fn opened(width: u32, height: u32, name: &str, description: &str) -> String {

@@ -41,7 +41,7 @@ fn views_and_widths_are_taken() {
     // Half a circle below the lower side, counterclockwise.
     assert!(svg.contains("d=\"M0 400A200 200 0 0 0 400 400A"), "{svg}");
     let elsewhere = answers(&["draw", "--view", "100,100,4,4"], input.as_bytes());
-    assert!(path_numbers(&elements(&elsewhere)).is_empty(), "{elsewhere}");
+    assert!(path_numbers(&elements(&elsewhere)).is_empty() && elsewhere.contains(">Nothing of the drawing lies in this view."), "{elsewhere}");
 }
 
 #[test]
