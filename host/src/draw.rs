@@ -4,7 +4,7 @@
 
 use std::io::Write;
 
-use crate::draw_runs::{self, GREATEST};
+use crate::draw_runs::{self, Run, GREATEST};
 use crate::draw_svg::{self, Figure, Outline};
 use crate::draw_view::{Extents, View};
 use crate::failure::{counted, shown, Failure};
@@ -36,44 +36,29 @@ const WIDTH: u32 = 1000;
 /// let failure = draw::run(&Options::default(), &missing, Vec::new(), Vec::new()).unwrap_err();
 /// assert_eq!(failure.status(), 1);
 /// ```
-pub fn run(options: &Options, input: &Input, mut output: impl Write, mut errors: impl Write) -> Result<u8, Failure> {
+pub fn run(options: &Options, input: &Input, mut output: impl Write, errors: impl Write) -> Result<u8, Failure> {
     let (width, asked, single) = (width(options)?, asked(options)?, options.has("--single"));
     let file = options.value("--output").filter(|file| *file != "-");
     file.map_or(Ok(()), |file| out_file::is_no_input(file, input))?;
-    let (mut figures, mut problems) = (Vec::new(), Problems { status: 0, lines: Vec::new() });
+    let mut figures = Vec::new();
     let mut zeros = Zeros::default();
-    for item in input.items()? {
-        match item {
-            Ok(item) => figures.extend(figure(&item, &mut zeros, single, &mut problems)),
-            Err(Failure::Usage(line)) => problems.add(2, line),
-            Err(failure) => return Err(failure),
-        }
-    }
+    let status = input.each(errors, |item| {
+        // A prefix has no outlines.
+        let Entry::Hatch(request) = &item.entry else { return Ok(()) };
+        let (figure, left_out) = figure(item, &typed(request, &mut zeros, single)?);
+        figures.push(figure);
+        if left_out.is_empty() { Ok(()) } else { Err(left_out_line(&left_out).into()) }
+    })?;
     let nothing = figures.iter().all(|figure: &Figure| figure.extents().is_empty());
-    if !nothing || problems.status == 0 {
-        let svg = picture(input, &figures, asked, width, single);
-        match file {
-            Some(file) => out_file::write(file, svg.as_bytes())?,
-            None => output.write_all(svg.as_bytes()).and_then(|()| output.flush())?,
-        }
+    if nothing && status != 0 {
+        return Ok(status);
     }
-    problems.lines.iter().for_each(|line| {
-        let _ = writeln!(errors, "dwg-hatch: {line}");
-    });
-    Ok(problems.status)
-}
-
-/// What is to be said after the picture is written, and the status for it.
-struct Problems {
-    status: u8,
-    lines: Vec<String>,
-}
-
-impl Problems {
-    fn add(&mut self, status: u8, line: String) {
-        self.status = self.status.max(status);
-        self.lines.push(line);
+    let svg = picture(input, &figures, asked, width, single);
+    match file {
+        Some(file) => out_file::write(file, svg.as_bytes())?,
+        None => output.write_all(svg.as_bytes()).and_then(|()| output.flush())?,
     }
+    Ok(status)
 }
 
 fn width(options: &Options) -> Result<u32, Failure> {
@@ -103,37 +88,33 @@ fn picture(input: &Input, figures: &[Figure], asked: Option<Extents>, width: u32
     draw_svg::picture(&name, if single { "single" } else { "double" }, figures, &view)
 }
 
-/// An item's hatch. `None` if it is refused, or a prefix, which has no outlines.
-fn figure(item: &Item, zeros: &mut Zeros, single: bool, problems: &mut Problems) -> Option<Figure> {
-    let Entry::Hatch(request) = &item.entry else { return None };
-    let typed = match typed(request, zeros, single) {
-        Ok(typed) => typed,
-        Err(refusal) => {
-            problems.add(1, format!("{}: {refusal}", item.origin));
-            return None;
-        }
-    };
-    let mut left_out = |what: String| {
-        let why = format!("a number of it is not finite, or above {GREATEST:e}");
-        problems.add(1, format!("{}: {what} is left out, since {why}; the rest is drawn", item.origin));
-    };
-    let mut paths = Vec::new();
+/// An item's hatch, and the names of its outlines that cannot be drawn.
+fn figure(item: &Item, typed: &TypedHatch) -> (Figure, Vec<String>) {
+    let mut figure = Figure { title: title(item, typed), is_solid: typed.hatch.solid_fill, paths: Vec::new(), seeds: Vec::new() };
+    let mut left_out = Vec::new();
     for (at, path) in typed.paths.iter().enumerate() {
         let runs = draw_runs::of_path(path);
-        match runs.iter().all(draw_runs::Run::is_drawable) {
+        match runs.iter().all(Run::is_drawable) {
             true if runs.is_empty() => {}
-            true => paths.push(Outline { title: path_title(at, path, &runs), runs }),
-            false => left_out(format!("path {}", at + 1)),
+            true => figure.paths.push(Outline { title: path_title(at, path, &runs), runs }),
+            false => left_out.push(format!("path {}", at + 1)),
         }
     }
-    let mut seeds = Vec::new();
-    for (at, seed) in typed.seed_points.iter().enumerate() {
-        match seed.x.abs() <= GREATEST && seed.y.abs() <= GREATEST {
-            true => seeds.push(Point2D { x: seed.x, y: seed.y }),
-            false => left_out(format!("seed point {}", at + 1)),
-        }
-    }
-    Some(Figure { title: title(item, &typed), is_solid: typed.hatch.solid_fill, paths, seeds })
+    let drawable = |seed: &Point2D| seed.x.abs() <= GREATEST && seed.y.abs() <= GREATEST;
+    figure.seeds.extend(typed.seed_points.iter().filter(|seed| drawable(seed)));
+    let bad_seeds = typed.seed_points.iter().enumerate().filter(|(_, seed)| !drawable(seed));
+    left_out.extend(bad_seeds.map(|(at, _)| format!("seed point {}", at + 1)));
+    (figure, left_out)
+}
+
+/// The line about outlines that cannot be drawn; of many the first are named.
+fn left_out_line(names: &[String]) -> Failure {
+    const NAMED: usize = 10;
+    let named = names[..names.len().min(NAMED)].join(", ");
+    let more = if names.len() > NAMED { format!(" and {} more", names.len() - NAMED) } else { String::new() };
+    let (are, each) = if names.len() == 1 { ("is", "it") } else { ("are", "each") };
+    let why = format!("a number of {each} is not finite, or above {GREATEST:e}");
+    Failure::Draw(format!("{named}{more} {are} left out, since {why}; the rest is drawn"))
 }
 
 /// The hatch, with the numbers of its outlines narrowed if it is to be seen in single precision.
@@ -157,7 +138,7 @@ fn title(item: &Item, typed: &TypedHatch) -> String {
     format!("{}: {name}{plane}", item.origin)
 }
 
-fn path_title(at: usize, path: &HatchPath, runs: &[draw_runs::Run]) -> String {
+fn path_title(at: usize, path: &HatchPath, runs: &[Run]) -> String {
     let made_of = match &path.segments {
         HatchPathSegments::Polyline { vertices, .. } => format!("polyline, {}", counted(vertices.len(), "point")),
         HatchPathSegments::Edges(edges) => counted(edges.len(), "edge"),

@@ -71,9 +71,9 @@ macro_rules! decode {
     }};
 }
 
-// SAFETY, of every call below and of `decode!`: a function of ffi.rs takes a slice as its pointer and length, reads no byte outside a payload whatever the
-// numbers are, writes nothing but its answer and entries of the two lists, which are lent for writing and lie apart, and keeps nothing. A
-// slice's pointer is not null, also where the slice is empty.
+// SAFETY, of every call below and of `decode!`: a function of ffi.rs takes a slice as its pointer and length, reads no byte outside a
+// payload whatever the numbers are, writes nothing but its answer and entries of the two lists, which are lent for writing and lie apart,
+// and keeps nothing. A slice's pointer is not null, also where the slice is empty.
 impl HatchBody<'_> {
     /// The lengths that the lists must have. Refuses as [`HatchBody::decode_into`] does, but never for a list.
     ///

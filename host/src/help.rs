@@ -40,7 +40,7 @@ are blank or start with # are passed over. FILE - , or none, is standard input. 
 
 What is refused is a line on standard error, with the refusal's number, what it means, its bit and what to do; with
 --json it is an object too. The status is 0 if all was read, 1 if something was refused or a file cannot be read, 2 if
-the command or a line is wrong; other lines are read all the same.
+the command or a line is wrong; other lines are read all the same, but a line that is no text ends the reading.
 ";
 
 pub const PREFIX_HELP: &str = "\

@@ -17,6 +17,9 @@ use crate::request::{HatchRequest, PrefixRequest, Request, Strings};
 /// The longest line that is read: two payloads at the limit in hexadecimal, and room for the numbers.
 const LONGEST_LINE: u64 = 4 * LIMIT as u64 + 1024;
 
+/// So much of a line is looked at before more is read: a file without line ends is told from a long request by it.
+const FIRST_PART: u64 = 1 << 16;
+
 /// What is asked for.
 #[derive(Clone, Debug, PartialEq, Eq)]
 pub enum Entry {
@@ -80,8 +83,8 @@ pub struct BinaryStrings {
 }
 
 impl Input {
-    /// The items, in order. A line that is no request is a failure among them, and the lines after it are read; where a file cannot be read
-    /// there is no item after the failure.
+    /// The items, in order. A line that is no request is a failure among them, and the lines after it are read; where a file cannot be read,
+    /// or a line is no text, there is no item after the failure.
     ///
     /// ```
     /// use dwg_hatch::input::{Entry, Items};
@@ -171,6 +174,7 @@ impl Iterator for Items {
             *number += 1;
             match next_line(name, *number, lines.as_mut()) {
                 Ok(Some(line)) if lines::is_passed_over(&line) => {}
+                Ok(Some(line)) if !lines::is_text(&line) => break Some(Err(no_text(name, *number, &line))),
                 Ok(Some(line)) => return Some(item(format!("{name}:{number}"), &line)),
                 Ok(None) => break None,
                 Err(failure) => break Some(Err(failure)),
@@ -184,15 +188,32 @@ impl Iterator for Items {
 /// The next line; `None` at the end.
 fn next_line(name: &str, number: u64, lines: &mut dyn BufRead) -> Result<Option<Vec<u8>>, Failure> {
     let mut line = Vec::new();
-    let length = lines.take(LONGEST_LINE).read_until(b'\n', &mut line).map_err(|error| unreadable(name, &error))?;
-    if length as u64 == LONGEST_LINE && line.last() != Some(&b'\n') {
+    take(name, lines, FIRST_PART, &mut line)?;
+    if line.len() as u64 == FIRST_PART && line.last() != Some(&b'\n') {
+        if !lines::is_text_so_far(&line) {
+            return Err(no_text(name, number, &line));
+        }
+        take(name, lines, LONGEST_LINE - FIRST_PART, &mut line)?;
+    }
+    if line.len() as u64 == LONGEST_LINE && line.last() != Some(&b'\n') {
         return Err(Failure::Usage(format!("{name}:{number}: the line is longer than any request can be, and reading ends here")));
     }
     // Some editors put this mark before the first line.
     if number == 1 && line.starts_with(b"\xef\xbb\xbf") {
         line.drain(..3);
+        return Ok(Some(line));
     }
-    Ok((length > 0).then_some(line))
+    Ok((!line.is_empty()).then_some(line))
+}
+
+/// Adds what is left of the line, but not more than so many bytes.
+fn take(name: &str, lines: &mut dyn BufRead, most: u64, line: &mut Vec<u8>) -> Result<(), Failure> {
+    lines.take(most).read_until(b'\n', line).map(drop).map_err(|error| unreadable(name, &error))
+}
+
+fn no_text(name: &str, number: u64, line: &[u8]) -> Failure {
+    let start = shown(&line[..line.len().min(20)]);
+    Failure::Usage(format!("{name}:{number}: \"{start}\" is no text; a binary file is read with --release N, and reading ends here"))
 }
 
 fn item(origin: String, line: &[u8]) -> Result<Item, Failure> {

@@ -6,6 +6,7 @@ use crate::json::{array, double, object, or_null, string};
 use crate::outlines::{Fits, HatchEdge, HatchPath, HatchPathSegments, PatternLine, Point2D};
 use crate::prefixes::CommonEntityBits;
 use crate::refusal::Refusal;
+use crate::request::Strings;
 use crate::texts::{Source, Text};
 use crate::typed::{Name, TypedHatch};
 
@@ -25,8 +26,8 @@ fn asked(item: &Item) -> Vec<Field> {
         ("start", start.to_string()),
     ];
     if let Entry::Hatch(hatch) = &item.entry {
-        let strings = hatch.strings.as_ref().map(|strings| object([("start", strings.start.to_string()), ("end", strings.end.to_string())]));
-        fields.push(("strings", or_null(strings)));
+        let reader = |strings: &Strings| object([("start", strings.start.to_string()), ("end", strings.end.to_string())]);
+        fields.push(("strings", or_null(hatch.strings.as_ref().map(reader))));
     }
     fields
 }

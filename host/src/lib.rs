@@ -17,7 +17,7 @@
 //! ([`outlines`]), and a whole prefix. Below them are the codes of document 01's section on bitcursor.rs ([`codes`]), texts ([`texts`]), the
 //! entity prefix ([`prefixes`]), and hatch bodies with their two lists, as the library hands them over ([`hatches`]).
 //!
-//! The tool's commands have a module each, and share [`input`], [`lines`], [`words`] and [`failure`].
+//! The tool's commands have a module each, and share [`words`], [`input`], [`lines`], [`each`] and [`failure`].
 
 pub mod answer;
 pub mod codes;
@@ -27,6 +27,7 @@ mod draw_runs;
 mod draw_splines;
 mod draw_svg;
 mod draw_view;
+pub mod each;
 pub mod failure;
 mod ffi;
 mod hatch_form;

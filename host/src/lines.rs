@@ -15,6 +15,22 @@ pub fn is_passed_over(line: &[u8]) -> bool {
     matches!(line.trim_ascii().first(), None | Some(b'#'))
 }
 
+/// Whether a line is text: UTF-8, without control characters that are no whitespace.
+///
+/// ```
+/// use dwg_hatch::lines::is_text;
+/// assert!(is_text(b"hatch 2 0 A9\r\n") && !is_text(b"\x7fELF\x02\x01\x01\0") && !is_text(b"\xff\xfeh\0"));
+/// ```
+pub fn is_text(line: &[u8]) -> bool {
+    std::str::from_utf8(line).is_ok_and(|text| !text.contains(|letter: char| letter.is_control() && !letter.is_ascii_whitespace()))
+}
+
+/// The same of a line's first part, whose last character may be cut.
+pub(crate) fn is_text_so_far(part: &[u8]) -> bool {
+    let whole = std::str::from_utf8(part).map_or_else(|error| error.valid_up_to(), str::len);
+    part.len() - whole < 4 && is_text(&part[..whole])
+}
+
 /// The fields of a request, by their names in the protocol.
 const HATCH: [&str; 3] = ["REL", "START", "HEX"];
 const HATCHS: [&str; 6] = ["REL", "START", "HEX", "STRSTART", "STREND", "STRHEX"];
@@ -44,10 +60,7 @@ pub fn why_not(line: &[u8]) -> String {
 }
 
 fn no_such_request(name: &[u8]) -> String {
-    if name.iter().all(|byte| byte.is_ascii_graphic()) {
-        return format!("there is no request \"{}\"; a line is hatch, hatchs or prefix, or starts with #", shown(name));
-    }
-    format!("\"{}\" is no request, nor text; a binary file is read with --release N", shown(&name[..name.len().min(20)]))
+    format!("there is no request \"{}\"; a line is hatch, hatchs or prefix, or starts with #", shown(name))
 }
 
 /// The first field that is wrong. A lent list's lengths may stand behind a hatch's fields.

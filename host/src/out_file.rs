@@ -24,7 +24,7 @@ pub(crate) fn is_no_input(file: &OsStr, input: &Input) -> Result<(), Failure> {
 pub(crate) fn write(file: &OsStr, bytes: &[u8]) -> Result<(), Failure> {
     let unwritable = |error: io::Error| {
         let advice = "name a file in a folder that can be written to, or leave --output out";
-        Failure::Read(format!("{} cannot be written: {error}; {advice}", shown(file.as_bytes())))
+        Failure::Draw(format!("{} cannot be written: {error}; {advice}", shown(file.as_bytes())))
     };
     // Behind a link the file that it leads to is replaced, and the link stays.
     let path = fs::canonicalize(file).unwrap_or_else(|_| PathBuf::from(file));

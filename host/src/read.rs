@@ -2,15 +2,17 @@
 
 use std::io::{BufWriter, Write};
 
+use crate::codes::Reading;
+use crate::each::Problem;
 use crate::failure::Failure;
 use crate::hatch_form;
 use crate::hatches::{Hatch, HatchBody, ReadHatch};
 use crate::input::{Entry, Input, Item, Kind};
 use crate::json_forms;
 use crate::payload::Zeros;
-use crate::prefixes::read_common_entity_bits;
+use crate::prefixes::{read_common_entity_bits, CommonEntityBits};
 use crate::refusal::Refusal;
-use crate::request::Lent;
+use crate::request::{HatchRequest, Lent, PrefixRequest};
 use crate::summary;
 use crate::typed::TypedHatch;
 use crate::words::{Command, Options};
@@ -31,63 +33,56 @@ pub const PREFIX: Command = Command { name: "prefix", kind: Kind::Prefix, ..READ
 /// let failure = read::run(&read::READ, &Options::default(), &missing, Vec::new(), Vec::new()).unwrap_err();
 /// assert_eq!(failure.status(), 1);
 /// ```
-pub fn run(command: &Command, options: &Options, input: &Input, output: impl Write, mut errors: impl Write) -> Result<u8, Failure> {
+pub fn run(command: &Command, options: &Options, input: &Input, output: impl Write, errors: impl Write) -> Result<u8, Failure> {
     let mut output = BufWriter::with_capacity(1 << 16, output);
     let mut zeros = Zeros::default();
-    let mut status = 0;
-    for item in input.items()? {
-        let read = item.and_then(|item| taken(command, item)).map(|item| read(&item, &mut zeros, options.has("--json")));
-        let (text, problem) = match read {
-            Ok((text, refused)) => (text, refused.map(|line| (1, line))),
-            Err(failure) => (String::new(), Some((failure.status(), failure.to_string()))),
-        };
+    let json = options.has("--json");
+    input.each(errors, |item| {
+        taken(command, item)?;
+        let read = if json { json_text(item, &mut zeros) } else { summary_text(item, &mut zeros) };
+        if let (true, Err(refusal)) = (json, &read) {
+            writeln!(output, "{}", json_forms::refusal(item, refusal))?;
+        }
+        if let Ok(text) = &read {
+            writeln!(output, "{text}")?;
+        }
         // Written out at once, so that both streams are in order on a terminal, and no one waits for what is read.
-        output.write_all(text.as_bytes())?;
         output.flush()?;
-        if let Some((number, line)) = problem {
-            status = status.max(number);
-            let _ = writeln!(errors, "dwg-hatch: {line}");
-        }
-    }
-    Ok(status)
+        read.map(drop).map_err(Problem::Refused)
+    })
 }
 
-/// The item, if the command reads it.
-fn taken(command: &Command, item: Item) -> Result<Item, Failure> {
+/// Whether the command reads the item.
+fn taken(command: &Command, item: &Item) -> Result<(), Failure> {
     match (command.kind, &item.entry) {
-        (Kind::Prefix, Entry::Hatch(_)) => Err(Failure::Usage(format!("{}: a hatch is read by dwg-hatch read; here a line is prefix", item.origin))),
-        _ => Ok(item),
+        (Kind::Prefix, Entry::Hatch(_)) => Err(Failure::Usage("a hatch is read by dwg-hatch read; here a line is prefix".to_string())),
+        _ => Ok(()),
     }
 }
 
-/// The item as text, and a line about its refusal if it is refused.
-fn read(item: &Item, zeros: &mut Zeros, json: bool) -> (String, Option<String>) {
-    let text = match &item.entry {
-        Entry::Hatch(request) => {
-            let typed = typed(&request.body(zeros), request.lent);
-            typed.map(|typed| if json { json_forms::hatch(item, &typed) } else { summary::hatch(item, request, &typed) })
-        }
-        Entry::Prefix(request) => {
-            zeros.reserve(&request.payload);
-            let reading = read_common_entity_bits(zeros.lend(&request.payload), request.start, request.release);
-            reading.map(|(data, place)| match json {
-                true => json_forms::prefix(item, &data, place),
-                false => summary::prefix(item, request, &data, place),
-            })
-        }
-    };
-    match text {
-        Ok(text) => (format!("{text}\n"), None),
-        Err(refusal) => {
-            let text = if json { format!("{}\n", json_forms::refusal(item, &refusal)) } else { String::new() };
-            (text, Some(format!("{}: {refusal}", item.origin)))
-        }
+fn json_text(item: &Item, zeros: &mut Zeros) -> Result<String, Refusal> {
+    match &item.entry {
+        Entry::Hatch(request) => typed(request, zeros).map(|typed| json_forms::hatch(item, &typed)),
+        Entry::Prefix(request) => prefix(request, zeros).map(|(data, place)| json_forms::prefix(item, &data, place)),
     }
+}
+
+fn summary_text(item: &Item, zeros: &mut Zeros) -> Result<String, Refusal> {
+    match &item.entry {
+        Entry::Hatch(request) => typed(request, zeros).map(|typed| summary::hatch(item, request, &typed)),
+        Entry::Prefix(request) => prefix(request, zeros).map(|(data, place)| summary::prefix(item, request, &data, place)),
+    }
+}
+
+fn prefix(request: &PrefixRequest, zeros: &mut Zeros) -> Reading<CommonEntityBits> {
+    zeros.reserve(&request.payload);
+    read_common_entity_bits(zeros.lend(&request.payload), request.start, request.release)
 }
 
 /// The body with each double as its 64 bits.
-fn typed(body: &HatchBody, lent: Option<Lent>) -> Result<TypedHatch<u64>, Refusal> {
-    let read = lists(body, lent, |numbers, words| body.decode_bits_into(numbers, words))?;
+fn typed(request: &HatchRequest, zeros: &mut Zeros) -> Result<TypedHatch<u64>, Refusal> {
+    let body = request.body(zeros);
+    let read = lists(&body, request.lent, |numbers, words| body.decode_bits_into(numbers, words))?;
     Ok(body.read_as(read))
 }
 

@@ -88,6 +88,14 @@ pub struct HatchRequest {
 
 impl HatchRequest {
     /// The body that the request names, its zeros lent.
+    ///
+    /// ```
+    /// use dwg_hatch::request::{parse, Request};
+    /// let Some(Request::Hatch(request)) = parse(b"hatch 2 0 A9AAA0") else { panic!("no hatch request") };
+    /// let mut zeros = dwg_hatch::payload::Zeros::default();
+    /// assert!(request.body(&mut zeros).read()?.paths.is_empty());
+    /// # Ok::<(), dwg_hatch::Refusal>(())
+    /// ```
     pub fn body<'a>(&'a self, zeros: &'a mut Zeros) -> HatchBody<'a> {
         zeros.reserve(&self.payload);
         self.strings.iter().for_each(|strings| zeros.reserve(&strings.payload));

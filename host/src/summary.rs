@@ -27,7 +27,8 @@ pub(crate) fn hatch(item: &Item, request: &HatchRequest, typed: &TypedHatch<u64>
     let hatch = &typed.hatch;
     let mut lines = vec![title(item, "hatch", request.release, request.start, hatch.places.main)];
     if let Some(strings) = &request.strings {
-        lines.push(line("strings", format!("bits {} to {}, of bits {} to {}", strings.start, hatch.places.string, strings.start, strings.end)));
+        let (start, end) = (strings.start, strings.end);
+        lines.push(line("strings", format!("bits {start} to {}, of bits {start} to {end}", hatch.places.string)));
     }
     if let Some((fill, name)) = hatch.gradient.as_ref().zip(typed.gradient_name.as_ref()) {
         lines.extend(gradient(fill, name));
@@ -57,7 +58,8 @@ pub(crate) fn prefix(item: &Item, request: &PrefixRequest, data: &CommonEntityBi
         line("weight", format!("{} (a code, no width); invisibility {}", data.lineweight, data.invisibility)),
         line("flags", format!("plot style {}, material {}, shadow {}", data.plotstyle_flag, data.material_flag, data.shadow_flags)),
         line("", format!("visual styles: full {full}, face {face}, edge {edge}")),
-        line("links", format!("no dictionary: {}, no links: {}, binary chain: {}", yes(data.no_xdictionary), yes(data.nolinks), yes(data.binary_chain))),
+        line("links", format!("no dictionary: {}, no links: {}", yes(data.no_xdictionary), yes(data.nolinks))),
+        line("", format!("binary chain: {}", yes(data.binary_chain))),
         line("passed", format!("XDATA: {}, graphics: {}", yes(data.had_extended_data), yes(data.had_graphics))),
         line("data end", data.data_end_bits.map_or("none".to_string(), |bits| format!("bit {bits}"))),
     ];
@@ -85,9 +87,10 @@ fn gradient(fill: &GradientFill<u64>, name: &Name) -> Vec<String> {
 }
 
 fn record(hatch: &Hatch<u64>, name: &Name) -> Vec<String> {
-    let switches = [if hatch.solid_fill { "solid" } else { "not solid" }, if hatch.associative { "associative" } else { "not associative" }];
+    let solid = if hatch.solid_fill { "solid" } else { "not solid" };
+    let associative = if hatch.associative { "associative" } else { "not associative" };
     let mut lines = vec![
-        line("pattern", format!("{}; {}", text(&hatch.pattern_name, name), switches.join(", "))),
+        line("pattern", format!("{}; {solid}, {associative}", text(&hatch.pattern_name, name))),
         line("", format!("style {}, type {}", named(hatch.pattern_style, &STYLES), named(hatch.pattern_type, &TYPES))),
     ];
     if !hatch.solid_fill {

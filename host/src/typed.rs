@@ -124,7 +124,17 @@ impl HatchBody<'_> {
         Ok(self.read_as(self.decode()?))
     }
 
-    /// The same with each double as its 64 bits.
+    /// The same with each double as its 64 bits, a NaN's too.
+    ///
+    /// ```
+    /// use dwg_hatch::request::{parse, Request};
+    /// // A seed point whose x is a NaN with a pattern of its own, and whose y is minus zero.
+    /// let Some(Request::Hatch(request)) = parse(b"hatch 2 0 A9AA901010000000000F07F00000000000000800") else { panic!("no request") };
+    /// let mut zeros = dwg_hatch::payload::Zeros::default();
+    /// let seeds = request.body(&mut zeros).read_bits()?.seed_points;
+    /// assert_eq!(seeds, [dwg_hatch::Point2D { x: 0x7ff0_0000_0000_0001, y: 1 << 63 }]);
+    /// # Ok::<(), dwg_hatch::Refusal>(())
+    /// ```
     pub fn read_bits(&self) -> Result<TypedHatch<u64>, Refusal> {
         Ok(self.read_as(self.decode_bits()?))
     }

@@ -149,6 +149,9 @@ fn outlines_without_finite_numbers_are_left_out() {
         let bulged = polyline(&TRIANGLE, Some(bad));
         assert!(refuses(&call(&["draw"], bulged.as_bytes()), 1).contains("path 1"), "a bulge of {bad}");
     }
+    let seeds = |count: usize| hatch(b"", Vec::new(), vec![point(f64::NAN, 0.0); count]);
+    assert!(refuses(&call(&["draw"], seeds(2).as_bytes()), 1).contains("1: seed point 1, seed point 2 are left out, since a number of each is"));
+    assert!(refuses(&call(&["draw"], seeds(12).as_bytes()), 1).contains("9, seed point 10 and 2 more are left out"));
     let large = polyline(&[(0.0, 0.0), (1e39, 0.0), (0.0, 1.0)], None);
     refuses(&call(&["draw", "--single"], large.as_bytes()), 1);
 }

@@ -172,23 +172,50 @@ fn bad_lines_are_told_in_one_line() {
         ("tv 9 0 80", "tv is a single code, which dwg-hatch answer reads"),
         ("HATCH 2 0 A9AAA0", "there is no request \"HATCH\""),
         ("{\"hatch\": 2}", "there is no request \"{\"hatch\":\""),
-        ("h\u{e9} 2 0 A9", "is no request, nor text; a binary file is read with --release N"),
+        ("h\u{e9} 2 0 A9", "there is no request \"h\u{e9}\""),
     ];
     for (line, told) in cases {
         let error = refuses(&call(&["read"], line.as_bytes()), 2);
         assert!(error.starts_with("dwg-hatch: standard input:1: ") && error.contains(told), "{line}: {error}");
     }
-    refuses(&call(&["read"], b"hatch 2 0 \xff\xfe"), 2);
-    refuses(&call(&["read"], b"\xff\xfe\0h\0a\0t\0c\0h"), 2);
     refuses(&call(&["read"], format!("hatch 2 0 {}\n", "0".repeat(100_001)).as_bytes()), 2);
     let long = refuses(&call(&["read"], "x".repeat(100_000).as_bytes()), 2);
     assert!(long.len() < 400, "{long}");
 }
 
+/// A binary file among request lines, or a text in 16-bit units: one line, and not one for each of its lines.
+#[test]
+fn what_is_no_text_is_told_once() {
+    let library = fs::read(env!("CARGO_BIN_EXE_dwg-hatch")).expect("a binary file");
+    let utf16: Vec<u8> = "\u{feff}hatch 2 0 A9AAA0\nhatch 2 0 A9AAA0\n".encode_utf16().flat_map(u16::to_le_bytes).collect();
+    for input in [&library[..], &utf16, b"hatch 2 0 \xff\xfe\n\xff\n", b"hatch 2 0 A9\0\nx\n", &[0; 70_000], &[0xff; 70_000]] {
+        let told = refuses(&call(&["read"], input), 2);
+        assert!(told.contains("standard input:1: ") && told.contains("is no text; a binary file is read with --release N"), "{told}");
+    }
+    let zeros = fs::File::open("/dev/zero").expect("/dev/zero");
+    refuses(&tool().arg("read").stdin(zeros).output().expect("the tool starts"), 2);
+    // A comment may have any letters, also where a part of the line ends within one, and a mark alone is no request.
+    for marks in ["#", "# "] {
+        assert_eq!(answers(&["read"], format!("{marks}{}\n", "\u{e9}".repeat(40_000)).as_bytes()), "");
+    }
+    assert_eq!(answers(&["read"], "\u{feff}".as_bytes()), "");
+    assert_eq!(answers(&["read"], b"# caf\xe9\n"), "");
+}
+
+/// A request that is longer than the part of a line that is looked at first.
+#[test]
+fn long_lines_are_read() {
+    for spare in [0, 1, 32_757, 32_758, 32_759, 32_760, 32_761, 200_000] {
+        let printed = answers(&["read"], format!("hatch 2 0 {EMPTY}{}\n\nhatch 2 0 {EMPTY}", "00".repeat(spare)).as_bytes());
+        let titles: Vec<&str> = printed.lines().filter(|line| !line.starts_with(' ')).collect();
+        assert_eq!(titles, [1, 3].map(|line| format!("standard input:{line}: hatch, release 2 (R2000), bits 0 to 20")), "{spare}");
+    }
+}
+
 #[test]
 fn a_file_that_cannot_be_read_is_one_line_and_status_1() {
     let hidden = file("hidden.txt", b"hatch 2 0 A9AAA0\n");
-    fs::set_permissions(&hidden, fs::Permissions::from_mode(0)).expect("permissions");
+    fs::set_permissions(&hidden, fs::Permissions::from_mode(0o000)).expect("permissions");
     // Who runs the tests as root may read every file.
     let unreadable = fs::read(&hidden).is_err();
     for before in ["read", "read --json", "prefix", "read --release 2", "prefix --release 2", "read --release 2 --strings"] {
@@ -238,7 +265,8 @@ fn huge_input_is_refused() {
     let output = tool().args(["read", "--release", "2"]).stdin(zeros()).output().expect("the tool starts");
     assert!(refuses(&output, 1).contains("refusal 10 at bit 0: a payload is longer than 268,435,456 bytes"));
     let most = u64::MAX;
-    for line in [format!("hatch {most} {most} -"), format!("hatchs 2 {most} z{most} {most} {most} z{most} L {most} {most}"), format!("prefix 7 {most} -")] {
+    let with_reader = format!("hatchs 2 {most} z{most} {most} {most} z{most} L {most} {most}");
+    for line in [format!("hatch {most} {most} -"), with_reader, format!("prefix 7 {most} -")] {
         refuses(&call(&["read"], line.as_bytes()), 1);
     }
     let options = format!("read --release {most} --start {most} --strings /dev/null --string-start {most} --string-end {most}");
