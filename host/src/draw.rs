@@ -1,6 +1,7 @@
 //! The command `draw`: the outlines of hatches as a picture.
 //!
-//! Outlines are drawn in each hatch's own plane, as its coordinates stand; elevation and extrusion move nothing.
+//! Outlines are drawn in each hatch's own plane, as its coordinates stand. Only where the extrusion points straight down they are mirrored, as they
+//! are seen from above: there the plane's x axis is the drawing's, turned round (the arbitrary axis rule of DWG).
 
 use std::io::Write;
 
@@ -92,8 +93,10 @@ fn picture(input: &Input, figures: &[Figure], asked: Option<Extents>, width: u32
 fn figure(item: &Item, typed: &TypedHatch) -> (Figure, Vec<String>) {
     let mut figure = Figure { title: title(item, typed), is_solid: typed.hatch.solid_fill, paths: Vec::new(), seeds: Vec::new() };
     let mut left_out = Vec::new();
+    let down = points_down(typed);
     for (at, path) in typed.paths.iter().enumerate() {
         let runs = draw_runs::of_path(path);
+        let runs = if down { runs.iter().map(Run::mirrored).collect() } else { runs };
         match runs.iter().all(Run::is_drawable) {
             true if runs.is_empty() => {}
             true => figure.paths.push(Outline { title: path_title(at, path, &runs), runs }),
@@ -101,7 +104,8 @@ fn figure(item: &Item, typed: &TypedHatch) -> (Figure, Vec<String>) {
         }
     }
     let drawable = |seed: &Point2D| seed.x.abs() <= GREATEST && seed.y.abs() <= GREATEST;
-    figure.seeds.extend(typed.seed_points.iter().filter(|seed| drawable(seed)));
+    let seen = |seed: &Point2D| if down { draw_runs::mirrored(*seed) } else { *seed };
+    figure.seeds.extend(typed.seed_points.iter().filter(|seed| drawable(seed)).map(seen));
     let bad_seeds = typed.seed_points.iter().enumerate().filter(|(_, seed)| !drawable(seed));
     left_out.extend(bad_seeds.map(|(at, _)| format!("seed point {}", at + 1)));
     (figure, left_out)
@@ -134,8 +138,18 @@ fn title(item: &Item, typed: &TypedHatch) -> String {
         (Name::Characters(name), None) => name.clone(),
     };
     let [x, y, z] = typed.hatch.extrusion;
-    let plane = if [x, y, z] == [0.0, 0.0, 1.0] { String::new() } else { format!(" (in its own plane; its extrusion is {x:?}, {y:?}, {z:?})") };
+    let plane = match [x, y, z] == [0.0, 0.0, 1.0] {
+        true => String::new(),
+        false if points_down(typed) => " (mirrored, since its extrusion points down)".to_string(),
+        false => format!(" (in its own plane; its extrusion is {x:?}, {y:?}, {z:?})"),
+    };
     format!("{}: {name}{plane}", item.origin)
+}
+
+/// Whether the hatch's plane is seen from behind.
+fn points_down(typed: &TypedHatch) -> bool {
+    let [x, y, z] = typed.hatch.extrusion;
+    x == 0.0 && y == 0.0 && z < 0.0
 }
 
 fn path_title(at: usize, path: &HatchPath, runs: &[Run]) -> String {

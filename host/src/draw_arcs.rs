@@ -2,7 +2,7 @@
 
 use std::f64::consts::{PI, TAU};
 
-use crate::draw_runs::{Run, Step};
+use crate::draw_runs::{self, Run, Step};
 use crate::outlines::{Point2D, Vertex};
 
 /// Below this bulge a segment is drawn as a cubic Bezier curve, which is off the arc by less than 1e-11 of the chord. The arc's centre would
@@ -63,6 +63,11 @@ impl Arc {
     /// The same arc from its end to its start.
     pub fn reversed(&self) -> Arc {
         Arc { start: self.start + self.sweep, sweep: -self.sweep, ..*self }
+    }
+
+    /// The same arc with the sign of each x changed: the minor axis is then on the major one's other side.
+    pub fn mirrored(&self) -> Arc {
+        Arc { center: draw_runs::mirrored(self.center), major: draw_runs::mirrored(self.major), ratio: -self.ratio, ..*self }
     }
 
     /// Whether it runs counterclockwise. A ratio below 0 turns it round.

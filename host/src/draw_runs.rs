@@ -74,6 +74,16 @@ impl Run {
         Run { start: self.end(), steps: steps.collect(), ..*self }
     }
 
+    /// The same run with the sign of each x changed.
+    pub fn mirrored(&self) -> Run {
+        let steps = self.steps.iter().map(|step| match step {
+            Step::Line(end) => Step::Line(mirrored(*end)),
+            Step::Curve(points) => Step::Curve(points.map(mirrored)),
+            Step::Arc(arc, end) => Step::Arc(arc.mirrored(), mirrored(*end)),
+        });
+        Run { start: mirrored(self.start), steps: steps.collect(), ..*self }
+    }
+
     /// Whether every number of it is finite and none is above [`GREATEST`]. A NaN is not.
     pub fn is_drawable(&self) -> bool {
         let numbers = self.steps.iter().flat_map(Step::numbers);
@@ -91,6 +101,11 @@ impl Run {
             }
         }
     }
+}
+
+/// A point with the sign of its x changed.
+pub(crate) fn mirrored(point: Point2D) -> Point2D {
+    Point2D { x: -point.x, y: point.y }
 }
 
 /// A path's runs as one way round: an edge whose end is nearer to the edge before it than its start is taken from its end.
@@ -182,7 +197,7 @@ mod tests {
     }
 
     #[test]
-    fn a_run_reversed_twice_is_itself() {
+    fn a_run_reversed_or_mirrored_twice_is_itself() {
         let point = |x, y| Point2D { x, y };
         let arc = Arc::of_edge(point(1.0, 1.0), point(2.0, 0.0), 0.5, [0.25, 1.25], false);
         let steps = vec![Step::Line(point(1.0, 2.0)), Step::Curve([point(2.0, 3.0), point(3.0, 3.0), arc.at(arc.start)]), Step::Arc(arc, arc.at(-1.25))];
@@ -192,6 +207,12 @@ mod tests {
         let Step::Arc(turned, _) = &back.steps[0] else { panic!("no arc") };
         assert!(turned.is_counter_clockwise() != arc.is_counter_clockwise() && turned.at(turned.start) == run.end());
         assert_eq!(back.reversed(), run);
+
+        let mirror = run.mirrored();
+        assert_eq!((mirror.start, mirror.end()), (mirrored(run.start), mirrored(run.end())));
+        let Step::Arc(turned, _) = &mirror.steps[2] else { panic!("no arc") };
+        assert!([-0.25, -0.7, -1.25].iter().all(|t| turned.at(*t) == mirrored(arc.at(*t))));
+        assert!(turned.is_counter_clockwise() != arc.is_counter_clockwise() && mirror.mirrored() == run);
     }
 
     #[test]

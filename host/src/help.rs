@@ -75,9 +75,9 @@ usage: dwg-hatch draw [--output FILE] [--view X,Y,WIDTH,HEIGHT] [--width PIXELS]
 Where the input is, its request lines and the options for a binary file are as dwg-hatch read --help has them. Lines with a
 prefix have no outlines and are passed over. No file of the input is written to.
 
-Each hatch is drawn in its own plane: its elevation and extrusion move nothing. A spline whose knots, degree or weights make
-no curve, or that has fit points alone, is drawn as its control points or fit points, joined by dashed lines; the outline's
-title says so. An outline with a number that is not finite or above 1e15 is left out.
+Each hatch is drawn in its own plane, mirrored where its extrusion points straight down. A spline whose knots, degree or
+weights make no curve, or that has fit points alone, is drawn as its control points or fit points, joined by dashed lines;
+the outline's title says so. An outline with a number that is not finite or above 1e15 is left out.
 
 What is refused, left out or no request is a line on standard error. The status is 0 if all was drawn, 1 if something was
 refused or left out or a file cannot be read or written, 2 if the command or a line is wrong; what else there is is drawn

@@ -8,7 +8,7 @@ use std::process::Output;
 
 use calls::{answers, call, file, refuses};
 use drawings::layouts::{Numbers, Plan};
-use drawings::{hatch, line, point, polyline, TRIANGLE};
+use drawings::{hatch, hatch_along, line, point, polyline, TRIANGLE};
 use svg_text::{elements, path_numbers};
 
 /// A picture, a line on standard error and the status. Gives both texts.
@@ -52,6 +52,16 @@ fn single_precision_is_seen() {
     assert!(doubles.contains("M100 800L500 800L500 500") && doubles.contains("in double precision"), "{doubles}");
     let singles = answers(&[&words[..], &["--single"]].concat(), input.as_bytes());
     assert!(singles.contains("M0 800L400 800L400 500") && singles.contains("in single precision"), "{singles}");
+}
+
+/// Seen from above a hatch whose extrusion points down is mirrored; other planes are drawn as they are, and named.
+#[test]
+fn a_plane_seen_from_behind_is_mirrored() {
+    let seed = |extrusion| answers(&["draw", "--view=-10,0,20,20", "--width=200"], hatch_along(extrusion, b"A", vec![], vec![point(4.0, 5.0)]).as_bytes());
+    let (up, down, other) = (seed([0.0, 0.0, 1.0]), seed([0.0, 0.0, -1.0]), seed([0.0, 0.6, -0.8]));
+    assert!(up.contains("d=\"M136 150L144 150M") && up.contains(": A</title>"), "{up}");
+    assert!(down.contains("d=\"M56 150L64 150M") && down.contains(": A (mirrored, since its extrusion points down)</title>"), "{down}");
+    assert!(other.contains("d=\"M136 150L144 150M") && other.contains(": A (in its own plane; its extrusion is 0.0, 0.6, -0.8)</title>"), "{other}");
 }
 
 #[test]

@@ -19,9 +19,14 @@ pub fn point(x: f64, y: f64) -> Point2D<u64> {
 }
 
 pub fn hatch(name: &[u8], paths: Vec<HatchPath<u64>>, seeds: Vec<Point2D<u64>>) -> String {
+    hatch_along([0.0, 0.0, 1.0], name, paths, seeds)
+}
+
+/// The same with an extrusion.
+pub fn hatch_along([x, y, z]: [f64; 3], name: &[u8], paths: Vec<HatchPath<u64>>, seeds: Vec<Point2D<u64>>) -> String {
     let names = [Vec::new(), name.to_vec()].map(Name::Bytes);
     let fill = Fill { doubles: [0; 3], colours: Vec::new() };
-    let plane = [0.0, 0.0, 0.0, 1.0].map(f64::to_bits);
+    let plane = [0.0, x, y, z].map(f64::to_bits);
     let plan = Plan { release: 2, names, gradient: false, fill, plane, style: 0, solid: true, paths, lines: Vec::new(), seeds };
     line(&plan, &mut Numbers(1), false)
 }
