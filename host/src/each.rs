@@ -35,8 +35,8 @@ impl From<io::Error> for Problem {
 
 impl Input {
     /// Does the work for each item, in order. Each problem is one line on `errors`, with the item's origin, and the next item's turn comes; but
-    /// a stream that fails ends the work. Gives the tool's status: 0 if all was done, 1 if something was refused or a file cannot be
-    /// read, 2 if a line was wrong.
+    /// a file or a stream that fails ends the work, and is the failure. Gives the tool's status: 0 if all was done, 1 if something was refused,
+    /// 2 if a line was wrong.
     ///
     /// ```
     /// use dwg_hatch::{each::Problem, input::{Entry, Input}, payload::Zeros};
@@ -55,6 +55,7 @@ impl Input {
         let mut status = 0;
         for item in self.items()? {
             let (number, line) = match item {
+                Err(failure @ (Failure::Read(_) | Failure::Io(_))) => return Err(failure),
                 Err(failure) => (failure.status(), failure.to_string()),
                 Ok(item) => match work(&item) {
                     Ok(()) => continue,

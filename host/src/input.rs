@@ -104,6 +104,22 @@ impl Input {
             Input::Binary(binary) => Ok(Items { left: Left::One(Some(binary.item()?)) }),
         }
     }
+
+    /// The name of the file that has the requests or the main payload, for messages.
+    pub fn name(&self) -> String {
+        match self {
+            Input::Requests(file) | Input::Binary(Binary { file, .. }) => name(file),
+        }
+    }
+
+    /// The files that are read; standard input is none.
+    pub fn files(&self) -> Vec<&OsStr> {
+        let files = match self {
+            Input::Requests(file) => [Some(file), None],
+            Input::Binary(binary) => [Some(&binary.file), binary.strings.as_ref().map(|strings| &strings.file)],
+        };
+        files.into_iter().flatten().map(OsString::as_os_str).filter(|file| *file != "-").collect()
+    }
 }
 
 impl Binary {

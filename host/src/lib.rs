@@ -21,6 +21,12 @@
 
 pub mod answer;
 pub mod codes;
+pub mod draw;
+mod draw_arcs;
+mod draw_runs;
+mod draw_splines;
+mod draw_svg;
+mod draw_view;
 pub mod each;
 pub mod failure;
 mod ffi;
@@ -31,6 +37,7 @@ pub mod input;
 pub mod json;
 mod json_forms;
 pub mod lines;
+mod out_file;
 mod outline_lists;
 pub mod outlines;
 pub mod payload;

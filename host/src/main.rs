@@ -8,7 +8,7 @@ use std::io::{self, Write};
 use std::process::ExitCode;
 
 use dwg_hatch::failure::{shown, Failure};
-use dwg_hatch::read;
+use dwg_hatch::{draw, read};
 use dwg_hatch::words::{Command, Words};
 use help::TRY_HELP;
 
@@ -31,6 +31,7 @@ fn run(words: &[OsString]) -> Result<u8, Failure> {
     match command.to_str() {
         Some("read") => reads(&read::READ, help::READ_HELP, words),
         Some("prefix") => reads(&read::PREFIX, help::PREFIX_HELP, words),
+        Some("draw") => draws(words),
         Some("answer") => answer(words),
         Some("--help" | "-h" | "help") if words.is_empty() => print(help::HELP),
         Some(word @ ("--help" | "-h" | "help")) => Err(Failure::Usage(format!("{word} takes nothing after it; {TRY_HELP}"))),
@@ -42,6 +43,13 @@ fn reads(command: &Command, help: &str, words: &[OsString]) -> Result<u8, Failur
     match command.parse(words)? {
         Words::Help => print(help),
         Words::Run { options, input } => read::run(command, &options, &input, io::stdout().lock(), io::stderr().lock()),
+    }
+}
+
+fn draws(words: &[OsString]) -> Result<u8, Failure> {
+    match draw::DRAW.parse(words)? {
+        Words::Help => print(help::DRAW_HELP),
+        Words::Run { options, input } => draw::run(&options, &input, io::stdout().lock(), io::stderr().lock()),
     }
 }
 

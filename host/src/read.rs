@@ -6,7 +6,7 @@ use crate::codes::Reading;
 use crate::each::Problem;
 use crate::failure::Failure;
 use crate::hatch_form;
-use crate::hatches::ReadHatch;
+use crate::hatches::{Hatch, HatchBody, ReadHatch};
 use crate::input::{Entry, Input, Item, Kind};
 use crate::json_forms;
 use crate::payload::Zeros;
@@ -79,13 +79,23 @@ fn prefix(request: &PrefixRequest, zeros: &mut Zeros) -> Reading<CommonEntityBit
     read_common_entity_bits(zeros.lend(&request.payload), request.start, request.release)
 }
 
-/// The body with each double as its 64 bits. Lists of the lengths that a request lends may be too short, which is refused (11).
+/// The body with each double as its 64 bits.
 fn typed(request: &HatchRequest, zeros: &mut Zeros) -> Result<TypedHatch<u64>, Refusal> {
     let body = request.body(zeros);
-    let Lent { words, numbers } = hatch_form::lengths(&body, request.lent)?;
-    let (mut words, mut numbers) = (vec![0; words], vec![0; numbers]);
-    let hatch = body.decode_bits_into(&mut numbers, &mut words)?;
+    let read = lists(&body, request.lent, |numbers, words| body.decode_bits_into(numbers, words))?;
+    Ok(body.read_as(read))
+}
+
+/// The body's record and lists, by the call that is given. Lists of the lengths that a request lends may be too short, which is refused (11).
+pub(crate) fn lists<Double: Clone + Default>(
+    body: &HatchBody,
+    lent: Option<Lent>,
+    decode: impl FnOnce(&mut [Double], &mut [u32]) -> Result<Hatch<Double>, Refusal>,
+) -> Result<ReadHatch<Double>, Refusal> {
+    let Lent { words, numbers } = hatch_form::lengths(body, lent)?;
+    let (mut words, mut numbers) = (vec![0; words], vec![Double::default(); numbers]);
+    let hatch = decode(&mut numbers, &mut words)?;
     words.truncate(hatch.words_used);
     numbers.truncate(hatch.numbers_used);
-    Ok(body.read_as(ReadHatch { hatch, words, numbers }))
+    Ok(ReadHatch { hatch, words, numbers })
 }

@@ -97,7 +97,7 @@ fn lines_of_any_bytes_are_answered() {
 #[test]
 fn help_is_there_for_all_commands() {
     let help = answers(&["--help"], b"");
-    for (command, option) in [("answer", "--f64"), ("read", "--json"), ("prefix", "--json")] {
+    for (command, option) in [("answer", "--f64"), ("read", "--json"), ("prefix", "--json"), ("draw", "--view")] {
         assert!(help.contains(&format!("\n  {command} ")), "{command}");
         for word in ["--help", "-h"] {
             let help = answers(&[command, word], b"");

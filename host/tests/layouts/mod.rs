@@ -1,5 +1,6 @@
 //! Hatch bodies laid out from numbers of a generator, by document 01's field order and codes, so that what is read can be compared with
-//! what was laid out. Written from document 01, and not from the reader.
+//! what was laid out. Written from document 01, and not from the reader. The samples are laid out by it too (examples/samples).
+#![allow(dead_code)]
 
 use dwg_hatch::{ControlPoint, Fits, HatchEdge, HatchPath, HatchPathSegments, Name, PatternLine, Point2D, Vertex};
 
@@ -87,12 +88,23 @@ impl Numbers {
 /// What a body is laid out from.
 pub struct Plan {
     pub release: u64,
+    /// The gradient's name and the pattern's.
     pub names: [Name; 2],
     pub gradient: bool,
+    pub fill: Fill,
+    /// The elevation and the extrusion.
+    pub plane: [u64; 4],
+    pub style: usize,
     pub solid: bool,
     pub paths: Vec<HatchPath<u64>>,
     pub lines: Vec<PatternLine<u64>>,
     pub seeds: Vec<Point2D<u64>>,
+}
+
+/// A gradient's doubles (angle, shift, tint) and colours (a double, a short, rgb, a byte).
+pub struct Fill {
+    pub doubles: [u64; 3],
+    pub colours: Vec<(u64, usize, usize, u64)>,
 }
 
 impl Plan {
@@ -101,7 +113,9 @@ impl Plan {
         let (solid, names) = (n.coin(), [n.name(wide), n.name(wide)]);
         let lines = if solid { Vec::new() } else { n.some(4, Numbers::pattern_line) };
         let paths = n.some(4, |n| n.path(release));
-        Plan { release, names, gradient: release >= 3 && n.coin(), solid, paths, lines, seeds: n.some(4, Numbers::point) }
+        let fill = Fill { doubles: [0, 1, 2], colours: vec![(3, 4, 5, 6); 2] };
+        let (gradient, plane, style) = (release >= 3 && n.coin(), [0; 4], 1);
+        Plan { release, names, gradient, fill, plane, style, solid, paths, lines, seeds: n.some(4, Numbers::point) }
     }
 
     /// The main payload's bits, and the string payload's, which is empty without a reader.
@@ -109,16 +123,17 @@ impl Plan {
         let mut main = Bits(Vec::new());
         let mut strings = Bits(Vec::new());
         if self.release >= 3 {
-            main.gradient(n, self.gradient);
+            main.gradient(n, self.gradient, &self.fill);
             if reader { &mut strings } else { &mut main }.text(n, &self.names[0]);
         }
-        (0..4).for_each(|_| main.bd(n, 0));
+        main.doubles(n, &self.plane);
         if reader { &mut strings } else { &mut main }.text(n, &self.names[1]);
         main.number(u64::from(self.solid), 1);
         main.number(1, 1);
         main.bl(n, self.paths.len());
         self.paths.iter().for_each(|path| main.path(n, path, self.release));
-        (0..2).for_each(|_| main.bs(n, 1));
+        main.bs(n, self.style);
+        main.bs(n, 1);
         if !self.solid {
             (0..2).for_each(|_| main.bd(n, 1f64.to_bits()));
             main.number(1, 1);
@@ -145,12 +160,12 @@ impl Bits {
     }
 
     /// So many bits of a number, the high ones first.
-    fn number(&mut self, value: u64, bits: u32) {
+    pub fn number(&mut self, value: u64, bits: u32) {
         (0..bits).rev().for_each(|at| self.0.push(value >> at & 1 == 1));
     }
 
     /// So many bytes of a number, the low one first.
-    fn raw(&mut self, value: u64, bytes: usize) {
+    pub fn raw(&mut self, value: u64, bytes: usize) {
         value.to_le_bytes()[..bytes].iter().for_each(|byte| self.number(u64::from(*byte), 8));
     }
 
@@ -159,7 +174,7 @@ impl Bits {
         self.raw(value, bytes);
     }
 
-    fn bd(&mut self, n: &mut Numbers, bits: u64) {
+    pub fn bd(&mut self, n: &mut Numbers, bits: u64) {
         match bits {
             _ if n.below(4) == 0 => self.tagged(0, bits, 8),
             0 => self.number(2, 2),
@@ -168,7 +183,7 @@ impl Bits {
         }
     }
 
-    fn bl(&mut self, n: &mut Numbers, value: usize) {
+    pub fn bl(&mut self, n: &mut Numbers, value: usize) {
         match value {
             0 if n.coin() => self.number(2, 2),
             ..256 if n.below(4) != 0 => self.tagged(1, value as u64, 1),
@@ -176,7 +191,7 @@ impl Bits {
         }
     }
 
-    fn bs(&mut self, n: &mut Numbers, value: usize) {
+    pub fn bs(&mut self, n: &mut Numbers, value: usize) {
         match value {
             0 if n.coin() => self.number(2, 2),
             256 if n.coin() => self.number(3, 2),
@@ -202,19 +217,18 @@ impl Bits {
         doubles.iter().for_each(|double| self.bd(n, *double));
     }
 
-    /// Two colours, of which nothing is compared here.
-    fn gradient(&mut self, n: &mut Numbers, flag: bool) {
+    fn gradient(&mut self, n: &mut Numbers, flag: bool, fill: &Fill) {
         self.bl(n, usize::from(flag));
         self.bl(n, 7);
-        self.doubles(n, &[0, 1]);
+        self.doubles(n, &fill.doubles[..2]);
         self.bl(n, 1);
-        self.doubles(n, &[2]);
-        self.bl(n, 2);
-        for _ in 0..2 {
-            self.doubles(n, &[3]);
-            self.bs(n, 4);
-            self.bl(n, 5);
-            self.raw(6, 1);
+        self.doubles(n, &fill.doubles[2..]);
+        self.bl(n, fill.colours.len());
+        for (double, short, rgb, byte) in &fill.colours {
+            self.bd(n, *double);
+            self.bs(n, *short);
+            self.bl(n, *rgb);
+            self.raw(*byte, 1);
         }
     }
 

@@ -1,0 +1,137 @@
+//! What is stored under samples/: files and pictures are as they are made, and show what they are to show.
+
+mod calls;
+mod svg_text;
+
+#[allow(dead_code)]
+#[path = "../examples/samples/files/mod.rs"]
+mod files;
+
+use std::collections::BTreeSet;
+use std::path::PathBuf;
+
+use dwg_hatch::payload::Zeros;
+use dwg_hatch::request::{self, Request};
+use dwg_hatch::{HatchEdge, HatchPathSegments, Point2D, TypedHatch};
+
+fn folder() -> PathBuf {
+    PathBuf::from(env!("CARGO_MANIFEST_DIR")).join("../samples")
+}
+
+fn stored(name: &str) -> String {
+    std::fs::read_to_string(folder().join(name)).unwrap_or_else(|error| panic!("samples/{name}: {error}"))
+}
+
+/// The pictures that are listed: name, status, and the words of the command.
+fn pictures() -> Vec<(String, i32, Vec<String>)> {
+    let list = stored("pictures.list");
+    let lines = list.lines().filter(|line| !line.starts_with('#'));
+    let picture = |line: &str| {
+        let words: Vec<String> = line.split(' ').map(str::to_string).collect();
+        (words[0].clone(), words[1].parse().expect("a status"), words[2..].to_vec())
+    };
+    lines.map(picture).collect()
+}
+
+#[test]
+fn files_are_as_they_are_made() {
+    for (name, text) in files::all() {
+        assert!(text == stored(name), "samples/{name} is not what host/examples/samples makes: call host/samples");
+    }
+}
+
+#[test]
+fn pictures_are_as_they_are_drawn() {
+    for (name, status, words) in pictures() {
+        let output = calls::tool().arg("draw").args(&words).current_dir(folder()).output().expect("the tool starts");
+        assert_eq!(output.status.code(), Some(status), "{name}");
+        let drawn = String::from_utf8(output.stdout).expect("UTF-8");
+        assert!(drawn == stored(&name), "samples/{name} is not what dwg-hatch draw makes: call host/samples");
+        let elements = svg_text::elements(&drawn);
+        assert!(!svg_text::path_numbers(&elements).is_empty(), "{name}");
+    }
+}
+
+#[test]
+fn every_file_has_a_picture_and_every_picture_is_listed() {
+    let listed: BTreeSet<String> = pictures().into_iter().map(|picture| picture.0).collect();
+    let names = std::fs::read_dir(folder()).expect("samples").map(|entry| entry.expect("an entry").file_name().into_string().expect("a name"));
+    assert_eq!(names.filter(|name| name.ends_with(".svg")).collect::<BTreeSet<_>>(), listed);
+    for (name, _) in files::all() {
+        assert!(pictures().iter().any(|picture| picture.2.last().is_some_and(|word| word == name)), "{name}");
+    }
+}
+
+/// Each refusal that bad.txt names is the one that its line is answered with.
+#[test]
+fn bad_lines_are_refused_by_their_numbers() {
+    let text = stored("bad.txt");
+    let lines: Vec<&str> = text.lines().collect();
+    let named = |pair: &[&str]| Some((pair[0].strip_prefix("# Refusal ")?.split_once(':')?.0.to_string(), pair[1].to_string()));
+    let pairs: Vec<(String, String)> = lines.windows(2).filter_map(named).collect();
+    assert!(pairs.iter().map(|pair| pair.0.clone()).eq((1..=11).map(|number| number.to_string())));
+    let requests: String = pairs.iter().map(|pair| format!("{}\n", pair.1)).collect();
+    let answers = calls::answers(&["answer"], requests.as_bytes());
+    for (answer, (number, _)) in answers.lines().zip(&pairs) {
+        assert!(answer.starts_with(&format!("err {number} ")), "refusal {number}: {answer}");
+    }
+}
+
+/// The campus's hatches, as doubles.
+fn campus() -> Vec<TypedHatch> {
+    let hatch = |line: &str| match request::parse(line.as_bytes()) {
+        Some(Request::Hatch(request)) => request.body(&mut Zeros::default()).read().expect("a hatch"),
+        _ => panic!("{line}"),
+    };
+    stored("campus.txt").lines().filter(|line| line.starts_with("hatch")).map(hatch).collect()
+}
+
+/// The ends of an edge in doubles, or computed from its numbers in single precision.
+fn ends(edge: &HatchEdge, single: bool) -> [Point2D; 2] {
+    let narrow = |number: f64| if single { f64::from(number as f32) } else { number };
+    match edge {
+        HatchEdge::Line { start, end } => [start, end].map(|point| Point2D { x: narrow(point.x), y: narrow(point.y) }),
+        HatchEdge::Arc { center, radius, start_angle, end_angle, counter_clockwise } => [start_angle, end_angle].map(|angle| {
+            let angle = if *counter_clockwise { narrow(*angle) } else { -narrow(*angle) };
+            Point2D { x: narrow(center.x) + narrow(*radius) * angle.cos(), y: narrow(center.y) + narrow(*radius) * angle.sin() }
+        }),
+        edge => panic!("{edge:?}"),
+    }
+}
+
+/// The gaps between edges that follow each other, of all elbows.
+fn gaps(single: bool) -> Vec<f64> {
+    let mut gaps = Vec::new();
+    for path in campus().iter().flat_map(|hatch| &hatch.paths) {
+        let HatchPathSegments::Edges(edges) = &path.segments else { continue };
+        let ends: Vec<[Point2D; 2]> = edges.iter().map(|edge| ends(edge, single)).collect();
+        let after = ends.iter().cycle().skip(1);
+        gaps.extend(ends.iter().zip(after).filter(|_| ends.len() > 1).map(|(one, next)| (one[1].x - next[0].x).hypot(one[1].y - next[0].y)));
+    }
+    gaps
+}
+
+/// In doubles all elbows close to a hundred-millionth of a foot; in single precision most are torn by more than a tenth.
+#[test]
+fn the_campus_is_whole_in_doubles_and_torn_in_singles() {
+    let [doubles, singles] = [false, true].map(gaps);
+    assert_eq!((doubles.len(), singles.len()), (48, 48));
+    assert!(doubles.iter().all(|gap| *gap < 1e-8), "{doubles:?}");
+    let torn = singles.iter().filter(|gap| **gap > 0.1).count();
+    assert!(torn > 40, "{torn} of {}", singles.len());
+}
+
+/// Ends of straight pieces that adjoin are the very same doubles.
+#[test]
+fn adjoining_ends_are_the_same_doubles() {
+    let hatches = campus();
+    let points: Vec<Vec<Point2D>> = hatches.iter().map(|hatch| hatch.paths.iter().flat_map(|path| path.points()).collect()).collect();
+    // Of each building the reducer, the first duct, its elbow, the second duct, its elbow, the third duct, a reducer, the fourth duct.
+    for building in 0..6 {
+        let first = 1 + 19 * building + 2;
+        for piece in first..first + 7 {
+            let shared = points[piece].iter().filter(|point| points[piece + 1].contains(point)).count();
+            assert_eq!(shared, 2, "pieces {piece} and {}", piece + 1);
+        }
+    }
+}
