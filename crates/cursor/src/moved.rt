@@ -50,6 +50,7 @@ pub struct MovedHandle {
     pub cursor: BitCursor,
 }
 
+// What the call by value answered, as answer and cursor; the functions below are the same for other values.
 fn told(r: Read) -> Moved
     ensures { λ m. ⌜ m ≡ told r ⌝ }
 {
@@ -140,6 +141,7 @@ fn told_handle(r: ReadHandle) -> MovedHandle
     }
 }
 
+// Each code at a cursor: the call by value at its place.
 pub fn read_b(bytes: &[u8], c: BitCursor) -> MovedBool
     ensures { λ m. ⌜ m ≡ movedBool (readAt B (now (bytes .entry)) c) ⌝ }
 {
