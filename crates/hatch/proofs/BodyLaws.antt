@@ -1,13 +1,15 @@
 -- A body from the answers for its front and its rest: what the definition of the whole reads, and what the lists are then. Assumes nothing.
 use mathlib.Core.Path.{_≡_, refl, sym, ap, ap₂, subst, _∙_}
 use mathlib.Core.Bool.{Bool, true, false, _&&_}
-use mathlib.Core.List.{List, [], _++_, append-nil}
-use Prim.Native.Nat.{ℕ, _+_, _*_, _^_, _≤_, _<_, max}
+use mathlib.Core.List.{List, [], _∷_, _++_, append-nil}
+use Prim.Native.Nat.{ℕ, suc, _+_, _*_, _^_, _≤_, _<_, max}
 use native.Mathlib.Nat.{zero-add}
 use native.Mathlib.Omega.{arith}
 use lib.Dec.{leb}
+use lib.Ieee.{Float}
 use lib.ListN.{length}
-use borrow.Author.Tests.{le-leb, lt-leb}
+use lib.Seq.{sets}
+use borrow.Author.Tests.{le-leb, leb-true, lt-leb}
 use Rattle.bitcursor.specs.declared.Refusal.{Refusal}
 use Rattle.bitcursor.specs.declared.Refusal.the-variants.{ListTooShort}
 use Rattle.bitcursor.specs.Bits.{size}
@@ -44,12 +46,12 @@ use Rattle.hatch_format.specs.declared.HatchBits.{HatchBits}
 use Rattle.hatch_walks.specs.Gathered.{Entries, all, gathered}
 use Rattle.hatch_walks.specs.Gathers.{all-both}
 use Rattle.hatch_walks.specs.PathGathers.{pathEntries, all-paths}
-use Rattle.hatch_walks.specs.Lists.{Lists, lay, grow, Laid}
+use Rattle.hatch_walks.specs.Lists.{Lists, lists, doublesOf, lay, grow, Laid}
 use Rattle.hatch_walks.specs.Heads.{Modest}
 use Rattle.hatch_walks.specs.Tails.{Gives}
 use Rattle.hatch_walks.specs.Rests.{noSizes, restOf, restEntries, restWalk}
 use Rattle.hatch.specs.Fronts.{Front, front, named, whole, hatch-front, frontOf}
-use Rattle.hatch.specs.Bodies.{madeOf, placed, Walked, roomy, madeIf, closedOf, layIf, closedLists}
+use Rattle.hatch.specs.Bodies.{madeOf, placed, noneLent, Walked, roomy, madeIf, closedOf, layIf, closedLists}
 use Rattle.hatch.specs.Calls.{asBits, laidOver}
 
 pub modest : Modest documentCaps
@@ -125,12 +127,12 @@ module _ (f : FrontRead) (nw nn : ℕ) (p : CodePlaces) (o : Out ℕ RestValue) 
       subst (λ (x : Out ℕ RestValue). (r ≡ closedOf f nw nn p x) × (l′ ≡ closedLists l nw nn x)) (sym (told .1))
       (i ∙ ap (λ (c : Bool). madeIf c f (told .0) (placed p q)) (sym b), j ∙ ap (λ (c : Bool). layIf c l (told .0)) (sym b))
 
-  pub closed-full : {h : HatchBits} {l l′ : Lists} {xs : List ℕ} → roomy nw nn z ≡ true → h ≡ madeOf f t z (placed p q) → Gives xs restEntries o l noSizes l′
+  pub closed-full : {h : HatchBits} (l l′ : Lists) → roomy nw nn z ≡ true → h ≡ madeOf f t z (placed p q) → Laid (gathered restEntries o) l noSizes l′
       → (record { outcome = Read; hatch = h } ≡ closedOf f nw nn p o) × (l′ ≡ closedLists l nw nn o)
-  closed-full {h} {l} {l′} {xs} s i g =
+  closed-full {h} l l′ s i g =
       let a = told .0 in
       let b : roomy nw nn (grow noSizes (restEntries a)) ≡ true = ap (roomy nw nn) (sym (told .3)) ∙ s in
-      let k : l′ ≡ lay l noSizes (restEntries a) = subst (λ (x : Out ℕ RestValue). Laid (gathered restEntries x) l noSizes l′) (told .1) (g .laid) in
+      let k : l′ ≡ lay l noSizes (restEntries a) = subst (λ (x : Out ℕ RestValue). Laid (gathered restEntries x) l noSizes l′) (told .1) g in
       subst (λ (x : Out ℕ RestValue). (record { outcome = Read; hatch = h } ≡ closedOf f nw nn p x) × (l′ ≡ closedLists l nw nn x)) (sym (told .1)) (
         ap (λ (x : HatchBits). record { outcome = Read; hatch = x }) (i ∙ ap₂ (λ (u : Rest) (y : Sizes). madeOf f u y (placed p q)) (told .2) (told .3)) ∙ ap (λ (c : Bool). madeIf c f a (placed p q)) (sym b),
         k ∙ ap (λ (c : Bool). layIf c l a) (sym b),
@@ -155,7 +157,33 @@ pub walk-as : {c d : Caps} → c ≡ d → (v : Version) (xs : List ℕ) (p : �
 walk-as e v xs p i j = sym i ∙ (j ∙ ap (λ (x : Caps). restWalk ((rest x v) .read xs p)) e)
 
 -- and from lists that are known as others
-pub gives-as : {c d : Caps} → c ≡ d → (v : Version) (xs : List ℕ) (p : ℕ) {l m l′ : Lists} → m ≡ l → Gives xs restEntries ((rest c v) .read xs p) m noSizes l′
-    → Gives xs restEntries ((rest d v) .read xs p) l noSizes l′
-gives-as {c} {d} e v xs p {l} {m} {l′} i h =
-    subst (λ (x : Lists). Gives xs restEntries ((rest d v) .read xs p) x noSizes l′) i (subst (λ (x : Caps). Gives xs restEntries ((rest x v) .read xs p) m noSizes l′) e h)
+pub laid-as : {c d : Caps} → c ≡ d → (v : Version) (xs : List ℕ) (p : ℕ) {l m : Lists} (l′ : Lists) → m ≡ l → Laid (gathered restEntries ((rest c v) .read xs p)) m noSizes l′
+    → Laid (gathered restEntries ((rest d v) .read xs p)) l noSizes l′
+laid-as {c} {d} e v xs p {l} {m} l′ i h =
+    subst (λ (x : Lists). Laid (gathered restEntries ((rest d v) .read xs p)) x noSizes l′) i (subst (λ (x : Caps). Laid (gathered restEntries ((rest x v) .read xs p)) m noSizes l′) e h)
+
+-- ---- empty lists take nothing
+sets-none : {A : Type 0} (l : List A) (i : ℕ) (vs : List A) → length l ≡ 0 → l ≡ sets l i vs
+sets-none [] i [] h = refl
+sets-none [] i (v ∷ vs) h = sets-none [] (suc i) vs h
+sets-none (x ∷ l) i vs h = absurd (omega (arith, h))
+
+none-all : (a b c : ℕ) → noneLent a b c ≡ true → (a ≡ 0) × ((b ≡ 0) × (c ≡ 0))
+none-all a b c h = go (leb a 0) (leb b 0) (leb c 0) refl refl refl h
+  where
+    go : (s t u : Bool) → leb a 0 ≡ s → leb b 0 ≡ t → leb c 0 ≡ u → s && (t && u) ≡ true → (a ≡ 0) × ((b ≡ 0) × (c ≡ 0))
+    go true true true e f g h =
+        let x = leb-true a 0 e in
+        let y = leb-true b 0 f in
+        let z = leb-true c 0 g in
+        (omega (arith, x), (omega (arith, y), omega (arith, z)))
+    go true true false e f g h = let x : _≡_ {A = ℕ} 0 1 = cc in absurd (omega arith)
+    go true false u e f g h = let x : _≡_ {A = ℕ} 0 1 = cc in absurd (omega arith)
+    go false t u e f g h = let x : _≡_ {A = ℕ} 0 1 = cc in absurd (omega arith)
+
+pub none-laid : (o : Out ℕ RestValue) (a : List Float) (b c : List ℕ) → noneLent (length a) (length b) (length c) ≡ true → Laid (gathered restEntries o) (lists a b c) noSizes (lists a b c)
+none-laid (refused k q) a b c h = tt
+none-laid (got v q) a b c h =
+    let n = none-all (length a) (length b) (length c) h in
+    let e = restEntries v in
+    λ i. lists (sets-none a 0 (doublesOf (e .numbers)) (n .0) i) (sets-none b 0 (e .numbers) (n .1 .0) i) (sets-none c 0 (e .words) (n .1 .1) i)

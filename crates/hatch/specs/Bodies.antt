@@ -62,6 +62,10 @@ abbrev pub Walked : Bool → List ℕ → Out ℕ RestValue → Lists → Lists 
 Walked true xs o l l′ = Gives xs restEntries o l noSizes l′
 Walked false xs o l l′ = l′ ≡ l
 
+-- all lists are empty
+abbrev pub noneLent : ℕ → ℕ → ℕ → Bool
+noneLent numbers bits words = leb numbers 0 && (leb bits 0 && leb words 0)
+
 -- both lists are long enough for what the walk used
 abbrev pub roomy : ℕ → ℕ → Sizes → Bool
 roomy nw nn z = leb (z .words) nw && leb (z .numbers) nn

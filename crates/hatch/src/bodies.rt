@@ -9,11 +9,12 @@ ghost use Rattle.hatch_format.specs.Caps.{documentCaps};
 ghost use Rattle.hatch_format.specs.Patterns.{rest};
 ghost use Rattle.hatch_format.specs.Hatch.{hatch};
 ghost use Rattle.hatch_format.specs.Call.{roomFor};
-ghost use Rattle.hatch_walks.specs.Lists.{lists};
+ghost use Rattle.hatch_walks.specs.Gathered.{gathered};
+ghost use Rattle.hatch_walks.specs.Lists.{lists, Laid};
 ghost use Rattle.hatch_walks.specs.Heads.{Modest};
-ghost use Rattle.hatch_walks.specs.Rests.{restWalk};
+ghost use Rattle.hatch_walks.specs.Rests.{noSizes, restEntries, restWalk};
 ghost use Rattle.hatch.specs.Calls.{asBits, laidOver};
-ghost use Rattle.hatch.specs.Bodies.{madeOf, Walked, closedOf, closedLists, opened};
+ghost use Rattle.hatch.specs.Bodies.{madeOf, noneLent, Walked, closedOf, closedLists, opened};
 use crate::HatchBitsAnswer;
 use crate::Outcome;
 use crate::fronts;
@@ -118,6 +119,41 @@ fn made(front: Front, rest: Rest, z: Sizes, p: Places) -> HatchBits
     }
 }
 
+// Whether all lists are empty.
+fn none_lent(numbers: usize, bits: usize, words: usize) -> bool
+    ensures { λ r. ⌜ r ≡ noneLent numbers bits words ⌝ }
+{
+    if 0 < numbers {
+        return false;
+    }
+    if 0 < bits {
+        return false;
+    }
+    if 0 < words {
+        return false;
+    }
+    true
+}
+
+// Fills the lists with the rest. Empty lists take nothing, so a call that is lent none, as a measuring call is, does not walk again.
+fn fill_lists(
+    s: &[u8],
+    at: usize,
+    v: Version,
+    caps: Caps,
+    numbers: &mut [f64],
+    bits: &mut [u64],
+    words: &mut [u32],
+)
+    requires { ⌜ (length (now s) ≤ limit) × ((at ≤ 8 * length (now s)) × Modest caps) ⌝ }
+    ensures { λ _. ⌜ Laid (gathered restEntries ((rest caps v) .read (now (s .entry)) at)) (lists (now (numbers .entry)) (now (bits .entry)) (now (words .entry))) noSizes (lists (now (numbers .exit)) (now (bits .exit)) (now (words .exit))) ⌝ }
+{
+    if none_lent(numbers.len(), bits.len(), words.len()) {
+        return;
+    }
+    let again = walk_rest(s, at, v, caps, true, numbers, bits, words);
+}
+
 // What follows a front: measured, and filled only where both lists are long enough.
 fn fill_rest(
     main: &[u8],
@@ -148,7 +184,7 @@ fn fill_rest(
             if numbers_room < z.numbers {
                 return refused(Refusal::ListTooShort, e);
             }
-            let again = walk_rest(main, at, v, caps, true, numbers, bits, words);
+            fill_lists(main, at, v, caps, numbers, bits, words);
             HatchBitsAnswer {
                 outcome: Outcome::Read,
                 hatch: made(front, rest, z, e),

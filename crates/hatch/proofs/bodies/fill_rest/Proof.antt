@@ -6,12 +6,13 @@ use Rattle.hatch_format.specs.Caps.{documentCaps}
 use Rattle.hatch_format.specs.Patterns.{rest}
 use Rattle.hatch_walks.specs.declared.rests.Rest.{Rest}
 use Rattle.hatch_walks.specs.Heads.{Modest}
-use Rattle.hatch.proofs.BodyLaws.{modest, rest-done, rest-range, short-words, short-numbers, room, closed-short, closed-full, closed-no, walk-as, gives-as}
+use Rattle.hatch.proofs.BodyLaws.{modest, rest-done, rest-range, short-words, short-numbers, room, closed-short, closed-full, closed-no, walk-as, laid-as}
 use borrow.Author.Needs.{needs}
 use Rattle.hatch.proofs.bodies.fill_rest.Statement.{statement}
 use Rattle.hatch.proofs.bodies.fill_rest.Tie as tie
 use Rattle.hatch.proofs.bodies.fill_rest.Reads as reads
 use Rattle.hatch.proofs.bodies.fill_rest.Lts as lts
+use Rattle.hatch.proofs.bodies.fill_lists.Reads as fill-lists-reads
 use Rattle.hatch.proofs.bodies.made.Reads as made-reads
 use Rattle.hatch.proofs.bodies.refused.Reads as refused-reads
 use Rattle.hatch.proofs.bodies.walk_rest.Reads as walk-rest-reads
@@ -62,8 +63,8 @@ returns-2 c =
     closed-short (a .front) (a .words-room) (a .numbers-room) (a .p) ((rest documentCaps (a .v)) .read (now (a .main)) (a .p .main)) (walk-as ((c .before .before .before .before .before .before .before .before .before .before .before .before .before .before .before .before .before .before .document-caps) .ensures) (a .v) (now (a .main)) (a .p .main) ((c .before .before .before .before .before .before .rest) .given .1) ((c .before .before .before .before .before .before .before .before .before .before .before .before .before .before .walk-rest) .ensures .0))
     (short-numbers (a .words-room) (a .numbers-room) ((c .before .before .before .before .before .before .rest) .given .0 .1 .1 .0) ((c .before .before .before .if1) .left) ((c .before .if2) .taken)) ((c .refused2) .ensures) ((c .before .before .before .before .before .before .before .before .before .before .before .before .before .before .walk-rest) .ensures .1)
 
-walk-rest-requires-2 : tie.Need-walk-rest-requires-2
-walk-rest-requires-2 c κs = ((c .before .before .before .before .before .before .before .before .before .before .before .before .before .before .before .before .before .before .before .before .before .before .before .before .before .pre) .0, ((c .before .before .before .before .before .before .before .before .before .before .before .before .before .before .before .before .before .before .before .before .before .before .before .before .before .pre) .1, subst Modest (sym ((c .before .before .before .before .before .before .before .before .before .before .before .before .before .before .before .before .before .before .before .before .document-caps) .ensures)) modest))
+fill-lists-requires : tie.Need-fill-lists-requires
+fill-lists-requires c κs = ((c .before .before .before .before .before .before .before .before .before .before .before .before .before .before .before .before .before .before .before .before .before .before .before .before .before .pre) .0, ((c .before .before .before .before .before .before .before .before .before .before .before .before .before .before .before .before .before .before .before .before .before .before .before .before .before .pre) .1, subst Modest (sym ((c .before .before .before .before .before .before .before .before .before .before .before .before .before .before .before .before .before .before .before .before .document-caps) .ensures)) modest))
 
 made-requires : tie.Need-made-requires
 made-requires c κs =
@@ -79,20 +80,20 @@ refused-requires-3 : tie.Need-refused-requires-3
 refused-requires-3 c κs = search needs
 
 same-length-7 : tie.Need-same-length-7
-same-length-7 c = ((c .before .before .before .before .before .before .before .walk-rest2)) .kept .1 .1 .1 .1 .1 .0 ∙ ((c .before .before .before .before .before .before .before .before .before .before .before .before .before .before .before .before .before .before .before .before .before .before .before .before .walk-rest)) .kept .1 .1 .1 .1 .1 .0
+same-length-7 c = ((c .before .before .before .before .before .before .before .fill-lists)) .kept .1 .1 .1 .1 .0 ∙ ((c .before .before .before .before .before .before .before .before .before .before .before .before .before .before .before .before .before .before .before .before .before .before .before .before .walk-rest)) .kept .1 .1 .1 .1 .1 .0
 
 same-length-8 : tie.Need-same-length-8
-same-length-8 c = ((c .before .before .before .before .before .before .before .walk-rest2)) .kept .1 .1 .1 .1 .1 .1 .0 ∙ ((c .before .before .before .before .before .before .before .before .before .before .before .before .before .before .before .before .before .before .before .before .before .before .before .before .walk-rest)) .kept .1 .1 .1 .1 .1 .1 .0
+same-length-8 c = ((c .before .before .before .before .before .before .before .fill-lists)) .kept .1 .1 .1 .1 .1 .0 ∙ ((c .before .before .before .before .before .before .before .before .before .before .before .before .before .before .before .before .before .before .before .before .before .before .before .before .walk-rest)) .kept .1 .1 .1 .1 .1 .1 .0
 
 same-length-9 : tie.Need-same-length-9
-same-length-9 c = ((c .before .before .before .before .before .before .before .walk-rest2)) .kept .1 .1 .1 .1 .1 .1 .1 .0 ∙ ((c .before .before .before .before .before .before .before .before .before .before .before .before .before .before .before .before .before .before .before .before .before .before .before .before .walk-rest)) .kept .1 .1 .1 .1 .1 .1 .1 .0
+same-length-9 c = ((c .before .before .before .before .before .before .before .fill-lists)) .kept .1 .1 .1 .1 .1 .1 .0 ∙ ((c .before .before .before .before .before .before .before .before .before .before .before .before .before .before .before .before .before .before .before .before .before .before .before .before .walk-rest)) .kept .1 .1 .1 .1 .1 .1 .1 .0
 
 returns-3 : tie.Need-returns-3
 returns-3 c =
     let a = (c .before .before .before .before .before .before .before .before .before .before .before .before .before .before .before .before .before .before .before .before .before .before .before .before .before .before .before .before .before .before .before .before .before .args) in
-    closed-full (a .front) (a .words-room) (a .numbers-room) (a .p) ((rest documentCaps (a .v)) .read (now (a .main)) (a .p .main)) (walk-as ((c .before .before .before .before .before .before .before .before .before .before .before .before .before .before .before .before .before .before .before .before .before .before .before .before .before .before .before .before .document-caps) .ensures) (a .v) (now (a .main)) (a .p .main) ((c .before .before .before .before .before .before .before .before .before .before .before .before .before .before .before .before .rest) .given .1) ((c .before .before .before .before .before .before .before .before .before .before .before .before .before .before .before .before .before .before .before .before .before .before .before .before .walk-rest) .ensures .0))
+    closed-full (a .front) (a .words-room) (a .numbers-room) (a .p) ((rest documentCaps (a .v)) .read (now (a .main)) (a .p .main)) (walk-as ((c .before .before .before .before .before .before .before .before .before .before .before .before .before .before .before .before .before .before .before .before .before .before .before .before .before .before .before .before .document-caps) .ensures) (a .v) (now (a .main)) (a .p .main) ((c .before .before .before .before .before .before .before .before .before .before .before .before .before .before .before .before .rest) .given .1) ((c .before .before .before .before .before .before .before .before .before .before .before .before .before .before .before .before .before .before .before .before .before .before .before .before .walk-rest) .ensures .0)) _ _
     (room (a .words-room) (a .numbers-room) ((c .before .before .before .before .before .before .before .before .before .before .before .before .before .before .before .before .rest) .given .0 .1 .1 .0) ((c .before .before .before .before .before .before .before .before .before .before .before .before .before .if1) .left) ((c .before .before .before .before .before .before .before .before .before .before .before .if2) .left)) ((c .made) .ensures)
-    (gives-as ((c .before .before .before .before .before .before .before .before .before .before .before .before .before .before .before .before .before .before .before .before .before .before .before .before .before .before .before .before .document-caps) .ensures) (a .v) (now (a .main)) (a .p .main) ((c .before .before .before .before .before .before .before .before .before .before .before .before .before .before .before .before .before .before .before .before .before .before .before .before .walk-rest) .ensures .1) ((c .before .before .before .before .before .before .before .walk-rest2) .ensures .1))
+    (laid-as ((c .before .before .before .before .before .before .before .before .before .before .before .before .before .before .before .before .before .before .before .before .before .before .before .before .before .before .before .before .document-caps) .ensures) (a .v) (now (a .main)) (a .p .main) _ ((c .before .before .before .before .before .before .before .before .before .before .before .before .before .before .before .before .before .before .before .before .before .before .before .before .walk-rest) .ensures .1) ((c .before .before .before .before .before .before .before .fill-lists) .ensures))
 
 same-length-10 : tie.Need-same-length-10
 same-length-10 c = search needs
@@ -125,7 +126,7 @@ fill-rest-spec =
     same-length-5
     same-length-6
     returns-2
-    walk-rest-requires-2
+    fill-lists-requires
     made-requires
     enum-known-k
     refused-requires-3

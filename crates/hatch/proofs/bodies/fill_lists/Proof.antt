@@ -1,0 +1,47 @@
+-- Empty lists stay as they are whatever is laid over them; others are walked.
+use mathlib.Core.Path.{sym, _∙_}
+use denote.Ref.{now}
+use Rattle.hatch_format.specs.Patterns.{rest}
+use Rattle.hatch.proofs.BodyLaws.{none-laid}
+use borrow.Author.Needs.{needs}
+use Rattle.hatch.proofs.bodies.fill_lists.Statement.{statement}
+use Rattle.hatch.proofs.bodies.fill_lists.Tie as tie
+use Rattle.hatch.proofs.bodies.fill_lists.Reads as reads
+use Rattle.hatch.proofs.bodies.fill_lists.Lts as lts
+use Rattle.hatch.proofs.bodies.none_lent.Reads as none-lent-reads
+use Rattle.hatch.proofs.bodies.walk_rest.Reads as walk-rest-reads
+
+none-lent-requires : tie.Need-none-lent-requires
+none-lent-requires c κs = search needs
+
+returns : tie.Need-returns
+returns c =
+    let a = (c .before .before .before .before .before .before .args) in
+    none-laid ((rest (a .caps) (a .v)) .read (now (a .s)) (a .at)) (now (a .numbers)) (now (a .bits)) (now (a .words)) (sym ((c .before .none-lent) .ensures) ∙ (c .if1) .taken)
+
+walk-rest-requires : tie.Need-walk-rest-requires
+walk-rest-requires c κs = search needs
+
+same-length : tie.Need-same-length
+same-length c = search needs
+
+same-length-2 : tie.Need-same-length-2
+same-length-2 c = search needs
+
+same-length-3 : tie.Need-same-length-3
+same-length-3 c = search needs
+
+returns-2 : tie.Need-returns-2
+returns-2 c = search needs
+
+pub fill-lists-spec : {M : Type 1} → statement M
+fill-lists-spec =
+    tie.close
+    (tie.spec
+    none-lent-requires
+    returns
+    walk-rest-requires
+    same-length
+    same-length-2
+    same-length-3
+    returns-2)
