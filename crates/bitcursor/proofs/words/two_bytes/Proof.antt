@@ -31,7 +31,8 @@ returns : tie.Need-returns
 returns c =
     let first = c .before .before in
     let a = first .before .before .before .args in (
-      rw (first .wide .ensures .0, c .wide2 .ensures .0) (two (now (a .s)) (λ i. omega (arith, c .before .shared-slice-known3 .given i)) (a .q) (omega arith)),
+      rw (first .wide .ensures .0, c .wide2 .ensures .0) (two (now (a .s)) (λ i. omega (arith, c .before .shared-slice-known3 .given i)) (a .q)
+          (omega arith)),
       search needs,
     )
 
