@@ -1,0 +1,112 @@
+-- What is left to read, behind what is stored, is what the whole reads; each turn reads and stores one.
+use mathlib.Core.Path.{_≡_, refl, sym, ap, ap₂, _∙_}
+use mathlib.Core.List.{List, [], _∷_}
+use Prim.Native.Nat.{ℕ, _+_, _-_, _*_, _≤_, _<_}
+use native.Mathlib.Omega.{arith}
+use denote.Ref.{now}
+use lib.ListN.{length}
+use Rattle.bitcursor.specs.Doubles.{BD}
+use Rattle.bitcursor.specs.Fields.{coded}
+use Rattle.bitcursor.proofs.Steps.{read-value, read-refused}
+use Rattle.hatch_format.specs.Takes.{takes-BD}
+use Rattle.hatch_points.specs.Gathered.{numbers}
+use Rattle.hatch_points.specs.Walks.{single-walk}
+use Rattle.hatch_points.specs.Lists.{lists, Ready}
+use Rattle.hatch_points.proofs.Laws.{more-numbers, refuses, ends, onward}
+use Rattle.hatch_points.proofs.Loops.{Along, start, next, stop, finish, long-doubles, long-bits, single-read, single-refused, double-left}
+use borrow.Author.Needs.{needs}
+use Rattle.hatch_points.proofs.runs.double_run.Statement.{statement}
+use Rattle.hatch_points.proofs.runs.double_run.Tie as tie
+use Rattle.hatch_points.proofs.runs.double_run.Reads as reads
+use Rattle.hatch_points.proofs.runs.double_run.Lts as lts
+use Rattle.bitcursor.proofs.within.read_bd_bits.Reads as read-bd-bits-reads
+use Rattle.hatch_points.proofs.lists.put_number.Reads as put-number-reads
+
+abbrev Inv-loop : tie.InvT-loop
+Inv-loop s at n numbers₀ bits₀ z p₀ used₀ i₀ numbers bits p used i = Along single-walk s n at (lists numbers₀ bits₀ []) z i p (lists numbers bits []) (record { numbers = used; words = z .words; derived = z .derived }) × Ready s p (record { numbers = used; words = z .words; derived = z .derived })
+
+abbrev μ-loop : tie.MeasureT-loop
+μ-loop s at n numbers₀ bits₀ z p₀ used₀ i₀ numbers bits p used i = n - i
+
+loop-holds : tie.Need-loop-holds Inv-loop μ-loop
+loop-holds c = (start single-walk (now ((c .before .before .before .args) .s)), (c .before .before .before .pre))
+
+read-bd-bits-requires : tie.Need-read-bd-bits-requires Inv-loop μ-loop
+read-bd-bits-requires c κs = (c .before .before .before .before .before .pre) .0
+
+enum-known-v : tie.Need-enum-known-v Inv-loop μ-loop
+enum-known-v c = search needs
+
+put-number-requires : tie.Need-put-number-requires Inv-loop μ-loop
+put-number-requires c κs = tt
+
+add-used : tie.Need-add-used Inv-loop μ-loop
+add-used c = let h = (c .before .before .before .before .before .before .before .before .before .before .before .before .loop) .inv .1 in omega (arith, h .0, h .1 .0, h .1 .1 .0)
+
+enum-known-k : tie.Need-enum-known-k Inv-loop μ-loop
+enum-known-k c = search needs
+
+same-length : tie.Need-same-length Inv-loop μ-loop
+same-length c = long-doubles single-walk (now ((c .before .before .before .before .before .before .before .before .before .args) .s)) ((c .before .before .before .before .before .loop) .inv .0)
+
+same-length-2 : tie.Need-same-length-2 Inv-loop μ-loop
+same-length-2 c = long-bits single-walk (now ((c .before .before .before .before .before .before .before .before .before .args) .s)) ((c .before .before .before .before .before .loop) .inv .0)
+
+returns : tie.Need-returns Inv-loop μ-loop
+returns c =
+    let s = now ((c .before .before .before .before .before .before .before .before .before .args) .s) in
+    let l = (c .before .before .before .before .before .loop) in
+    refuses (double-left s ((c .before .before .before .before .before .before .before .before .before .args) .n) ((c .before .before .before .before .before .before .before .before .before .args) .at) ∙ stop single-walk s (l .inv .0) ((c .before .before .before .before .loop-test) .taken) (single-refused s (l .p) (read-refused _ ((c .before .before .before .read-bd-bits) .ensures) ((c .before .k) .given .1))))
+
+add-i : tie.Need-add-i Inv-loop μ-loop
+add-i c = omega arith
+
+loop-less : tie.Need-loop-less Inv-loop μ-loop
+loop-less c = omega arith
+
+loop-again : tie.Need-loop-again Inv-loop μ-loop
+loop-again c =
+    let s = now ((c .before .before .before .before .before .before .before .before .before .before .before .before .before .before .before .before .args) .s) in
+    let l = (c .before .before .before .before .before .before .before .before .before .before .before .before .loop) in
+    let z = (c .before .before .before .before .before .before .before .before .before .before .before .before .before .before .before .before .args) .z in
+    let e = read-value _ ((c .before .before .before .before .before .before .before .before .before .before .read-bd-bits) .ensures) ((c .before .before .before .before .before .before .before .before .v) .given .1) in
+    let h = l .inv .1 in
+    let on = onward (coded BD) 2 takes-BD s (l .p) e (h .1 .0) in (
+      next single-walk s (l .inv .0) (numbers (_ ∷ [])) ((c .before .before .before .before .before .before .before .before .before .before .before .loop-test) .taken) (single-read s (l .p) e)
+          (record { lists = λ i. lists ((c .before .before .before .before .put-number) .ensures .0 i) ((c .before .before .before .before .put-number) .ensures .1 i) []; sizes = more-numbers (record { numbers = l .used; words = z .words; derived = z .derived }) ((c .before .before .before .before .before .before .before .before .v) .given .0 .0 ∷ []) }),
+      (h .0, (on .1, (omega (arith, on .0, h .1 .1 .0), omega (arith, on .0, h .1 .1 .1)))),
+    )
+
+same-length-3 : tie.Need-same-length-3 Inv-loop μ-loop
+same-length-3 c = long-doubles single-walk (now ((c .before .before .before .before .before .args) .s)) ((c .before .loop) .inv .0)
+
+same-length-4 : tie.Need-same-length-4 Inv-loop μ-loop
+same-length-4 c = long-bits single-walk (now ((c .before .before .before .before .before .args) .s)) ((c .before .loop) .inv .0)
+
+returns-2 : tie.Need-returns-2 Inv-loop μ-loop
+returns-2 c =
+    let s = now ((c .before .before .before .before .before .args) .s) in
+    let l = (c .before .loop) in
+    ends (l .inv .0 .gathered) (double-left s ((c .before .before .before .before .before .args) .n) ((c .before .before .before .before .before .args) .at) ∙ finish single-walk s (l .inv .0) ((c .loop-test) .left)) (l .inv .0 .step) (l .inv .1)
+
+pub double-run-spec : {M : Type 1} → statement M
+double-run-spec =
+    tie.close
+    (tie.spec
+    Inv-loop
+    μ-loop
+    loop-holds
+    read-bd-bits-requires
+    enum-known-v
+    put-number-requires
+    add-used
+    enum-known-k
+    same-length
+    same-length-2
+    returns
+    add-i
+    loop-less
+    loop-again
+    same-length-3
+    same-length-4
+    returns-2)
