@@ -7,8 +7,8 @@ use Prim.Native.Nat.{ℕ, zero, suc, _+_, _-_, _*_, _/_, _≤_, _<_, max}
 use native.Mathlib.Nat.{add-zero, add-assoc}
 use native.Mathlib.Omega.{arith}
 use lib.Ieee.{Float, ofBits, binary64}
-use lib.ListN.{length, length-append, set}
-use lib.Seq.{sets, length-sets}
+use lib.ListN.{length, length-append, set, take}
+use lib.Seq.{sets, length-sets, take-set-le, take-take}
 use Rattle.bitcursor.specs.declared.Refusal.{Refusal}
 use Rattle.bitcursor.specs.Bits.{odd}
 use Rattle.bitcursor.specs.Reading.{Out, got, refused, andThen, never}
@@ -19,7 +19,7 @@ use Rattle.hatch_points.specs.declared.lists.Sizes.{Sizes}
 use Rattle.hatch_points.specs.declared.lists.Walk.{Walk}
 use Rattle.hatch_points.specs.declared.lists.Walk.the-variants.{Done, Refused}
 use Rattle.hatch_points.specs.Gathered.{Entries, none, word, words, numbers, flagged, plus, gathered}
-use Rattle.hatch_points.specs.Lists.{Lists, lists, doublesOf, doubles-append, length-doubles, lay, grow, walkOf, Laid, Ready, ReadyAfter, Walks}
+use Rattle.hatch_points.specs.Lists.{Lists, lists, doublesOf, doubles-append, length-doubles, lay, grow, walkOf, KeptFront, Kept, Laid, Ready, ReadyAfter, Walks}
 
 -- ---- the laws that go list by list
 pub sets-append : {A : Type 0} (l : List A) (i : ℕ) (xs ys : List A) → sets l i (xs ++ ys) ≡ sets (sets l i xs) (i + length xs) ys
@@ -69,6 +69,50 @@ one-word z w = λ i. record { numbers = sym (add-zero (z .numbers)) i; words = z
 pub more-numbers : (z : Sizes) (ns : List ℕ) → record { numbers = z .numbers + length ns; words = z .words; derived = z .derived } ≡ grow z (numbers ns)
 more-numbers z ns = λ i. record { numbers = z .numbers + length ns; words = sym (add-zero (z .words)) i; derived = sym (or-false (z .derived)) i }
 
+-- a front is kept where stores come behind it, and by one who keeps a longer front
+take-sets : {A : Type 0} (n : ℕ) (l : List A) (i : ℕ) (vs : List A) → n ≤ i → take n (sets l i vs) ≡ take n l
+take-sets n l i [] h = refl
+take-sets n l i (v ∷ vs) h = take-sets n (set l i v) (suc i) vs (omega arith) ∙ take-set-le n l i v h
+
+front-same : {A : Type 0} {n : ℕ} {l : List A} → KeptFront n l l
+front-same = record { long = refl; front = refl }
+
+front-sets : {A : Type 0} (n : ℕ) (l : List A) (vs : List A) → KeptFront n l (sets l n vs)
+front-sets n l vs = record { long = length-sets l n vs; front = take-sets n l n vs (omega arith) }
+
+front-then : {A : Type 0} {n m : ℕ} {l l₁ l₂ : List A} → n ≤ m → KeptFront n l l₁ → KeptFront m l₁ l₂ → KeptFront n l l₂
+front-then {A} {n} {m} {l} {l₁} {l₂} le h k =
+    record {
+      long = k .long ∙ h .long;
+      front = sym (take-take n m l₂ le) ∙ ap (take n) (k .front) ∙ take-take n m l₁ le ∙ h .front;
+    }
+
+pub kept-same : {l : Lists} {z : Sizes} → Kept l z l
+kept-same = record { doubles = front-same; bits = front-same; words = front-same }
+
+kept-laid : (l : Lists) (z : Sizes) (e : Entries) → Kept l z (lay l z e)
+kept-laid l z e =
+    record {
+      doubles = front-sets (z .numbers) (l .doubles) (doublesOf (e .numbers));
+      bits = front-sets (z .numbers) (l .bits) (e .numbers);
+      words = front-sets (z .words) (l .words) (e .words);
+    }
+
+-- the words, or the numbers, of one who stores none
+pub kept-numbers : {a a′ : List Float} {b b′ : List ℕ} {z : Sizes} (ws : List ℕ) → Kept (lists a b []) z (lists a′ b′ []) → Kept (lists a b ws) z (lists a′ b′ ws)
+kept-numbers ws h = record { doubles = h .doubles; bits = h .bits; words = front-same }
+
+kept-words : (a : List Float) (b : List ℕ) {ws ws′ : List ℕ} {z : Sizes} → Kept (lists [] [] ws) z (lists [] [] ws′) → Kept (lists a b ws) z (lists a b ws′)
+kept-words a b h = record { doubles = front-same; bits = front-same; words = h .words }
+
+kept-grown : {l l₁ l₂ : Lists} (z : Sizes) (e : Entries) → Kept l z l₁ → Kept l₁ (grow z e) l₂ → Kept l z l₂
+kept-grown z e h k =
+    record {
+      doubles = front-then (omega arith) (h .doubles) (k .doubles);
+      bits = front-then (omega arith) (h .bits) (k .bits);
+      words = front-then (omega arith) (h .words) (k .words);
+    }
+
 -- ---- from here on no list is named
 -- the entries e were laid over l from z on, and the lists and lengths are l′ and z′ then
 pub record Step (l : Lists) (z : Sizes) (e : Entries) (l′ : Lists) (z′ : Sizes) : Type 0 where
@@ -85,6 +129,13 @@ _⊕_ {l} {l₁} {l₂} {z} {z₁} {z₂} {a} {b} h k =
       lists = k .lists ∙ ap₂ (λ (m : Lists) (y : Sizes). lay m y b) (h .lists) (h .sizes) ∙ sym (lay-plus l z a b);
       sizes = k .sizes ∙ ap (λ (y : Sizes). grow y b) (h .sizes) ∙ sym (grow-plus z a b);
     }
+
+-- a refusal behind entries that were laid, and behind a walk that was refused behind them
+pub kept-step : {l l′ : Lists} {z z′ : Sizes} {e : Entries} → Step l z e l′ z′ → Kept l z l′
+kept-step {l} {l′} {z} {z′} {e} s = subst (Kept l z) (sym (s .lists)) (kept-laid l z e)
+
+pub kept-then : {l l₁ l₂ : Lists} {z z₁ : Sizes} {e : Entries} → Step l z e l₁ z₁ → Kept l₁ z₁ l₂ → Kept l z l₂
+kept-then {l₁ = l₁} {l₂ = l₂} {z = z} {e = e} s k = kept-grown z e (kept-step s) (subst (λ (y : Sizes). Kept l₁ y l₂) (s .sizes) k)
 
 pub step-as : {l l′ : Lists} {z z′ : Sizes} {a b : Entries} → a ≡ b → Step l z a l′ z′ → Step l z b l′ z′
 step-as {l} {l′} {z} {z′} e h = subst (λ (x : Entries). Step l z x l′ z′) e h
@@ -118,13 +169,16 @@ module _ {xs : List ℕ} {o : Out ℕ Entries} {l l′ : Lists} {z : Sizes} {r :
   pub walk-no : {k : Refusal} {p : ℕ} → r ≡ Refused k p → o ≡ refused k p
   walk-no {k} {p} e = done-no o z k p (sym e ∙ h .is)
 
+  pub walk-kept : {k : Refusal} {p : ℕ} → r ≡ Refused k p → Kept l z l′
+  walk-kept e = subst (λ (x : Out ℕ Entries). Laid x l z l′) (walk-no e) (h .laid)
+
   pub walks-as : {o′ : Out ℕ Entries} → o ≡ o′ → Walks xs o′ l z l′ r
   walks-as e = subst (λ (x : Out ℕ Entries). Walks xs x l z l′ r) e h
 
 -- ---- what a walk answers
-pub refuses : {xs : List ℕ} {o : Out ℕ Entries} {l l′ : Lists} {z : Sizes} {k : Refusal} {p : ℕ} → o ≡ refused k p → Walks xs o l z l′ (Refused k p)
-refuses {xs} {o} {l} {l′} {z} {k} {p} e =
-    subst (λ (x : Out ℕ Entries). Walks xs x l z l′ (Refused k p)) (sym e) (record { is = refl; laid = tt; ready = tt })
+pub refuses : {xs : List ℕ} {o : Out ℕ Entries} {l l′ : Lists} {z : Sizes} {k : Refusal} {p : ℕ} → o ≡ refused k p → Kept l z l′ → Walks xs o l z l′ (Refused k p)
+refuses {xs} {o} {l} {l′} {z} {k} {p} e h =
+    subst (λ (x : Out ℕ Entries). Walks xs x l z l′ (Refused k p)) (sym e) (record { is = refl; laid = h; ready = tt })
 
 pub ends : {xs : List ℕ} {o : Out ℕ Entries} {l l′ : Lists} {z y : Sizes} {p : ℕ} (e : Entries) → o ≡ got e p → Step l z e l′ y → Ready xs p y → Walks xs o l z l′ (Done p y)
 ends {xs} {o} {l} {l′} {z} {y} {p} e i s h =
@@ -138,7 +192,7 @@ unfolding _>>=_ pure
 behind {xs} {l} {l₁} {l₂} {z} {y} {r} {p} f g s k h = go (f .read xs p) h
   where
     go : (o : Out ℕ Entries) → Walks xs o l₁ y l₂ r → Walks xs (andThen o (λ e q. got (g e) q)) l z l₂ r
-    go (refused n q) h = record { is = h .is; laid = tt; ready = h .ready }
+    go (refused n q) h = record { is = h .is; laid = kept-then s (h .laid); ready = h .ready }
     go (got e q) h =
         let t = step-as (k e) (s ⊕ record { lists = h .laid; sizes = refl }) in
         record { is = h .is ∙ ap (Done q) (t .sizes); laid = t .lists; ready = h .ready }
@@ -176,7 +230,8 @@ words-then {a = a} {b = b} {z = z} f many k i e h =
 -- the words of a walk that lays none
 pub with-words : {xs : List ℕ} (o : Out ℕ (List ℕ)) {a a′ : List Float} {b b′ : List ℕ} {z : Sizes} {r : Walk} (ws : List ℕ)
     → Walks xs (gathered numbers o) (lists a b []) z (lists a′ b′ []) r → Walks xs (gathered numbers o) (lists a b ws) z (lists a′ b′ ws) r
-with-words (refused k p) ws h = record { is = h .is; laid = tt; ready = h .ready }
+with-words (refused k p) ws h =
+    record { is = h .is; laid = kept-numbers ws (h .laid); ready = h .ready }
 with-words (got ns p) {a} {a′} {b} {b′} ws h =
     record { is = h .is; laid = λ i. lists ((h .laid i) .doubles) ((h .laid i) .bits) ws; ready = h .ready }
 
@@ -189,13 +244,15 @@ Numberless o = (e : Entries) (q : ℕ) → o ≡ got e q → e .numbers ≡ []
 
 pub words-kept : {xs : List ℕ} (o : Out ℕ Entries) {a a′ : List Float} {b b′ : List ℕ} {z : Sizes} {r : Walk} (ws : List ℕ) → Wordless o
     → Walks xs o (lists a b []) z (lists a′ b′ []) r → Walks xs o (lists a b ws) z (lists a′ b′ ws) r
-words-kept (refused k p) ws w h = record { is = h .is; laid = tt; ready = h .ready }
+words-kept (refused k p) ws w h =
+    record { is = h .is; laid = kept-numbers ws (h .laid); ready = h .ready }
 words-kept (got e p) {z = z} ws w h =
     record { is = h .is; laid = λ i. lists ((h .laid i) .doubles) ((h .laid i) .bits) (sets ws (z .words) (sym (w e p refl) i)); ready = h .ready }
 
 pub numbers-kept : {xs : List ℕ} (o : Out ℕ Entries) (a : List Float) (b : List ℕ) {ws ws′ : List ℕ} {z : Sizes} {r : Walk} → Numberless o
     → Walks xs o (lists [] [] ws) z (lists [] [] ws′) r → Walks xs o (lists a b ws) z (lists a b ws′) r
-numbers-kept (refused k p) a b w h = record { is = h .is; laid = tt; ready = h .ready }
+numbers-kept (refused k p) a b w h =
+    record { is = h .is; laid = kept-words a b (h .laid); ready = h .ready }
 numbers-kept (got e p) a b {z = z} w h =
     record { is = h .is; laid = λ i. lists (sets a (z .numbers) (doublesOf (sym (w e p refl) i))) (sets b (z .numbers) (sym (w e p refl) i)) ((h .laid i) .words); ready = h .ready }
 

@@ -13,10 +13,11 @@ use lib.Seq.{length-sets}
 use Rattle.hatch_points.specs.declared.lists.Sizes.{Sizes}
 use Rattle.hatch_points.specs.Gathered.{Entries, none, word, numbers, plus, repeated}
 use Rattle.bitcursor.specs.Doubles.{BD}
-use Rattle.hatch_points.specs.Walks.{single-walk, double-run}
-use Rattle.hatch_points.specs.Gathers.{double-repeated}
-use Rattle.hatch_points.specs.Lists.{Lists, doublesOf}
-use Rattle.hatch_points.proofs.Laws.{Step, no-step, _⊕_, plus-none, plus-again}
+use Rattle.hatch_points.specs.Walks.{single-walk}
+use Rattle.hatch_points.specs.declared.lists.Walk.{Walk}
+use Rattle.hatch_points.specs.declared.lists.Walk.the-variants.{Done, Refused}
+use Rattle.hatch_points.specs.Lists.{Lists, doublesOf, Kept, Ready, Walks}
+use Rattle.hatch_points.proofs.Laws.{Step, no-step, _⊕_, plus-none, plus-again, kept-then, walk-told, walk-ready, walk-no, walk-kept, refuses, ends}
 
 -- the entries a, and then what the rest has
 abbrev pub onto : Entries → Out ℕ Entries → Out ℕ Entries
@@ -47,9 +48,16 @@ module _ (d : Format one Entries) (xs : List ℕ) where
     pub gathered : Entries
     pub whole : left n p₀ ≡ onto gathered (left (n - i) p)
     pub step : Step l₀ z₀ gathered l z
+    pub ready : Ready xs p z
 
-  pub start : {n p : ℕ} {l : Lists} {z : Sizes} → Along n p l z 0 p l z
-  start {n} {p} = record { gathered = none; whole = sym (onto-none (left (n - 0) p) ∙ ap (λ (k : ℕ). left k p) (sub-zero n)); step = no-step }
+  pub start : {n p : ℕ} {l : Lists} {z : Sizes} → Ready xs p z → Along n p l z 0 p l z
+  start {n} {p} h =
+      record {
+        gathered = none;
+        whole = sym (onto-none (left (n - 0) p) ∙ ap (λ (k : ℕ). left k p) (sub-zero n));
+        step = no-step;
+        ready = h;
+      }
 
   module _ {n p₀ : ℕ} {l₀ : Lists} {z₀ : Sizes} {i p : ℕ} {l : Lists} {z : Sizes} (h : Along n p₀ l₀ z₀ i p l z) where
     turn : i < n → left n p₀ ≡ onto (h .gathered) (andThen (d .read xs p) (λ e q. onto e (left (n - (i + 1)) q)))
@@ -58,23 +66,43 @@ module _ (d : Format one Entries) (xs : List ℕ) where
         h .whole ∙ ap (λ (k : ℕ). onto (h .gathered) (left k p)) e ∙ ap (onto (h .gathered)) (left-more (n - (i + 1)) p)
 
     -- one turn more
-    pub next : {q : ℕ} {l′ : Lists} {z′ : Sizes} (e : Entries) → i < n → d .read xs p ≡ got e q → Step l z e l′ z′ → Along n p₀ l₀ z₀ (i + 1) q l′ z′
-    next {q} e lt r s =
+    pub next : {q : ℕ} {l′ : Lists} {z′ : Sizes} (e : Entries) → i < n → d .read xs p ≡ got e q → Step l z e l′ z′ → Ready xs q z′
+        → Along n p₀ l₀ z₀ (i + 1) q l′ z′
+    next {q} e lt r s y =
         record {
           gathered = plus (h .gathered) e;
           whole = turn lt ∙ ap (λ (o : Out ℕ Entries). onto (h .gathered) (andThen o (λ e q. onto e (left (n - (i + 1)) q)))) r ∙ onto-onto (h .gathered) e (left (n - (i + 1)) q);
           step = h .step ⊕ s;
+          ready = y;
         }
 
     -- the walk refuses, so the loop does
-    pub stop : {k : Refusal} {q : ℕ} → i < n → d .read xs p ≡ refused k q → left n p₀ ≡ refused k q
+    stop : {k : Refusal} {q : ℕ} → i < n → d .read xs p ≡ refused k q → left n p₀ ≡ refused k q
     stop lt r = turn lt ∙ ap (λ (o : Out ℕ Entries). onto (h .gathered) (andThen o (λ e q. onto e (left (n - (i + 1)) q)))) r
 
     -- all turns are done
-    pub finish : n ≤ i → left n p₀ ≡ got (h .gathered) p
+    finish : n ≤ i → left n p₀ ≡ got (h .gathered) p
     finish le =
         let e : n - i ≡ 0 = omega arith in
         h .whole ∙ ap (λ (k : ℕ). onto (h .gathered) (left k p)) e ∙ ap (onto (h .gathered)) (left-none p) ∙ ap (λ (x : Entries). got x p) (plus-none (h .gathered))
+
+    -- what the loop answers: a turn's refusal, or its end
+    pub loop-refuses : {k : Refusal} {q : ℕ} {l′ : Lists} → i < n → d .read xs p ≡ refused k q → Kept l z l′
+        → Walks xs ((repeated n d) .read xs p₀) l₀ z₀ l′ (Refused k q)
+    unfolding left
+    loop-refuses lt r k = refuses (stop lt r) (kept-then (h .step) k)
+
+    pub loop-ends : n ≤ i → Walks xs ((repeated n d) .read xs p₀) l₀ z₀ l (Done p z)
+    unfolding left
+    loop-ends le = ends (h .gathered) (finish le) (h .step) (h .ready)
+
+    -- a turn that is a walk by itself
+    module _ {l′ : Lists} {r : Walk} (lt : i < n) (w : Walks xs (d .read xs p) l z l′ r) where
+      pub walk-next : {q : ℕ} {y : Sizes} → r ≡ Done q y → Along n p₀ l₀ z₀ (i + 1) q l′ y
+      walk-next e = let t = walk-told w e in next (t .entries) lt (t .read) (t .step) (walk-ready w e)
+
+      pub walk-refuses : {k : Refusal} {q : ℕ} → r ≡ Refused k q → Walks xs ((repeated n d) .read xs p₀) l₀ z₀ l′ (Refused k q)
+      walk-refuses e = loop-refuses lt (walk-no w e) (walk-kept w e)
 
     -- the lists are as long as they were
     pub long-doubles : length (l .doubles) ≡ length (l₀ .doubles)
@@ -95,11 +123,3 @@ pub single-refused : (xs : List ℕ) (p : ℕ) {k : Refusal} {q : ℕ} → BD .r
 unfolding single-walk _>>=_ pure
 single-refused xs p e = rw e
 
-pub double-left : (xs : List ℕ) (n p : ℕ) → (double-run n) .read xs p ≡ left single-walk xs n p
-unfolding left
-double-left xs n p = double-repeated xs n p
-
--- n vertices
-pub repeated-left : (d : Format one Entries) (xs : List ℕ) (n p : ℕ) → (repeated n d) .read xs p ≡ left d xs n p
-unfolding left
-repeated-left d xs n p = refl

@@ -5,7 +5,7 @@ use mathlib.Core.Bool.{Bool, true, false, _||_}
 use mathlib.Core.List.{List, [], _∷_, _++_}
 use Prim.Native.Nat.{ℕ, suc, _+_, _*_, _≤_}
 use lib.Ieee.{Float, ofBits, binary64}
-use lib.ListN.{length}
+use lib.ListN.{length, take}
 use lib.Seq.{sets}
 use Rattle.bitcursor.specs.Reading.{Out, got, refused}
 use Rattle.bitcursor.specs.Answers.{limit}
@@ -49,10 +49,20 @@ abbrev pub walkOf : Sizes → Out ℕ Entries → Walk
 walkOf z (got e p) = Done p (grow z e)
 walkOf z (refused k p) = Refused k p
 
--- after a refusal nothing is said of the lists, which then are none of the caller's
+-- What is free after a refusal, and what holds of it: the entries from the length used on that the walk began with are anything; the list's
+-- length, and every entry before them, are what they were.
+pub record KeptFront {A : Type 0} (n : ℕ) (l l′ : List A) : Type 0 where
+  pub long : length l′ ≡ length l
+  pub front : take n l′ ≡ take n l
+
+pub record Kept (l : Lists) (z : Sizes) (l′ : Lists) : Type 0 where
+  pub doubles : KeptFront (z .numbers) (l .doubles) (l′ .doubles)
+  pub bits : KeptFront (z .numbers) (l .bits) (l′ .bits)
+  pub words : KeptFront (z .words) (l .words) (l′ .words)
+
 abbrev pub Laid : Out ℕ Entries → Lists → Sizes → Lists → Type 0
 Laid (got e p) l z l′ = l′ ≡ lay l z e
-Laid (refused k p) l z l′ = Unit {0}
+Laid (refused k p) l z l′ = Kept l z l′
 
 -- the payload is within the limit, the place within the payload, and no more entries have come than bits
 abbrev pub Ready : List ℕ → ℕ → Sizes → Type 0

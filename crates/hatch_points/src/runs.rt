@@ -1,13 +1,13 @@
 // Runs of doubles: n RD, which are passed by one comparison and stored so far as there is room, and n BD, each read by its tag.
 ghost use mathlib.Core.Path.{_≡_};
 ghost use mathlib.Core.List.{[]};
-ghost use Prim.Native.Nat.{_+_, _*_, _^_, _≤_, _<_};
+ghost use Prim.Native.Nat.{_+_, _*_, _^_, _≤_, _<_, max};
 ghost use lib.ListN.{length};
 ghost use lib.Seq.{sets};
 ghost use Rattle.bitcursor.specs.Answers.{limit};
 ghost use Rattle.hatch_points.specs.Walks.{raw-run, double-run};
 ghost use Rattle.hatch_points.specs.Lists.{lists, doublesOf, Ready, Walks};
-ghost use Rattle.hatch_points.specs.Stores.{rawAt, roomOf};
+ghost use Rattle.hatch_points.specs.Stores.{rawAt, roomFor};
 use crate::lists;
 use crate::lists::Sizes;
 use crate::lists::Walk;
@@ -16,7 +16,7 @@ use bitcursor::Read;
 use bitcursor::words;
 
 pub fn longer(a: usize, b: usize) -> usize
-    ensures { λ r. ⌜ (a ≤ r) × (b ≤ r) ⌝ }
+    ensures { λ r. ⌜ r ≡ max a b ⌝ }
 {
     if a < b {
         return b;
@@ -26,7 +26,7 @@ pub fn longer(a: usize, b: usize) -> usize
 
 // How many of n numbers, the first at `from`, either list has room for.
 fn stores(n: usize, from: usize, doubles: usize, bits: usize) -> usize
-    ensures { λ r. ⌜ (r ≤ n) × roomOf n from doubles bits r ⌝ }
+    ensures { λ r. ⌜ r ≡ roomFor n from doubles bits ⌝ }
 {
     let room = longer(doubles, bits);
     if room <= from {

@@ -30,7 +30,7 @@ use Rattle.hatch_points.specs.declared.lists.Walk.the-variants.{Done as DoneWal
 use Rattle.hatch_rest.specs.declared.patterns.Tail.{Tail}
 use Rattle.hatch_rest.specs.declared.patterns.TailWalk.{TailWalk}
 use Rattle.hatch_rest.specs.declared.patterns.TailWalk.the-variants.{Done as DoneTail, Refused as RefusedTail}
-use Rattle.hatch_rest.specs.declared.rests.RestWalk.the-variants.{Done}
+use Rattle.hatch_rest.specs.declared.rests.RestWalk.the-variants.{Done, Refused as RefusedRest}
 use Rattle.hatch_points.specs.Gathered.{Entries, all, gathered, repeated}
 use Rattle.hatch_paths.specs.PathWalks.{path-walk}
 use Rattle.hatch_points.specs.Runs.{times-length}
@@ -40,9 +40,9 @@ use Rattle.hatch_points.specs.Lists.{Lists, grow, Ready, Walks}
 use Rattle.hatch_points.specs.Heads.{resumed, one-more, bit-more}
 use Rattle.hatch_rest.specs.Tails.{Gives, tailOf, tailEntries, tailWalk}
 use Rattle.hatch_rest.specs.Rests.{noSizes, restOf, restEntries, restWalk}
-use Rattle.hatch_points.proofs.Laws.{Step, _⊕_, walks-as}
+use Rattle.hatch_points.proofs.Laws.{Step, _⊕_, kept-same, kept-then, walk-kept, walks-as}
 use Rattle.hatch_points.proofs.Rows.{ends-next, ends-ready, resumed-same, listed-row}
-use Rattle.hatch_rest.proofs.TailLaws.{gives-got, Gave, gave, gave-no, pure-read}
+use Rattle.hatch_rest.proofs.TailLaws.{gives-got, gives-kept, answers-no, Gave, gave, gave-no, pure-read}
 use Rattle.hatch_rest.proofs.TailEnds.{gives-step, gives-ready}
 
 tail-is : (o : Out ℕ TailValue) (z : Sizes) {v : Tail} {q : ℕ} {y : Sizes} → DoneTail v q y ≡ tailWalk z o
@@ -96,8 +96,9 @@ module _ (xs : List ℕ) (caps : Caps) (v : Version) (p : ℕ) {x y w : Read} (e
       let s₃ = ends-next xs p (bounded (caps .paths) BL) y e₃ s₂ in
       ends-ready xs p noSizes s₃ i (k, (h, (omega arith, omega arith)))
 
-  pub rest-short : {k : Refusal} {q : ℕ} → w ≡ Refused k q → (rest caps v) .read xs p ≡ refused k q
-  rest-short i = rest-row ∙ ap (resumed xs rest-rest) i
+  pub rest-short : {l : Lists} {k : Refusal} {q : ℕ} → w ≡ Refused k q
+      → (RefusedRest k q ≡ restWalk ((rest caps v) .read xs p)) × Gives xs restEntries ((rest caps v) .read xs p) l noSizes l
+  rest-short i = answers-no restEntries ((rest caps v) .read xs p) restWalk (rest-row ∙ ap (resumed xs rest-rest) i) kept-same
 
   -- r is the answer for the paths
   module _ {n q : ℕ} (i : w ≡ Value n q) {b : Bool} (fits : b ≡ leb 5 (releaseNumber v)) {r : Walk} {l l₁ : Lists}
@@ -108,8 +109,11 @@ module _ (xs : List ℕ) (caps : Caps) (v : Version) (p : ℕ) {x y w : Read} (e
     walked : Walks xs (gathered (all pathEntries) ((times n (path caps v)) .read xs q)) l noSizes l₁ r
     walked = walks-as h (ap (λ (t : Bool). (repeated n (path-walk caps t)) .read xs q) fits ∙ sym (paths-gather xs caps v n q))
 
-    pub rest-stops : {k : Refusal} {t : ℕ} → r ≡ RefusedWalk k t → (rest caps v) .read xs p ≡ refused k t
-    rest-stops d = behind-count ∙ then-refused (times n (path caps v)) _ xs (gave-no (all pathEntries) ((times n (path caps v)) .read xs q) walked d)
+    pub rest-stops : {k : Refusal} {t : ℕ} → r ≡ RefusedWalk k t
+        → (RefusedRest k t ≡ restWalk ((rest caps v) .read xs p)) × Gives xs restEntries ((rest caps v) .read xs p) l noSizes l₁
+    rest-stops d =
+        let o = gave-no (all pathEntries) ((times n (path caps v)) .read xs q) walked d in
+        answers-no restEntries ((rest caps v) .read xs p) restWalk (behind-count ∙ then-refused (times n (path caps v)) _ xs o) (walk-kept h d)
 
     -- and u that for the tail
     module _ {t : ℕ} {z : Sizes} (d : r ≡ DoneWalk t z) where
@@ -127,8 +131,12 @@ module _ (xs : List ℕ) (caps : Caps) (v : Version) (p : ℕ) {x y w : Read} (e
             behind-count ∙ then-got (times n (path caps v)) (after-paths solid associative) xs (told .read)
             ∙ ap (λ (c : Bool). (tail caps solid c >>= λ a. pure {M = one} (record { solid = solid; associative = associative; paths = told .value; tail = a })) .read xs t) (sym has)
 
-        pub rest-no : {k : Refusal} {m : ℕ} → u ≡ RefusedTail k m → (rest caps v) .read xs p ≡ refused k m
-        rest-no f = behind-paths ∙ then-refused (tail caps solid (z .derived)) _ xs (tail-not ((tail caps solid (z .derived)) .read xs t) z (sym f ∙ j .0))
+        pub rest-no : {k : Refusal} {m : ℕ} → u ≡ RefusedTail k m
+            → (RefusedRest k m ≡ restWalk ((rest caps v) .read xs p)) × Gives xs restEntries ((rest caps v) .read xs p) l noSizes l₂
+        rest-no f =
+            let o = tail-not ((tail caps solid (z .derived)) .read xs t) z (sym f ∙ j .0) in
+            answers-no restEntries ((rest caps v) .read xs p) restWalk (behind-paths ∙ then-refused (tail caps solid (z .derived)) _ xs o)
+            (kept-then (told .step) (gives-kept tailEntries ((tail caps solid (z .derived)) .read xs t) (j .1) o))
 
         pub rest-ends : {e : Tail} {m : ℕ} {o : Sizes} → u ≡ DoneTail e m o
             → (Done (record { solid = solid; associative = associative; paths = n; tail = e }) m o ≡ restWalk ((rest caps v) .read xs p))

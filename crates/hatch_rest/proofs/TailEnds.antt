@@ -25,14 +25,14 @@ use Rattle.hatch_rest.specs.declared.patterns.PatternWalk.the-variants.{
 use Rattle.hatch_rest.specs.declared.patterns.Ending.{Ending}
 use Rattle.hatch_rest.specs.declared.patterns.EndingWalk.{EndingWalk}
 use Rattle.hatch_rest.specs.declared.patterns.EndingWalk.the-variants.{Done as DoneEnding, Refused as RefusedEnding}
-use Rattle.hatch_rest.specs.declared.patterns.TailWalk.the-variants.{Done as DoneTail}
+use Rattle.hatch_rest.specs.declared.patterns.TailWalk.the-variants.{Done as DoneTail, Refused as RefusedTail}
 use Rattle.hatch_points.specs.Gathered.{Entries, gathered}
 use Rattle.hatch_points.specs.Lists.{Lists, lists, grow, Laid, Ready}
 use Rattle.hatch_points.specs.Heads.{resumed, one-more}
 use Rattle.hatch_rest.specs.Tails.{ReadyBehind, Gives, patternOf, patternEntries, patternWalk, endingOf, endingEntries, endingWalk, tailEntries, tailWalk}
-use Rattle.hatch_points.proofs.Laws.{Step, _⊕_}
+use Rattle.hatch_points.proofs.Laws.{Step, _⊕_, kept-same, kept-numbers, kept-then}
 use Rattle.hatch_points.proofs.Rows.{ends-next, ends-ready}
-use Rattle.hatch_rest.proofs.TailLaws.{gives-got, pure-read}
+use Rattle.hatch_rest.proofs.TailLaws.{gives-got, gives-kept, answers-no, pure-read}
 
 -- ---- what the answers for the parts tell
 module _ {A : Type 0} {xs : List ℕ} (e : A → Entries) (o : Out ℕ A) {l l′ : Lists} {z : Sizes} (h : Gives xs e o l z l′) where
@@ -86,8 +86,9 @@ module _ (xs : List ℕ) (caps : Caps) (solid has : Bool) where
         let s₂ = ends-next xs p (coded BS) x₁ e₂ s₁ in
         ends-ready xs p z s₂ i h
 
-    pub tail-short : {k : Refusal} {q : ℕ} → x₂ ≡ Refused k q → (tail caps solid has) .read xs p ≡ refused k q
-    tail-short i = tail-row ∙ ap (resumed xs (tail-rest (valueOf x₁))) i
+    pub tail-short : {l : Lists} {z : Sizes} {k : Refusal} {q : ℕ} → x₂ ≡ Refused k q
+        → (RefusedTail k q ≡ tailWalk z ((tail caps solid has) .read xs p)) × Gives xs tailEntries ((tail caps solid has) .read xs p) l z l
+    tail-short {z = z} i = answers-no tailEntries ((tail caps solid has) .read xs p) (tailWalk z) (tail-row ∙ ap (resumed xs (tail-rest (valueOf x₁))) i) kept-same
 
     -- r is the answer for the pattern
     module _ {kind q : ℕ} (i : x₂ ≡ Value kind q) {r : PatternWalk} {z : Sizes} {l l₁ : Lists}
@@ -95,8 +96,12 @@ module _ (xs : List ℕ) (caps : Caps) (solid has : Bool) where
       behind-type : (tail caps solid has) .read xs p ≡ (tail-rest (valueOf x₁) kind) .read xs q
       behind-type = tail-row ∙ ap (resumed xs (tail-rest (valueOf x₁))) i
 
-      pub tail-stops : {k : Refusal} {t : ℕ} → r ≡ RefusedPattern k t → (tail caps solid has) .read xs p ≡ refused k t
-      tail-stops d = behind-type ∙ then-refused (pattern caps solid) _ xs (pattern-not ((pattern caps solid) .read xs q) z (sym d ∙ h .0))
+      pub tail-stops : {k : Refusal} {t : ℕ} → r ≡ RefusedPattern k t
+          → (RefusedTail k t ≡ tailWalk z ((tail caps solid has) .read xs p)) × Gives xs tailEntries ((tail caps solid has) .read xs p) l z l₁
+      tail-stops d =
+          let o = pattern-not ((pattern caps solid) .read xs q) z (sym d ∙ h .0) in
+          answers-no tailEntries ((tail caps solid has) .read xs p) (tailWalk z) (behind-type ∙ then-refused (pattern caps solid) _ xs o)
+          (gives-kept patternEntries ((pattern caps solid) .read xs q) (h .1) o)
 
       -- and w that for the last fields
       module _ {v : Pattern} {t : ℕ} {y : Sizes} (d : r ≡ DonePattern v t y) where
@@ -114,8 +119,16 @@ module _ (xs : List ℕ) (caps : Caps) (solid has : Bool) where
 
         module _ {w : EndingWalk} {d₁ d₂ : List Float} {b₁ b₂ ws : List ℕ} (s : l₁ ≡ lists d₁ b₁ ws)
             (j : (w ≡ endingWalk y ((ending caps has) .read xs t)) × Gives xs endingEntries ((ending caps has) .read xs t) (lists d₁ b₁ []) y (lists d₂ b₂ [])) where
-          pub tail-no : {k : Refusal} {m : ℕ} → w ≡ RefusedEnding k m → (tail caps solid has) .read xs p ≡ refused k m
-          tail-no f = behind-pattern ∙ then-refused (ending caps has) _ xs (ending-not ((ending caps has) .read xs t) y (sym f ∙ j .0))
+          pattern-step : Step l z (patternEntries (told .0)) (lists d₁ b₁ ws) y
+          pattern-step =
+              subst (λ (k : Lists). Step l z (patternEntries (told .0)) k y) s (gives-step patternEntries ((pattern caps solid) .read xs q) (h .1) (told .1) (told .3))
+
+          pub tail-no : {k : Refusal} {m : ℕ} → w ≡ RefusedEnding k m
+              → (RefusedTail k m ≡ tailWalk z ((tail caps solid has) .read xs p)) × Gives xs tailEntries ((tail caps solid has) .read xs p) l z (lists d₂ b₂ ws)
+          tail-no f =
+              let o = ending-not ((ending caps has) .read xs t) y (sym f ∙ j .0) in
+              answers-no tailEntries ((tail caps solid has) .read xs p) (tailWalk z) (behind-pattern ∙ then-refused (ending caps has) _ xs o)
+              (kept-then pattern-step (kept-numbers ws (gives-kept endingEntries ((ending caps has) .read xs t) (j .1) o)))
 
           pub tail-ends : {e : Ending} {m : ℕ} {x : Sizes} → w ≡ DoneEnding e m x → {style : ℕ} → style ≡ valueOf x₁
               → (DoneTail (record { style = style; kind = kind; pattern = v; ending = e }) m x ≡ tailWalk z ((tail caps solid has) .read xs p))
@@ -123,8 +136,7 @@ module _ (xs : List ℕ) (caps : Caps) (solid has : Bool) where
           tail-ends {m = m} f g =
               let c = ending-is ((ending caps has) .read xs t) y (sym f ∙ j .0) in
               let o = behind-pattern ∙ then-got (ending caps has) last-rest xs (c .1) ∙ pure-read (record { pattern-style = valueOf x₁; pattern-type = kind; pattern = told .0; ending = c .0 }) xs m in
-              let s₁ = subst (λ (k : Lists). Step l z (patternEntries (told .0)) k y) s (gives-step patternEntries ((pattern caps solid) .read xs q) (h .1) (told .1) (told .3)) in
-              let s₂ = s₁ ⊕ ending-words (c .0) ws (gives-step endingEntries ((ending caps has) .read xs t) (j .1) (c .1) (c .3)) in
+              let s₂ = pattern-step ⊕ ending-words (c .0) ws (gives-step endingEntries ((ending caps has) .read xs t) (j .1) (c .1) (c .3)) in
               let last = gives-ready endingEntries ((ending caps has) .read xs t) (j .1) (c .1) (c .3) in (
                 (λ i. DoneTail (record { style = g i; kind = kind; pattern = told .2 i; ending = c .2 i }) m (s₂ .sizes i)) ∙ ap (tailWalk z) (sym o),
                 gives-got tailEntries ((tail caps solid has) .read xs p) o (s₂ .lists) (subst (Ready xs m) (s₂ .sizes) last),

@@ -27,18 +27,18 @@ use Rattle.hatch_points.specs.declared.lists.Sizes.{Sizes}
 use Rattle.hatch_points.specs.declared.lists.Walk.{Walk}
 use Rattle.hatch_points.specs.declared.lists.Walk.the-variants.{Done, Refused as RefusedWalk}
 use Rattle.hatch_rest.specs.declared.patterns.PatternWalk.{PatternWalk}
-use Rattle.hatch_rest.specs.declared.patterns.PatternWalk.the-variants.{Done as DonePattern}
-use Rattle.hatch_rest.specs.declared.patterns.EndingWalk.the-variants.{Done as DoneEnding}
+use Rattle.hatch_rest.specs.declared.patterns.PatternWalk.the-variants.{Done as DonePattern, Refused as RefusedPattern}
+use Rattle.hatch_rest.specs.declared.patterns.EndingWalk.the-variants.{Done as DoneEnding, Refused as RefusedEnding}
 use Rattle.hatch_points.specs.Gathered.{Entries, all, gathered, repeated}
 use Rattle.hatch_points.specs.Walks.{raw-run}
 use Rattle.hatch_rest.specs.LineGathers.{line-walk}
 use Rattle.hatch_points.specs.Runs.{pointEntries, times-length, times-gather, points-gather}
 use Rattle.hatch_points.specs.Gathers.{all-numbers}
 use Rattle.hatch_rest.specs.LineGathers.{lineEntries, line-gathers}
-use Rattle.hatch_points.specs.Lists.{Lists, lists, lay, grow, Ready, Walks}
+use Rattle.hatch_points.specs.Lists.{Lists, lists, lay, grow, Kept, Laid, Ready, Walks}
 use Rattle.hatch_points.specs.Heads.{resumed, one-more, bit-more}
 use Rattle.hatch_rest.specs.Tails.{Gives, patternEntries, patternWalk, endingEntries, endingWalk}
-use Rattle.hatch_points.proofs.Laws.{Step, step-as, walk-ready, walks-as}
+use Rattle.hatch_points.proofs.Laws.{Step, step-as, kept-same, walk-ready, walk-kept, walks-as}
 use Rattle.hatch_points.proofs.Rows.{ends-next, ends-ready, count-left, resumed-same, listed-row}
 
 -- ---- values and their entries
@@ -46,8 +46,12 @@ module _ {A : Type 0} {xs : List ℕ} (e : A → Entries) (o : Out ℕ A) {l l�
   pub gives-got : {a : A} {q : ℕ} → o ≡ got a q → l′ ≡ lay l z (e a) → Ready xs q (grow z (e a)) → Gives xs e o l z l′
   gives-got {a} {q} i j h = subst (λ (x : Out ℕ A). Gives xs e x l z l′) (sym i) (record { laid = j; ready = h })
 
-  pub gives-no : {k : Refusal} {q : ℕ} → o ≡ refused k q → Gives xs e o l z l′
-  gives-no {k} {q} i = subst (λ (x : Out ℕ A). Gives xs e x l z l′) (sym i) (record { laid = tt; ready = tt })
+  pub gives-kept : Gives xs e o l z l′ → {k : Refusal} {q : ℕ} → o ≡ refused k q → Kept l z l′
+  gives-kept h i = subst (λ (x : Out ℕ A). Laid (gathered e x) l z l′) i (h .laid)
+
+  -- the answer w for a refusal
+  pub answers-no : {W : Type 0} (w : Out ℕ A → W) {k : Refusal} {q : ℕ} → o ≡ refused k q → Kept l z l′ → (w (refused k q) ≡ w o) × Gives xs e o l z l′
+  answers-no w {k} {q} i h = (ap w (sym i), subst (λ (x : Out ℕ A). Gives xs e x l z l′) (sym i) (record { laid = h; ready = tt }))
 
 -- what a walk's answer tells of the values whose entries it gathers
 pub record Gave {A : Type 0} (e : A → Entries) (o : Out ℕ A) (l : Lists) (z : Sizes) (l′ : Lists) (q : ℕ) (y : Sizes) : Type 0 where
@@ -138,8 +142,11 @@ module _ (xs : List ℕ) (caps : Caps) where
         let s₄ = ends-next xs p (bounded (caps .«pattern_lines») BS) x₃ e₄ s₃ in
         ends-ready xs p z s₄ i h
 
-    pub pattern-short : {k : Refusal} {q : ℕ} → x₄ ≡ Refused k q → (pattern caps false) .read xs p ≡ refused k q
-    pattern-short i = pattern-row p x₁ x₂ x₃ x₄ e₁ e₂ e₃ e₄ ∙ ap (resumed xs (pattern-rest (valueOf x₁) (valueOf x₂) (eqb 1 (valueOf x₃)))) i
+    pub pattern-short : {l : Lists} {z : Sizes} {k : Refusal} {q : ℕ} → x₄ ≡ Refused k q
+        → (RefusedPattern k q ≡ patternWalk z ((pattern caps false) .read xs p)) × Gives xs patternEntries ((pattern caps false) .read xs p) l z l
+    pattern-short {z = z} i =
+        answers-no patternEntries ((pattern caps false) .read xs p) (patternWalk z)
+        (pattern-row p x₁ x₂ x₃ x₄ e₁ e₂ e₃ e₄ ∙ ap (resumed xs (pattern-rest (valueOf x₁) (valueOf x₂) (eqb 1 (valueOf x₃)))) i) kept-same
 
     module _ {n q : ℕ} (i : x₄ ≡ Value n q) where
       behind-count : (pattern caps false) .read xs p ≡ (pattern-rest (valueOf x₁) (valueOf x₂) (eqb 1 (valueOf x₃)) n) .read xs q
@@ -150,9 +157,12 @@ module _ (xs : List ℕ) (caps : Caps) where
       lines-walk h = walks-as h (sym (times-gather (pattern-line (caps .dashes)) xs lineEntries (line-walk (caps .dashes)) (line-gathers xs (caps .dashes)) n q))
 
       pub pattern-stops : {l l′ : Lists} {z : Sizes} {r : Walk} → Walks xs ((repeated n (line-walk (caps .dashes))) .read xs q) l z l′ r
-          → {k : Refusal} {t : ℕ} → r ≡ RefusedWalk k t → (pattern caps false) .read xs p ≡ refused k t
-      pattern-stops h d =
-          behind-count ∙ then-refused (times n (pattern-line (caps .dashes))) _ xs (gave-no (all lineEntries) ((times n (pattern-line (caps .dashes))) .read xs q) (lines-walk h) d)
+          → {k : Refusal} {t : ℕ} → r ≡ RefusedWalk k t
+          → (RefusedPattern k t ≡ patternWalk z ((pattern caps false) .read xs p)) × Gives xs patternEntries ((pattern caps false) .read xs p) l z l′
+      pattern-stops {z = z} h d =
+          let o = gave-no (all lineEntries) ((times n (pattern-line (caps .dashes))) .read xs q) (lines-walk h) d in
+          answers-no patternEntries ((pattern caps false) .read xs p) (patternWalk z)
+          (behind-count ∙ then-refused (times n (pattern-line (caps .dashes))) _ xs o) (walk-kept h d)
 
       pub pattern-ends : {l l′ : Lists} {z : Sizes} {r : Walk} → Walks xs ((repeated n (line-walk (caps .dashes))) .read xs q) l z l′ r
           → {t : ℕ} {y : Sizes} → r ≡ Done t y → {angle scale double : ℕ} → angle ≡ valueOf x₁ → scale ≡ valueOf x₂ → double ≡ valueOf x₃
@@ -194,8 +204,10 @@ module _ (xs : List ℕ) (caps : Caps) where
         let c = count-left (caps .«seed_points») BL 2 takes-BL xs x₁ e₂ i t₁ in
         (ends-ready xs p z s₂ i h, omega (arith, c .0, c .1, h .0))
 
-    pub ending-short : {k : Refusal} {q : ℕ} → x₂ ≡ Refused k q → (ending caps has) .read xs p ≡ refused k q
-    ending-short i = ending-row ∙ ap (resumed xs (ending-rest (valueOf x₁))) i
+    pub ending-short : {l : Lists} {z : Sizes} {k : Refusal} {q : ℕ} → x₂ ≡ Refused k q
+        → (RefusedEnding k q ≡ endingWalk z ((ending caps has) .read xs p)) × Gives xs endingEntries ((ending caps has) .read xs p) l z l
+    ending-short {z = z} i =
+        answers-no endingEntries ((ending caps has) .read xs p) (endingWalk z) (ending-row ∙ ap (resumed xs (ending-rest (valueOf x₁))) i) kept-same
 
     module _ {n q : ℕ} (i : x₂ ≡ Value n q) where
       behind-seeds : (ending caps has) .read xs p ≡ (ending-rest (valueOf x₁) n) .read xs q
@@ -206,8 +218,11 @@ module _ (xs : List ℕ) (caps : Caps) where
       seeds-walk h = walks-as h (sym (points-gather xs n q))
 
       pub ending-stops : {l l′ : Lists} {z : Sizes} {r : Walk} → Walks xs ((raw-run (2 * n)) .read xs q) l z l′ r
-          → {k : Refusal} {t : ℕ} → r ≡ RefusedWalk k t → (ending caps has) .read xs p ≡ refused k t
-      ending-stops h d = behind-seeds ∙ then-refused (times n point) _ xs (gave-no (all (pointEntries xs)) ((times n point) .read xs q) (seeds-walk h) d)
+          → {k : Refusal} {t : ℕ} → r ≡ RefusedWalk k t
+          → (RefusedEnding k t ≡ endingWalk z ((ending caps has) .read xs p)) × Gives xs endingEntries ((ending caps has) .read xs p) l z l′
+      ending-stops {z = z} h d =
+          let o = gave-no (all (pointEntries xs)) ((times n point) .read xs q) (seeds-walk h) d in
+          answers-no endingEntries ((ending caps has) .read xs p) (endingWalk z) (behind-seeds ∙ then-refused (times n point) _ xs o) (walk-kept h d)
 
       pub ending-ends : {l l′ : Lists} {z : Sizes} {r : Walk} → Walks xs ((raw-run (2 * n)) .read xs q) l z l′ r
           → {t : ℕ} {y : Sizes} → r ≡ Done t y → {pixel : ℕ} → pixel ≡ valueOf x₁

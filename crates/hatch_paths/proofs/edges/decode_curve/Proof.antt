@@ -6,7 +6,7 @@ use Rattle.bitcursor.specs.Format.{_>>=_, pure, then-got, then-refused}
 use Rattle.hatch_points.specs.Gathered.{Entries, plus}
 use Rattle.hatch_points.specs.Walks.{raw-run, double-run}
 use Rattle.hatch_paths.specs.PathWalks.{bit-walk, curve-walk}
-use Rattle.hatch_points.proofs.Laws.{Step, _⊕_, walk-told, walk-ready, walk-no, walks-as, refuses, behind, words-kept, numbers-kept, plus-again}
+use Rattle.hatch_points.proofs.Laws.{Step, _⊕_, walk-told, walk-ready, walk-no, walks-as, refuses, behind, words-kept, numbers-kept, plus-again, kept-then, kept-numbers, walk-kept}
 use Rattle.hatch_points.proofs.Lacking.{raw-wordless, double-wordless}
 use Rattle.hatch_paths.proofs.EdgeLaws.{bit-numberless}
 use borrow.Author.Needs.{needs}
@@ -71,7 +71,10 @@ returns-2 c =
     let a = (c .before .before .before .before .before .before .before .before .before .before .before .before .before .before .before .before .before .before .before .before .before .before .before .before .args) in
     let s = now (a .s) in
     let h = walk-told (words-kept _ (now (a .words)) (raw-wordless (a .n) s (a .at)) ((c .before .before .before .before .before .before .before .before .before .before .before .before .before .before .before .before .before .raw-run) .ensures)) ((c .before .before .before .before .before .before .before .before .before .before .before .p) .given .1) in
-    refuses (then-got (raw-run (a .n)) _ s (h .read) ∙ then-refused (double-run 3) _ s (walk-no ((c .before .before .before .before .before .before .before .double-run) .ensures) ((c .before .k) .given .1)))
+    let walk = (c .before .before .before .before .before .before .before .double-run) .ensures in
+    let stop = (c .before .k) .given .1 in
+    refuses (then-got (raw-run (a .n)) _ s (h .read) ∙ then-refused (double-run 3) _ s (walk-no walk stop))
+    (kept-then (h .step) (kept-numbers (now (a .words)) (walk-kept walk stop)))
 
 same-length-6 : tie.Need-same-length-6
 same-length-6 c = search needs
@@ -81,7 +84,11 @@ same-length-7 c = search needs
 
 returns-3 : tie.Need-returns-3
 unfolding curve-walk
-returns-3 c = refuses (then-refused (raw-run ((c .before .before .before .before .before .before .before .before .before .before .before .before .before .before .args) .n)) _ (now ((c .before .before .before .before .before .before .before .before .before .before .before .before .before .before .args) .s)) (walk-no ((c .before .before .before .before .before .before .before .raw-run) .ensures) ((c .before .k2) .given .1)))
+returns-3 c =
+    let a = (c .before .before .before .before .before .before .before .before .before .before .before .before .before .before .args) in
+    let walk = (c .before .before .before .before .before .before .before .raw-run) .ensures in
+    let stop = (c .before .k2) .given .1 in
+    refuses (then-refused (raw-run (a .n)) _ (now (a .s)) (walk-no walk stop)) (kept-numbers (now (a .words)) (walk-kept walk stop))
 
 pub decode-curve-spec : {M : Type 1} → statement M
 decode-curve-spec =

@@ -12,7 +12,7 @@ use Rattle.bitcursor.specs.Format.{_>>=_, pure, then-got, then-refused}
 use Rattle.bitcursor.proofs.Steps.{read-value, read-refused}
 use Rattle.hatch_format.specs.Takes.{takes-low}
 use Rattle.hatch_paths.specs.PathWalks.{edge-of-walk, edge-walk}
-use Rattle.hatch_points.proofs.Laws.{walks-as, refuses, word-then, onward}
+use Rattle.hatch_points.proofs.Laws.{walks-as, refuses, word-then, onward, kept-same}
 use borrow.Author.Needs.{needs}
 use Rattle.hatch_paths.proofs.edges.decode_edge.Statement.{statement}
 use Rattle.hatch_paths.proofs.edges.decode_edge.Tie as tie
@@ -64,7 +64,7 @@ returns c =
 
 returns-2 : tie.Need-returns-2
 unfolding edge-walk RC
-returns-2 c = refuses (then-refused (coded (lowFirst 1)) _ (now ((c .before .before .before .before .before .before .before .before .args) .s)) (read-refused _ ((c .before .before .before .read-low) .ensures) ((c .before .k) .given .1)))
+returns-2 c = refuses (then-refused (coded (lowFirst 1)) _ (now ((c .before .before .before .before .before .before .before .before .args) .s)) (read-refused _ ((c .before .before .before .read-low) .ensures) ((c .before .k) .given .1))) kept-same
 
 pub decode-edge-spec : {M : Type 1} → statement M
 decode-edge-spec =

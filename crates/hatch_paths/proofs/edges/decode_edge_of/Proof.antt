@@ -8,7 +8,7 @@ use Rattle.bitcursor.specs.declared.Refusal.the-variants.{EdgeKind}
 use Rattle.bitcursor.specs.Reading.{refused}
 use Rattle.hatch_points.specs.Walks.{raw-run}
 use Rattle.hatch_paths.specs.PathWalks.{curve-walk, spline-walk, edge-of-walk}
-use Rattle.hatch_points.proofs.Laws.{walks-as, refuses, words-kept}
+use Rattle.hatch_points.proofs.Laws.{walks-as, refuses, words-kept, kept-same}
 use Rattle.hatch_points.proofs.Lacking.{raw-wordless}
 use Rattle.hatch_paths.proofs.EdgeLaws.{other-kind}
 use borrow.Author.Needs.{needs}
@@ -91,7 +91,7 @@ returns-4 c =
     walks-as ((c .before .before .before .before .before .before .decode-spline-edge) .ensures) (ap (λ (k : ℕ). (edge-of-walk (a .caps) (a .fits) k) .read (now (a .s)) (a .at)) (sym ((c .before .before .before .before .before .before .before .before .before .before .match) .keys4)))
 
 returns-5 : tie.Need-returns-5
-returns-5 c = let a = (c .before .before .before .before .before .args) in refuses (other-kind (a .caps) (a .fits) (a .kind) (now (a .s)) (a .at) ((c .match) .rest .0 .0 .0 .1) ((c .match) .rest .0 .0 .1) ((c .match) .rest .0 .1) ((c .match) .rest .1))
+returns-5 c = let a = (c .before .before .before .before .before .args) in refuses (other-kind (a .caps) (a .fits) (a .kind) (now (a .s)) (a .at) ((c .match) .rest .0 .0 .0 .1) ((c .match) .rest .0 .0 .1) ((c .match) .rest .0 .1) ((c .match) .rest .1)) kept-same
 
 pub decode-edge-of-spec : {M : Type 1} → statement M
 decode-edge-of-spec =

@@ -15,7 +15,7 @@ use Rattle.hatch_points.specs.Gathered.{Entries, word, plus}
 use Rattle.hatch_points.specs.Lists.{lists}
 use Rattle.hatch_points.specs.Walks.{raw-run}
 use Rattle.hatch_paths.specs.PathWalks.{fits-walk, fitted-raw}
-use Rattle.hatch_points.proofs.Laws.{one-word, refuses, ends, word-then, walks-as, words-kept, onward}
+use Rattle.hatch_points.proofs.Laws.{one-word, refuses, ends, word-then, walks-as, words-kept, onward, kept-same}
 use Rattle.hatch_points.specs.Heads.{count-capped}
 use Rattle.hatch_points.proofs.Lacking.{raw-wordless}
 use borrow.Author.Needs.{needs}
@@ -80,7 +80,7 @@ unfolding fits-walk
 returns-2 c =
     let a = (c .before .before .before .before .before .before .before .before .before .before .args) in
     let s = now (a .s) in
-    refuses (ap (λ (b : Bool). (fits-walk (a .cap) b) .read s (a .at)) ((c .before .before .before .before .if1) .taken) ∙ then-refused (bounded (a .cap) BL) _ s (read-refused _ ((c .before .before .before .read-count) .ensures) ((c .before .k) .given .1)))
+    refuses (ap (λ (b : Bool). (fits-walk (a .cap) b) .read s (a .at)) ((c .before .before .before .before .if1) .taken) ∙ then-refused (bounded (a .cap) BL) _ s (read-refused _ ((c .before .before .before .read-count) .ensures) ((c .before .k) .given .1))) kept-same
 
 put-word-requires-2 : tie.Need-put-word-requires-2
 put-word-requires-2 c κs = search needs

@@ -12,7 +12,7 @@ use lib.Seq.{sets}
 use Rattle.hatch_paths.specs.PathWalks.{spline-lists-walk, spline-walk}
 use Rattle.hatch_points.specs.Heads.{resumed}
 use Rattle.hatch_paths.specs.Splines.{spline-rest}
-use Rattle.hatch_points.proofs.Laws.{walks-as, refuses, words-then}
+use Rattle.hatch_points.proofs.Laws.{walks-as, refuses, words-then, kept-same}
 use Rattle.hatch_paths.proofs.SplineHeads.{head-read}
 use borrow.Author.Needs.{needs}
 use Rattle.hatch_paths.proofs.edges.decode_spline_edge.Statement.{statement}
@@ -80,7 +80,7 @@ returns-2 c =
     let s = now (a .s) in
     let h = (c .before .before .before .read-spline-head) .result in
     let r = head-read s (a .caps) (a .at) ((c .before .before .before .read-spline-head) .ensures) in
-    refuses (r .reads (a .fits) ∙ ap (resumed s (spline-rest (a .caps) (a .fits) h)) ((c .before .last2) .given .1))
+    refuses (r .reads (a .fits) ∙ ap (resumed s (spline-rest (a .caps) (a .fits) h)) ((c .before .last2) .given .1)) kept-same
 
 pub decode-spline-edge-spec : {M : Type 1} → statement M
 decode-spline-edge-spec =

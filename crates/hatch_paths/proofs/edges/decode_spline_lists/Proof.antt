@@ -11,7 +11,7 @@ use Rattle.hatch_points.specs.Gathered.{Entries, plus}
 use Rattle.hatch_points.specs.Walks.{double-run, vertices-walk}
 use Rattle.hatch_paths.specs.PathWalks.{fits-walk, spline-lists-walk}
 use Rattle.hatch_format.specs.Takes.{takes-none}
-use Rattle.hatch_points.proofs.Laws.{words-still, Step, _⊕_, walk-told, walk-ready, walk-no, walks-as, refuses, behind, words-kept, plus-again, onward}
+use Rattle.hatch_points.proofs.Laws.{words-still, Step, _⊕_, walk-told, walk-ready, walk-no, walks-as, refuses, behind, words-kept, plus-again, onward, kept-then, kept-numbers, walk-kept}
 use Rattle.hatch_points.proofs.Lacking.{double-wordless, vertices-wordless}
 use borrow.Author.Needs.{needs}
 use Rattle.hatch_paths.proofs.edges.decode_spline_lists.Statement.{statement}
@@ -85,8 +85,12 @@ unfolding spline-lists-walk
 returns-2 c =
     let a = (c .before .before .before .before .before .before .before .before .before .before .before .before .before .before .before .before .before .before .before .before .before .before .before .before .before .args) in
     let s = now (a .s) in
-    let h = walk-told ((c .before .before .before .before .before .before .before .before .before .before .before .before .before .before .before .before .before .before .double-run) .ensures) ((c .before .before .before .before .before .before .before .before .before .before .before .before .p) .given .1) in
-    refuses (then-got (double-run (a .head .knots)) _ s (h .read) ∙ then-refused (vertices-walk (eqb 1 (a .head .rational)) (a .controls)) _ s (walk-no ((c .before .before .before .before .before .before .before .decode-points) .ensures) ((c .before .k) .given .1)))
+    let h = walk-told (words-kept _ (now (a .words)) (double-wordless (a .head .knots) s (a .at)) ((c .before .before .before .before .before .before .before .before .before .before .before .before .before .before .before .before .before .before .double-run) .ensures)) ((c .before .before .before .before .before .before .before .before .before .before .before .before .p) .given .1) in
+    let walk = (c .before .before .before .before .before .before .before .decode-points) .ensures in
+    let stop = (c .before .k) .given .1 in
+    refuses
+    (then-got (double-run (a .head .knots)) _ s (h .read) ∙ then-refused (vertices-walk (eqb 1 (a .head .rational)) (a .controls)) _ s (walk-no walk stop))
+    (kept-then (h .step) (kept-numbers (now (a .words)) (walk-kept walk stop)))
 
 same-length-6 : tie.Need-same-length-6
 same-length-6 c = search needs
@@ -96,7 +100,11 @@ same-length-7 c = search needs
 
 returns-3 : tie.Need-returns-3
 unfolding spline-lists-walk
-returns-3 c = refuses (then-refused (double-run ((c .before .before .before .before .before .before .before .before .before .before .before .before .before .before .args) .head .knots)) _ (now ((c .before .before .before .before .before .before .before .before .before .before .before .before .before .before .args) .s)) (walk-no ((c .before .before .before .before .before .before .before .double-run) .ensures) ((c .before .k2) .given .1)))
+returns-3 c =
+    let a = (c .before .before .before .before .before .before .before .before .before .before .before .before .before .before .args) in
+    let walk = (c .before .before .before .before .before .before .before .double-run) .ensures in
+    let stop = (c .before .k2) .given .1 in
+    refuses (then-refused (double-run (a .head .knots)) _ (now (a .s)) (walk-no walk stop)) (kept-numbers (now (a .words)) (walk-kept walk stop))
 
 pub decode-spline-lists-spec : {M : Type 1} → statement M
 decode-spline-lists-spec =

@@ -13,7 +13,7 @@ use Rattle.bitcursor.specs.Fields.{coded}
 use Rattle.bitcursor.proofs.Steps.{read-value, read-refused}
 use Rattle.hatch_points.specs.Gathered.{word}
 use Rattle.hatch_points.specs.Lists.{lists}
-use Rattle.hatch_points.proofs.Laws.{one-word, refuses, ends, onward}
+use Rattle.hatch_points.proofs.Laws.{one-word, refuses, ends, onward, kept-same}
 use Rattle.hatch_paths.proofs.EdgeLaws.{bit-read, bit-refused}
 use Rattle.hatch_points.proofs.Lacking.{bit-of, takes-raw}
 use borrow.Author.Needs.{needs}
@@ -56,7 +56,7 @@ returns c =
     (h .0, (on .1, (omega (arith, on .0, h .1 .1 .0), omega (arith, on .0, h .1 .1 .1))))
 
 returns-2 : tie.Need-returns-2
-returns-2 c = refuses (bit-refused (now ((c .before .before .before .before .before .before .args) .s)) ((c .before .before .before .before .before .before .args) .at) (read-refused _ ((c .before .before .before .read-bits) .ensures) ((c .before .k) .given .1)))
+returns-2 c = refuses (bit-refused (now ((c .before .before .before .before .before .before .args) .s)) ((c .before .before .before .before .before .before .args) .at) (read-refused _ ((c .before .before .before .read-bits) .ensures) ((c .before .k) .given .1))) kept-same
 
 pub put-bit-spec : {M : Type 1} → statement M
 put-bit-spec =

@@ -12,7 +12,7 @@ use Rattle.hatch_format.specs.Counts.{bounded, takes-bounded}
 use Rattle.hatch_points.specs.Heads.{count-capped}
 use Rattle.hatch_points.specs.Gathered.{repeated}
 use Rattle.hatch_paths.specs.PathWalks.{edge-walk, edges-walk}
-use Rattle.hatch_points.proofs.Laws.{walks-as, refuses, word-then, onward}
+use Rattle.hatch_points.proofs.Laws.{walks-as, refuses, word-then, onward, kept-same}
 use borrow.Author.Needs.{needs}
 use Rattle.hatch_paths.proofs.paths.decode_edge_path.Statement.{statement}
 use Rattle.hatch_paths.proofs.paths.decode_edge_path.Tie as tie
@@ -64,7 +64,7 @@ returns c =
 
 returns-2 : tie.Need-returns-2
 unfolding edges-walk
-returns-2 c = refuses (then-refused (bounded ((c .before .before .before .before .before .before .before .before .args) .caps .edges) BL) _ (now ((c .before .before .before .before .before .before .before .before .args) .s)) (read-refused _ ((c .before .before .before .read-count) .ensures) ((c .before .k) .given .1)))
+returns-2 c = refuses (then-refused (bounded ((c .before .before .before .before .before .before .before .before .args) .caps .edges) BL) _ (now ((c .before .before .before .before .before .before .before .before .args) .s)) (read-refused _ ((c .before .before .before .read-count) .ensures) ((c .before .k) .given .1))) kept-same
 
 pub decode-edge-path-spec : {M : Type 1} → statement M
 decode-edge-path-spec =

@@ -7,7 +7,7 @@ use denote.Ref.{now}
 use Rattle.bitcursor.specs.Format.{_>>=_, pure, then-got, then-refused}
 use Rattle.hatch_points.specs.Gathered.{Entries, plus}
 use Rattle.hatch_paths.specs.PathWalks.{segments-walk, handles-walk, flagged-walk}
-use Rattle.hatch_points.proofs.Laws.{walk-told, walk-ready, walk-no, walks-as, refuses, behind, numbers-kept}
+use Rattle.hatch_points.proofs.Laws.{walk-told, walk-ready, walk-no, walks-as, refuses, behind, numbers-kept, walk-kept}
 use Rattle.hatch_paths.proofs.EdgeLaws.{handles-numberless}
 use borrow.Author.Needs.{needs}
 use Rattle.hatch_paths.proofs.paths.decode_flagged.Statement.{statement}
@@ -58,7 +58,11 @@ same-length-6 c = search needs
 
 returns-2 : tie.Need-returns-2
 unfolding flagged-walk
-returns-2 c = let a = (c .before .before .before .before .before .before .before .before .before .before .before .before .before .before .before .before .before .args) in refuses (then-refused (segments-walk (a .caps) (a .fits) (a .polyline)) _ (now (a .s)) (walk-no ((c .before .before .before .before .before .before .before .before .before .decode-segments) .ensures) ((c .before .k) .given .1)))
+returns-2 c =
+    let a = (c .before .before .before .before .before .before .before .before .before .before .before .before .before .before .before .before .before .args) in
+    let walk = (c .before .before .before .before .before .before .before .before .before .decode-segments) .ensures in
+    let stop = (c .before .k) .given .1 in
+    refuses (then-refused (segments-walk (a .caps) (a .fits) (a .polyline)) _ (now (a .s)) (walk-no walk stop)) (walk-kept walk stop)
 
 pub decode-flagged-spec : {M : Type 1} → statement M
 decode-flagged-spec =

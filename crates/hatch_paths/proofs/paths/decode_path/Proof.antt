@@ -15,7 +15,7 @@ use Rattle.bitcursor.proofs.Steps.{read-value, read-refused}
 use Rattle.hatch_format.specs.Takes.{takes-BL}
 use Rattle.hatch_paths.specs.PathWalks.{flagged-walk, path-walk}
 use Rattle.hatch_points.specs.Lists.{lists}
-use Rattle.hatch_points.proofs.Laws.{walks-as, refuses, flags-then, walks-by, onward}
+use Rattle.hatch_points.proofs.Laws.{walks-as, refuses, flags-then, walks-by, onward, kept-same}
 use borrow.Author.Needs.{needs}
 use Rattle.hatch_paths.proofs.paths.decode_path.Statement.{statement}
 use Rattle.hatch_paths.proofs.paths.decode_path.Tie as tie
@@ -74,7 +74,7 @@ returns c =
 
 returns-2 : tie.Need-returns-2
 unfolding path-walk
-returns-2 c = refuses (then-refused (coded BL) _ (now ((c .before .before .before .before .before .before .before .before .args) .s)) (read-refused _ ((c .before .before .before .read-bl-u) .ensures) ((c .before .k) .given .1)))
+returns-2 c = refuses (then-refused (coded BL) _ (now ((c .before .before .before .before .before .before .before .before .args) .s)) (read-refused _ ((c .before .before .before .read-bl-u) .ensures) ((c .before .k) .given .1))) kept-same
 
 pub decode-path-spec : {M : Type 1} → statement M
 decode-path-spec =

@@ -12,7 +12,7 @@ use Rattle.bitcursor.specs.Sequence.{valueOf}
 use Rattle.hatch_points.specs.Walks.{vertices-walk}
 use Rattle.hatch_paths.specs.PathWalks.{polyline-walk}
 use Rattle.hatch_points.specs.Heads.{resumed}
-use Rattle.hatch_points.proofs.Laws.{walks-as, refuses, words-then, words-kept}
+use Rattle.hatch_points.proofs.Laws.{walks-as, refuses, words-then, words-kept, kept-same}
 use Rattle.hatch_points.proofs.Lacking.{vertices-wordless}
 use Rattle.hatch_paths.proofs.PolylineHeads.{polyline-rest, polyline-reads, bulge-below, closed-below, stored-words, headed}
 use borrow.Author.Needs.{needs}
@@ -103,7 +103,7 @@ returns-2 c =
     let a = (c .before .before .before .before .before .before .before .before .before .before .args) in
     let s = now (a .s) in
     refuses (polyline-reads s (a .caps) (a .at) ((c .before .before .before .before .before .read-bits) .ensures) ((c .before .before .before .before .then-bits) .ensures) ((c .before .before .before .then-count) .ensures)
-    ∙ ap (resumed s (polyline-rest s (a .caps) (a .at) ((c .before .before .before .before .before .read-bits) .ensures) ((c .before .before .before .before .then-bits) .ensures) ((c .before .before .before .then-count) .ensures))) ((c .before .count2) .given .1))
+    ∙ ap (resumed s (polyline-rest s (a .caps) (a .at) ((c .before .before .before .before .before .read-bits) .ensures) ((c .before .before .before .before .then-bits) .ensures) ((c .before .before .before .then-count) .ensures))) ((c .before .count2) .given .1)) kept-same
 
 pub decode-polyline-path-spec : {M : Type 1} → statement M
 decode-polyline-path-spec =

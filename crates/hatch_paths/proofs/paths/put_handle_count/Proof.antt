@@ -12,7 +12,7 @@ use Rattle.hatch_format.specs.Counts.{bounded, takes-bounded}
 use Rattle.hatch_points.specs.Heads.{count-capped}
 use Rattle.hatch_points.specs.Gathered.{word}
 use Rattle.hatch_points.specs.Lists.{lists}
-use Rattle.hatch_points.proofs.Laws.{one-word, refuses, ends, onward}
+use Rattle.hatch_points.proofs.Laws.{one-word, refuses, ends, onward, kept-same}
 use Rattle.hatch_paths.proofs.EdgeLaws.{handles-read, handles-refused}
 use borrow.Author.Needs.{needs}
 use Rattle.hatch_paths.proofs.paths.put_handle_count.Statement.{statement}
@@ -52,7 +52,7 @@ returns c =
     (h .0, (on .1, (omega (arith, on .0, h .1 .1 .0), omega (arith, on .0, h .1 .1 .1))))
 
 returns-2 : tie.Need-returns-2
-returns-2 c = refuses (handles-refused ((c .before .before .before .before .before .before .args) .cap) (now ((c .before .before .before .before .before .before .args) .s)) ((c .before .before .before .before .before .before .args) .at) (read-refused _ ((c .before .before .before .read-count) .ensures) ((c .before .k) .given .1)))
+returns-2 c = refuses (handles-refused ((c .before .before .before .before .before .before .args) .cap) (now ((c .before .before .before .before .before .before .args) .s)) ((c .before .before .before .before .before .before .args) .at) (read-refused _ ((c .before .before .before .read-count) .ensures) ((c .before .k) .given .1))) kept-same
 
 pub put-handle-count-spec : {M : Type 1} → statement M
 put-handle-count-spec =

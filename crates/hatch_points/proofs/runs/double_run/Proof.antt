@@ -9,11 +9,13 @@ use Rattle.bitcursor.specs.Doubles.{BD}
 use Rattle.bitcursor.specs.Fields.{coded}
 use Rattle.bitcursor.proofs.Steps.{read-value, read-refused}
 use Rattle.hatch_format.specs.Takes.{takes-BD}
+use Rattle.hatch_points.specs.declared.lists.Sizes.{Sizes}
 use Rattle.hatch_points.specs.Gathered.{numbers}
 use Rattle.hatch_points.specs.Walks.{single-walk}
 use Rattle.hatch_points.specs.Lists.{lists, Ready}
-use Rattle.hatch_points.proofs.Laws.{more-numbers, refuses, ends, onward}
-use Rattle.hatch_points.proofs.Loops.{Along, start, next, stop, finish, long-doubles, long-bits, single-read, single-refused, double-left}
+use Rattle.hatch_points.specs.Gathers.{double-repeated}
+use Rattle.hatch_points.proofs.Laws.{more-numbers, kept-same, walks-as, onward}
+use Rattle.hatch_points.proofs.Loops.{Along, start, next, loop-refuses, loop-ends, long-doubles, long-bits, single-read, single-refused}
 use borrow.Author.Needs.{needs}
 use Rattle.hatch_points.proofs.runs.double_run.Statement.{statement}
 use Rattle.hatch_points.proofs.runs.double_run.Tie as tie
@@ -23,13 +25,14 @@ use Rattle.bitcursor.proofs.within.read_bd_bits.Reads as read-bd-bits-reads
 use Rattle.hatch_points.proofs.lists.put_number.Reads as put-number-reads
 
 abbrev Inv-loop : tie.InvT-loop
-Inv-loop s at n numbers₀ bits₀ z p₀ used₀ i₀ numbers bits p used i = Along single-walk s n at (lists numbers₀ bits₀ []) z i p (lists numbers bits []) (record { numbers = used; words = z .words; derived = z .derived }) × Ready s p (record { numbers = used; words = z .words; derived = z .derived })
+Inv-loop s at n numbers₀ bits₀ z p₀ used₀ i₀ numbers bits p used i =
+    Along single-walk s n at (lists numbers₀ bits₀ []) z i p (lists numbers bits []) (record { numbers = used; words = z .words; derived = z .derived })
 
 abbrev μ-loop : tie.MeasureT-loop
 μ-loop s at n numbers₀ bits₀ z p₀ used₀ i₀ numbers bits p used i = n - i
 
 loop-holds : tie.Need-loop-holds Inv-loop μ-loop
-loop-holds c = (start single-walk (now ((c .before .before .before .args) .s)), (c .before .before .before .pre))
+loop-holds c = start single-walk (now ((c .before .before .before .args) .s)) (c .before .before .before .pre)
 
 read-bd-bits-requires : tie.Need-read-bd-bits-requires Inv-loop μ-loop
 read-bd-bits-requires c κs = (c .before .before .before .before .before .pre) .0
@@ -41,22 +44,24 @@ put-number-requires : tie.Need-put-number-requires Inv-loop μ-loop
 put-number-requires c κs = tt
 
 add-used : tie.Need-add-used Inv-loop μ-loop
-add-used c = let h = (c .before .before .before .before .before .before .before .before .before .before .before .before .loop) .inv .1 in omega (arith, h .0, h .1 .0, h .1 .1 .0)
+add-used c = let h = (c .before .before .before .before .before .before .before .before .before .before .before .before .loop) .inv .ready in omega (arith, h .0, h .1 .0, h .1 .1 .0)
 
 enum-known-k : tie.Need-enum-known-k Inv-loop μ-loop
 enum-known-k c = search needs
 
 same-length : tie.Need-same-length Inv-loop μ-loop
-same-length c = long-doubles single-walk (now ((c .before .before .before .before .before .before .before .before .before .args) .s)) ((c .before .before .before .before .before .loop) .inv .0)
+same-length c = long-doubles single-walk (now ((c .before .before .before .before .before .before .before .before .before .args) .s)) ((c .before .before .before .before .before .loop) .inv)
 
 same-length-2 : tie.Need-same-length-2 Inv-loop μ-loop
-same-length-2 c = long-bits single-walk (now ((c .before .before .before .before .before .before .before .before .before .args) .s)) ((c .before .before .before .before .before .loop) .inv .0)
+same-length-2 c = long-bits single-walk (now ((c .before .before .before .before .before .before .before .before .before .args) .s)) ((c .before .before .before .before .before .loop) .inv)
 
 returns : tie.Need-returns Inv-loop μ-loop
 returns c =
-    let s = now ((c .before .before .before .before .before .before .before .before .before .args) .s) in
+    let a = (c .before .before .before .before .before .before .before .before .before .args) in
+    let s = now (a .s) in
     let l = (c .before .before .before .before .before .loop) in
-    refuses (double-left s ((c .before .before .before .before .before .before .before .before .before .args) .n) ((c .before .before .before .before .before .before .before .before .before .args) .at) ∙ stop single-walk s (l .inv .0) ((c .before .before .before .before .loop-test) .taken) (single-refused s (l .p) (read-refused _ ((c .before .before .before .read-bd-bits) .ensures) ((c .before .k) .given .1))))
+    let o = single-refused s (l .p) (read-refused _ ((c .before .before .before .read-bd-bits) .ensures) ((c .before .k) .given .1)) in
+    walks-as (loop-refuses single-walk s (l .inv) ((c .before .before .before .before .loop-test) .taken) o kept-same) (sym (double-repeated s (a .n) (a .at)))
 
 add-i : tie.Need-add-i Inv-loop μ-loop
 add-i c = omega arith
@@ -66,28 +71,30 @@ loop-less c = omega arith
 
 loop-again : tie.Need-loop-again Inv-loop μ-loop
 loop-again c =
-    let s = now ((c .before .before .before .before .before .before .before .before .before .before .before .before .before .before .before .before .args) .s) in
+    let a = (c .before .before .before .before .before .before .before .before .before .before .before .before .before .before .before .before .args) in
+    let s = now (a .s) in
     let l = (c .before .before .before .before .before .before .before .before .before .before .before .before .loop) in
-    let z = (c .before .before .before .before .before .before .before .before .before .before .before .before .before .before .before .before .args) .z in
+    let y : Sizes = record { numbers = l .used; words = a .z .words; derived = a .z .derived } in
+    let v = (c .before .before .before .before .before .before .before .before .v) .given .0 .0 in
     let e = read-value _ ((c .before .before .before .before .before .before .before .before .before .before .read-bd-bits) .ensures) ((c .before .before .before .before .before .before .before .before .v) .given .1) in
-    let h = l .inv .1 in
-    let on = onward (coded BD) 2 takes-BD s (l .p) e (h .1 .0) in (
-      next single-walk s (l .inv .0) (numbers (_ ∷ [])) ((c .before .before .before .before .before .before .before .before .before .before .before .loop-test) .taken) (single-read s (l .p) e)
-          (record { lists = λ i. lists ((c .before .before .before .before .put-number) .ensures .0 i) ((c .before .before .before .before .put-number) .ensures .1 i) []; sizes = more-numbers (record { numbers = l .used; words = z .words; derived = z .derived }) ((c .before .before .before .before .before .before .before .before .v) .given .0 .0 ∷ []) }),
-      (h .0, (on .1, (omega (arith, on .0, h .1 .1 .0), omega (arith, on .0, h .1 .1 .1)))),
-    )
+    let put = (c .before .before .before .before .put-number) .ensures in
+    let h = l .inv .ready in
+    let on = onward (coded BD) 2 takes-BD s (l .p) e (h .1 .0) in
+    next single-walk s (l .inv) (numbers (v ∷ [])) ((c .before .before .before .before .before .before .before .before .before .before .before .loop-test) .taken) (single-read s (l .p) e)
+    (record { lists = λ i. lists (put .0 i) (put .1 i) []; sizes = more-numbers y (v ∷ []) })
+    (h .0, (on .1, (omega (arith, on .0, h .1 .1 .0), omega (arith, on .0, h .1 .1 .1))))
 
 same-length-3 : tie.Need-same-length-3 Inv-loop μ-loop
-same-length-3 c = long-doubles single-walk (now ((c .before .before .before .before .before .args) .s)) ((c .before .loop) .inv .0)
+same-length-3 c = long-doubles single-walk (now ((c .before .before .before .before .before .args) .s)) ((c .before .loop) .inv)
 
 same-length-4 : tie.Need-same-length-4 Inv-loop μ-loop
-same-length-4 c = long-bits single-walk (now ((c .before .before .before .before .before .args) .s)) ((c .before .loop) .inv .0)
+same-length-4 c = long-bits single-walk (now ((c .before .before .before .before .before .args) .s)) ((c .before .loop) .inv)
 
 returns-2 : tie.Need-returns-2 Inv-loop μ-loop
 returns-2 c =
-    let s = now ((c .before .before .before .before .before .args) .s) in
-    let l = (c .before .loop) in
-    ends (l .inv .0 .gathered) (double-left s ((c .before .before .before .before .before .args) .n) ((c .before .before .before .before .before .args) .at) ∙ finish single-walk s (l .inv .0) ((c .loop-test) .left)) (l .inv .0 .step) (l .inv .1)
+    let a = (c .before .before .before .before .before .args) in
+    let s = now (a .s) in
+    walks-as (loop-ends single-walk s ((c .before .loop) .inv) ((c .loop-test) .left)) (sym (double-repeated s (a .n) (a .at)))
 
 pub double-run-spec : {M : Type 1} → statement M
 double-run-spec =

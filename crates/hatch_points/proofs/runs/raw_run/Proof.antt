@@ -13,7 +13,7 @@ use Rattle.hatch_points.specs.declared.lists.Sizes.{Sizes}
 use Rattle.hatch_points.specs.Gathered.{Entries, numbers}
 use Rattle.hatch_points.specs.Lists.{lists}
 use Rattle.hatch_points.specs.Stores.{rawAt}
-use Rattle.hatch_points.proofs.Laws.{more-numbers, refuses, ends}
+use Rattle.hatch_points.proofs.Laws.{kept-same, more-numbers, refuses, ends}
 use Rattle.hatch_points.proofs.RawRuns.{length-raw, raw-there, raw-short, doubles-enough, bits-enough}
 use borrow.Author.Needs.{needs}
 use Rattle.hatch_points.proofs.runs.raw_run.Statement.{statement}
@@ -42,7 +42,7 @@ put-run-requires c κs =
     let t = passed-there (now (a .s)) (8 * a .n) (a .at) ((c .before .before .before .before .before .before .skip-bytes) .ensures) ((c .before .before .before .before .p) .given .1) in
     let h = (c .before .before .before .before .before .before .before .before .before .before .pre) .0 in
     let w = (c .before .before .before .before .before .before .before .before .before .before .pre) .1 in
-    (h .0, (omega (arith, t .fits, (c .before .before .stores) .ensures .0), omega (arith, h .0, h .1 .0, h .1 .1 .0, w, (c .before .before .stores) .ensures .0)))
+    (h .0, (omega (arith, t .fits, (c .before .before .stores) .ensures), omega (arith, h .0, h .1 .0, h .1 .1 .0, w, (c .before .before .stores) .ensures)))
 
 add-t14 : tie.Need-add-t14
 add-t14 c = search needs
@@ -70,8 +70,8 @@ returns c =
     (record {
       lists =
           λ i. lists
-          (((c .before .before .before .before .before .put-run) .ensures .0 ∙ doubles-enough s (a .at) (a .n) m (z .numbers) (d .0) (now (a .numbers)) (now (a .bits)) (d .1)) i)
-          (((c .before .before .before .before .before .put-run) .ensures .1 ∙ bits-enough s (a .at) (a .n) m (z .numbers) (d .0) (now (a .numbers)) (now (a .bits)) (d .1)) i)
+          (((c .before .before .before .before .before .put-run) .ensures .0 ∙ doubles-enough s (a .at) (a .n) m (z .numbers) (now (a .numbers)) (now (a .bits)) d) i)
+          (((c .before .before .before .before .before .put-run) .ensures .1 ∙ bits-enough s (a .at) (a .n) m (z .numbers) (now (a .numbers)) (now (a .bits)) d) i)
           [];
       sizes =
           ap (λ (k : ℕ). record { numbers = z .numbers + k; words = z .words; derived = z .derived }) (sym (length-raw s (a .at) (a .n)))
@@ -84,7 +84,7 @@ returns-2 c =
     let a = (c .before .before .before .before .before .before .before .args) in
     let s = now (a .s) in
     let t = passed-short s (8 * a .n) (a .at) ((c .before .before .before .skip-bytes) .ensures) ((c .before .k) .given .1) in
-    refuses (raw-short s (a .n) (a .at) (omega (arith, t .misses)) ∙ ap₂ refused (sym (t .why)) (sym (t .stop)))
+    refuses (raw-short s (a .n) (a .at) (omega (arith, t .misses)) ∙ ap₂ refused (sym (t .why)) (sym (t .stop))) kept-same
 
 pub raw-run-spec : {M : Type 1} → statement M
 raw-run-spec =

@@ -1,6 +1,4 @@
--- Either all n are taken, or as many as reach the end of the longer list.
-use mathlib.Core.Path.{refl}
-use mathlib.Core.Logic.{inl, inr}
+-- Each answer is the lesser of n and the room, by the tests that led to it.
 use native.Mathlib.Omega.{arith}
 use borrow.Author.Needs.{needs}
 use Rattle.hatch_points.proofs.runs.stores.Statement.{statement}
@@ -13,19 +11,19 @@ longer-requires : tie.Need-longer-requires
 longer-requires c κs = search needs
 
 returns : tie.Need-returns
-returns c = (omega arith, inr (omega arith, omega arith))
+returns c = omega arith
 
 sub-if2 : tie.Need-sub-if2
 sub-if2 c = search needs
 
 returns-2 : tie.Need-returns-2
-returns-2 c = (omega arith, inl refl)
+returns-2 c = omega arith
 
 sub-result : tie.Need-sub-result
 sub-result c = search needs
 
 returns-3 : tie.Need-returns-3
-returns-3 c = (omega arith, inr (omega arith, omega arith))
+returns-3 c = omega arith
 
 pub stores-spec : {M : Type 1} → statement M
 stores-spec = tie.close (tie.spec longer-requires returns sub-if2 returns-2 sub-result returns-3)

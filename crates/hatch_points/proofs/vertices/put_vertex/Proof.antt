@@ -24,7 +24,7 @@ returns : tie.Need-returns
 returns c =
     let a = (c .before .before .before .before .before .args) in
     let v = vertexAt (now (a .s)) (a .at) (a .extra) in
-    (sym (sets-out (now (a .numbers)) (a .from) (doublesOf v) (omega (arith, (c .before .longer) .ensures .0, (c .if1) .taken))), sym (sets-out (now (a .bits)) (a .from) v (omega (arith, (c .before .longer) .ensures .1, (c .if1) .taken))))
+    (sym (sets-out (now (a .numbers)) (a .from) (doublesOf v) (omega (arith, (c .before .longer) .ensures, (c .if1) .taken))), sym (sets-out (now (a .bits)) (a .from) v (omega (arith, (c .before .longer) .ensures, (c .if1) .taken))))
 
 low-at-requires : tie.Need-low-at-requires
 low-at-requires c κs = search needs

@@ -4,7 +4,7 @@ use native.Mathlib.Omega.{arith}
 use denote.Ref.{now}
 use Rattle.hatch_format.specs.Patterns.{ending}
 use Rattle.hatch_rest.specs.Tails.{endingEntries, endingWalk}
-use Rattle.hatch_rest.proofs.TailLaws.{gives-no, ending-ready, ending-short, ending-stops, ending-ends}
+use Rattle.hatch_rest.proofs.TailLaws.{ending-ready, ending-short, ending-stops, ending-ends}
 use borrow.Author.Needs.{needs}
 use Rattle.hatch_rest.proofs.patterns.decode_ending.Statement.{statement}
 use Rattle.hatch_rest.proofs.patterns.decode_ending.Tie as tie
@@ -59,13 +59,11 @@ same-length-4 c = search needs
 
 returns-2 : tie.Need-returns-2
 returns-2 c =
-    let o = ending-stops (now ((c .before .before .before .before .before .before .before .before .before .before .before .before .before .before .before .before .before .before .args) .s)) ((c .before .before .before .before .before .before .before .before .before .before .before .before .before .before .before .before .before .before .args) .caps) ((c .before .before .before .before .before .before .before .before .before .before .before .before .before .before .before .before .before .before .args) .has) ((c .before .before .before .before .before .before .before .before .before .before .before .before .before .before .before .before .before .before .args) .at) ((c .before .before .before .before .before .before .before .before .before .before .before .before .before .before .read-pixel-size) .result) ((c .before .before .before .before .before .before .before .before .before .before .before .before .before .then-count) .result) ((c .before .before .before .before .before .before .before .before .before .before .before .before .before .before .read-pixel-size) .ensures) ((c .before .before .before .before .before .before .before .before .before .before .before .before .before .then-count) .ensures) ((c .before .before .before .before .before .before .before .before .before .before .before .n) .given .1) ((c .before .before .before .before .before .before .before .raw-run) .ensures) ((c .before .k) .given .1) in
-    (ap (endingWalk ((c .before .before .before .before .before .before .before .before .before .before .before .before .before .before .before .before .before .before .args) .z)) (sym o), gives-no endingEntries ((ending ((c .before .before .before .before .before .before .before .before .before .before .before .before .before .before .before .before .before .before .args) .caps) ((c .before .before .before .before .before .before .before .before .before .before .before .before .before .before .before .before .before .before .args) .has)) .read (now ((c .before .before .before .before .before .before .before .before .before .before .before .before .before .before .before .before .before .before .args) .s)) ((c .before .before .before .before .before .before .before .before .before .before .before .before .before .before .before .before .before .before .args) .at)) o)
+    ending-stops (now ((c .before .before .before .before .before .before .before .before .before .before .before .before .before .before .before .before .before .before .args) .s)) ((c .before .before .before .before .before .before .before .before .before .before .before .before .before .before .before .before .before .before .args) .caps) ((c .before .before .before .before .before .before .before .before .before .before .before .before .before .before .before .before .before .before .args) .has) ((c .before .before .before .before .before .before .before .before .before .before .before .before .before .before .before .before .before .before .args) .at) ((c .before .before .before .before .before .before .before .before .before .before .before .before .before .before .read-pixel-size) .result) ((c .before .before .before .before .before .before .before .before .before .before .before .before .before .then-count) .result) ((c .before .before .before .before .before .before .before .before .before .before .before .before .before .before .read-pixel-size) .ensures) ((c .before .before .before .before .before .before .before .before .before .before .before .before .before .then-count) .ensures) ((c .before .before .before .before .before .before .before .before .before .before .before .n) .given .1) ((c .before .before .before .before .before .before .before .raw-run) .ensures) ((c .before .k) .given .1)
 
 returns-3 : tie.Need-returns-3
 returns-3 c =
-    let o = ending-short (now ((c .before .before .before .before .before .before .before .before .args) .s)) ((c .before .before .before .before .before .before .before .before .args) .caps) ((c .before .before .before .before .before .before .before .before .args) .has) ((c .before .before .before .before .before .before .before .before .args) .at) ((c .before .before .before .before .read-pixel-size) .result) ((c .before .before .before .then-count) .result) ((c .before .before .before .before .read-pixel-size) .ensures) ((c .before .before .before .then-count) .ensures) ((c .before .k2) .given .1) in
-    (ap (endingWalk ((c .before .before .before .before .before .before .before .before .args) .z)) (sym o), gives-no endingEntries ((ending ((c .before .before .before .before .before .before .before .before .args) .caps) ((c .before .before .before .before .before .before .before .before .args) .has)) .read (now ((c .before .before .before .before .before .before .before .before .args) .s)) ((c .before .before .before .before .before .before .before .before .args) .at)) o)
+    ending-short (now ((c .before .before .before .before .before .before .before .before .args) .s)) ((c .before .before .before .before .before .before .before .before .args) .caps) ((c .before .before .before .before .before .before .before .before .args) .has) ((c .before .before .before .before .before .before .before .before .args) .at) ((c .before .before .before .before .read-pixel-size) .result) ((c .before .before .before .then-count) .result) ((c .before .before .before .before .read-pixel-size) .ensures) ((c .before .before .before .then-count) .ensures) ((c .before .k2) .given .1)
 
 pub decode-ending-spec : {M : Type 1} → statement M
 decode-ending-spec =

@@ -4,7 +4,7 @@ use mathlib.Core.Bool.{false}
 use denote.Ref.{now}
 use Rattle.hatch_format.specs.Patterns.{pattern}
 use Rattle.hatch_rest.specs.Tails.{patternEntries, patternWalk}
-use Rattle.hatch_rest.proofs.TailLaws.{gives-no, pattern-ready, pattern-short, pattern-stops, pattern-ends}
+use Rattle.hatch_rest.proofs.TailLaws.{pattern-ready, pattern-short, pattern-stops, pattern-ends}
 use borrow.Author.Needs.{needs}
 use Rattle.hatch_rest.proofs.patterns.decode_open_pattern.Statement.{statement}
 use Rattle.hatch_rest.proofs.patterns.decode_open_pattern.Tie as tie
@@ -75,13 +75,11 @@ same-length-6 c = search needs
 
 returns-2 : tie.Need-returns-2
 returns-2 c =
-    let o = pattern-stops (now ((c .before .before .before .before .before .before .before .before .before .before .before .before .before .before .before .before .before .before .before .before .before .before .before .before .args) .s)) ((c .before .before .before .before .before .before .before .before .before .before .before .before .before .before .before .before .before .before .before .before .before .before .before .before .args) .caps) ((c .before .before .before .before .before .before .before .before .before .before .before .before .before .before .before .before .before .before .before .before .before .before .before .before .args) .at) ((c .before .before .before .before .before .before .before .before .before .before .before .before .before .before .before .before .before .before .before .then-bd-bits) .result) ((c .before .before .before .before .before .before .before .before .before .before .before .before .before .before .before .before .before .before .then-bd-bits2) .result) ((c .before .before .before .before .before .before .before .before .before .before .before .before .before .before .before .before .before .then-bits) .result) ((c .before .before .before .before .before .before .before .before .before .before .before .before .before .before .before .before .then-short-count) .result) ((c .before .before .before .before .before .before .before .before .before .before .before .before .before .before .before .before .before .before .before .then-bd-bits) .ensures) ((c .before .before .before .before .before .before .before .before .before .before .before .before .before .before .before .before .before .before .then-bd-bits2) .ensures) ((c .before .before .before .before .before .before .before .before .before .before .before .before .before .before .before .before .before .then-bits) .ensures) ((c .before .before .before .before .before .before .before .before .before .before .before .before .before .before .before .before .then-short-count) .ensures) ((c .before .before .before .before .before .before .before .before .before .before .before .before .before .before .n) .given .1) ((c .before .before .before .before .before .before .before .before .before .decode-pattern-lines) .ensures) ((c .before .k) .given .1) in
-    (ap (patternWalk ((c .before .before .before .before .before .before .before .before .before .before .before .before .before .before .before .before .before .before .before .before .before .before .before .before .args) .z)) (sym o), gives-no patternEntries ((pattern ((c .before .before .before .before .before .before .before .before .before .before .before .before .before .before .before .before .before .before .before .before .before .before .before .before .args) .caps) false) .read (now ((c .before .before .before .before .before .before .before .before .before .before .before .before .before .before .before .before .before .before .before .before .before .before .before .before .args) .s)) ((c .before .before .before .before .before .before .before .before .before .before .before .before .before .before .before .before .before .before .before .before .before .before .before .before .args) .at)) o)
+    pattern-stops (now ((c .before .before .before .before .before .before .before .before .before .before .before .before .before .before .before .before .before .before .before .before .before .before .before .before .args) .s)) ((c .before .before .before .before .before .before .before .before .before .before .before .before .before .before .before .before .before .before .before .before .before .before .before .before .args) .caps) ((c .before .before .before .before .before .before .before .before .before .before .before .before .before .before .before .before .before .before .before .before .before .before .before .before .args) .at) ((c .before .before .before .before .before .before .before .before .before .before .before .before .before .before .before .before .before .before .before .then-bd-bits) .result) ((c .before .before .before .before .before .before .before .before .before .before .before .before .before .before .before .before .before .before .then-bd-bits2) .result) ((c .before .before .before .before .before .before .before .before .before .before .before .before .before .before .before .before .before .then-bits) .result) ((c .before .before .before .before .before .before .before .before .before .before .before .before .before .before .before .before .then-short-count) .result) ((c .before .before .before .before .before .before .before .before .before .before .before .before .before .before .before .before .before .before .before .then-bd-bits) .ensures) ((c .before .before .before .before .before .before .before .before .before .before .before .before .before .before .before .before .before .before .then-bd-bits2) .ensures) ((c .before .before .before .before .before .before .before .before .before .before .before .before .before .before .before .before .before .then-bits) .ensures) ((c .before .before .before .before .before .before .before .before .before .before .before .before .before .before .before .before .then-short-count) .ensures) ((c .before .before .before .before .before .before .before .before .before .before .before .before .before .before .n) .given .1) ((c .before .before .before .before .before .before .before .before .before .decode-pattern-lines) .ensures) ((c .before .k) .given .1)
 
 returns-3 : tie.Need-returns-3
 returns-3 c =
-    let o = pattern-short (now ((c .before .before .before .before .before .before .before .before .before .before .before .args) .s)) ((c .before .before .before .before .before .before .before .before .before .before .before .args) .caps) ((c .before .before .before .before .before .before .before .before .before .before .before .args) .at) ((c .before .before .before .before .before .before .then-bd-bits) .result) ((c .before .before .before .before .before .then-bd-bits2) .result) ((c .before .before .before .before .then-bits) .result) ((c .before .before .before .then-short-count) .result) ((c .before .before .before .before .before .before .then-bd-bits) .ensures) ((c .before .before .before .before .before .then-bd-bits2) .ensures) ((c .before .before .before .before .then-bits) .ensures) ((c .before .before .before .then-short-count) .ensures) ((c .before .k2) .given .1) in
-    (ap (patternWalk ((c .before .before .before .before .before .before .before .before .before .before .before .args) .z)) (sym o), gives-no patternEntries ((pattern ((c .before .before .before .before .before .before .before .before .before .before .before .args) .caps) false) .read (now ((c .before .before .before .before .before .before .before .before .before .before .before .args) .s)) ((c .before .before .before .before .before .before .before .before .before .before .before .args) .at)) o)
+    pattern-short (now ((c .before .before .before .before .before .before .before .before .before .before .before .args) .s)) ((c .before .before .before .before .before .before .before .before .before .before .before .args) .caps) ((c .before .before .before .before .before .before .before .before .before .before .before .args) .at) ((c .before .before .before .before .before .before .then-bd-bits) .result) ((c .before .before .before .before .before .then-bd-bits2) .result) ((c .before .before .before .before .then-bits) .result) ((c .before .before .before .then-short-count) .result) ((c .before .before .before .before .before .before .then-bd-bits) .ensures) ((c .before .before .before .before .before .then-bd-bits2) .ensures) ((c .before .before .before .before .then-bits) .ensures) ((c .before .before .before .then-short-count) .ensures) ((c .before .k2) .given .1)
 
 pub decode-open-pattern-spec : {M : Type 1} → statement M
 decode-open-pattern-spec =

@@ -11,7 +11,7 @@ use Rattle.hatch_format.specs.Counts.{bounded, takes-bounded, bounded-below}
 use Rattle.hatch_points.specs.Gathered.{word, plus}
 use Rattle.hatch_points.specs.Walks.{double-run}
 use Rattle.hatch_rest.specs.LineGathers.{line-walk}
-use Rattle.hatch_points.proofs.Laws.{_⊕_, plus-again, walk-told, walk-ready, walk-no, walks-as, refuses, behind}
+use Rattle.hatch_points.proofs.Laws.{_⊕_, plus-again, walk-told, walk-ready, walk-no, walks-as, refuses, behind, kept-step, kept-numbers, walk-kept}
 use Rattle.hatch_points.proofs.Words.{double-words, word-step, ready-word}
 use borrow.Author.Needs.{needs}
 use Rattle.hatch_rest.proofs.patterns.decode_pattern_line.Statement.{statement}
@@ -97,6 +97,7 @@ returns-2 c =
     refuses
     (then-got (double-run 5) (λ a. bounded cap BS >>= λ m. double-run m >>= λ b. pure (plus a (plus (word m) b))) s (t .read)
     ∙ then-refused (bounded cap BS) (λ m. double-run m >>= λ b. pure (plus (t .entries) (plus (word m) b))) s o)
+    (kept-step (t .step))
 
 same-length-6 : tie.Need-same-length-6
 same-length-6 c = search needs
@@ -107,7 +108,12 @@ same-length-7 c = search needs
 returns-3 : tie.Need-returns-3
 unfolding line-walk
 returns-3 c =
-    refuses (then-refused (double-run 5) (λ a. bounded ((c .before .before .before .before .before .before .before .before .before .before .before .before .before .before .args) .cap) BS >>= λ m. double-run m >>= λ b. pure (plus a (plus (word m) b))) (now ((c .before .before .before .before .before .before .before .before .before .before .before .before .before .before .args) .s)) (walk-no ((c .before .before .before .before .before .before .before .double-run) .ensures) ((c .before .k2) .given .1)))
+    let a = (c .before .before .before .before .before .before .before .before .before .before .before .before .before .before .args) in
+    let s = now (a .s) in
+    let walk = (c .before .before .before .before .before .before .before .double-run) .ensures in
+    let stop = (c .before .k2) .given .1 in
+    refuses (then-refused (double-run 5) (λ b. bounded (a .cap) BS >>= λ m. double-run m >>= λ d. pure (plus b (plus (word m) d))) s (walk-no walk stop))
+    (kept-numbers (now (a .words)) (walk-kept walk stop))
 
 pub decode-pattern-line-spec : {M : Type 1} → statement M
 decode-pattern-line-spec =

@@ -4,9 +4,8 @@ use native.Mathlib.Omega.{arith}
 use denote.Ref.{now}
 use borrow.Author.Needs.{needs}
 use Rattle.hatch_rest.specs.LineGathers.{line-walk}
-use Rattle.hatch_points.specs.Lists.{lists, Ready}
-use Rattle.hatch_points.proofs.Laws.{walk-told, walk-ready, walk-no, refuses, ends}
-use Rattle.hatch_points.proofs.Loops.{left, Along, start, next, stop, finish, long-doubles, long-bits, long-words}
+use Rattle.hatch_points.specs.Lists.{lists}
+use Rattle.hatch_points.proofs.Loops.{Along, start, walk-next, walk-refuses, loop-ends, long-doubles, long-bits, long-words}
 use Rattle.hatch_rest.proofs.patterns.decode_pattern_lines.Statement.{statement}
 use Rattle.hatch_rest.proofs.patterns.decode_pattern_lines.Tie as tie
 use Rattle.hatch_rest.proofs.patterns.decode_pattern_lines.Reads as reads
@@ -14,16 +13,17 @@ use Rattle.hatch_rest.proofs.patterns.decode_pattern_lines.Lts as lts
 use Rattle.hatch_rest.proofs.patterns.decode_pattern_line.Reads as decode-pattern-line-reads
 
 abbrev Inv-loop : tie.InvT-loop
-Inv-loop s at n cap numbers₀ bits₀ words₀ p₀ y₀ i₀ numbers bits words p y i = Along (line-walk cap) s n at (lists numbers₀ bits₀ words₀) y₀ i p (lists numbers bits words) y × Ready s p y
+Inv-loop s at n cap numbers₀ bits₀ words₀ p₀ y₀ i₀ numbers bits words p y i =
+    Along (line-walk cap) s n at (lists numbers₀ bits₀ words₀) y₀ i p (lists numbers bits words) y
 
 abbrev μ-loop : tie.MeasureT-loop
 μ-loop s at n cap numbers₀ bits₀ words₀ p₀ y₀ i₀ numbers bits words p y i = n - i
 
 loop-holds : tie.Need-loop-holds Inv-loop μ-loop
-loop-holds c = (start (line-walk ((c .before .before .before .before .args) .cap)) (now ((c .before .before .before .before .args) .s)), (c .before .before .before .before .pre))
+loop-holds c = start (line-walk ((c .before .before .before .before .args) .cap)) (now ((c .before .before .before .before .args) .s)) (c .before .before .before .before .pre)
 
 decode-pattern-line-requires : tie.Need-decode-pattern-line-requires Inv-loop μ-loop
-decode-pattern-line-requires c κs = (c .before .before .before .before .loop) .inv .1
+decode-pattern-line-requires c κs = (c .before .before .before .before .loop) .inv .ready
 
 enum-known-q : tie.Need-enum-known-q Inv-loop μ-loop
 enum-known-q c = search needs
@@ -32,17 +32,18 @@ enum-known-k : tie.Need-enum-known-k Inv-loop μ-loop
 enum-known-k c = search needs
 
 same-length : tie.Need-same-length Inv-loop μ-loop
-same-length c = search (needs, long-doubles (line-walk ((c .before .before .before .before .before .before .before .before .before .before .before .before .before .before .before .before .before .before .before .args) .cap)) (now ((c .before .before .before .before .before .before .before .before .before .before .before .before .before .before .before .before .before .before .before .args) .s)) ((c .before .before .before .before .before .before .before .before .before .before .before .before .before .before .loop) .inv .0))
+same-length c = search (needs, long-doubles (line-walk ((c .before .before .before .before .before .before .before .before .before .before .before .before .before .before .before .before .before .before .before .args) .cap)) (now ((c .before .before .before .before .before .before .before .before .before .before .before .before .before .before .before .before .before .before .before .args) .s)) ((c .before .before .before .before .before .before .before .before .before .before .before .before .before .before .loop) .inv))
 
 same-length-2 : tie.Need-same-length-2 Inv-loop μ-loop
-same-length-2 c = search (needs, long-bits (line-walk ((c .before .before .before .before .before .before .before .before .before .before .before .before .before .before .before .before .before .before .before .args) .cap)) (now ((c .before .before .before .before .before .before .before .before .before .before .before .before .before .before .before .before .before .before .before .args) .s)) ((c .before .before .before .before .before .before .before .before .before .before .before .before .before .before .loop) .inv .0))
+same-length-2 c = search (needs, long-bits (line-walk ((c .before .before .before .before .before .before .before .before .before .before .before .before .before .before .before .before .before .before .before .args) .cap)) (now ((c .before .before .before .before .before .before .before .before .before .before .before .before .before .before .before .before .before .before .before .args) .s)) ((c .before .before .before .before .before .before .before .before .before .before .before .before .before .before .loop) .inv))
 
 same-length-3 : tie.Need-same-length-3 Inv-loop μ-loop
-same-length-3 c = search (needs, long-words (line-walk ((c .before .before .before .before .before .before .before .before .before .before .before .before .before .before .before .before .before .before .before .args) .cap)) (now ((c .before .before .before .before .before .before .before .before .before .before .before .before .before .before .before .before .before .before .before .args) .s)) ((c .before .before .before .before .before .before .before .before .before .before .before .before .before .before .loop) .inv .0))
+same-length-3 c = search (needs, long-words (line-walk ((c .before .before .before .before .before .before .before .before .before .before .before .before .before .before .before .before .before .before .before .args) .cap)) (now ((c .before .before .before .before .before .before .before .before .before .before .before .before .before .before .before .before .before .before .before .args) .s)) ((c .before .before .before .before .before .before .before .before .before .before .before .before .before .before .loop) .inv))
 
 returns : tie.Need-returns Inv-loop μ-loop
-unfolding left
-returns c = refuses (stop (line-walk ((c .before .before .before .before .before .before .before .before .before .before .before .before .before .before .before .before .before .before .before .args) .cap)) (now ((c .before .before .before .before .before .before .before .before .before .before .before .before .before .before .before .before .before .before .before .args) .s)) ((c .before .before .before .before .before .before .before .before .before .before .before .before .before .before .loop) .inv .0) ((c .before .before .before .before .before .before .before .before .before .before .before .before .before .loop-test) .taken) (walk-no ((c .before .before .before .before .before .before .before .before .before .decode-pattern-line) .ensures) ((c .before .k) .given .1)))
+returns c =
+    let a = (c .before .before .before .before .before .before .before .before .before .before .before .before .before .before .before .before .before .before .before .args) in
+    walk-refuses (line-walk (a .cap)) (now (a .s)) ((c .before .before .before .before .before .before .before .before .before .before .before .before .before .before .loop) .inv) ((c .before .before .before .before .before .before .before .before .before .before .before .before .before .loop-test) .taken) ((c .before .before .before .before .before .before .before .before .before .decode-pattern-line) .ensures) ((c .before .k) .given .1)
 
 add-i : tie.Need-add-i Inv-loop μ-loop
 add-i c = omega arith
@@ -52,21 +53,22 @@ loop-less c = omega arith
 
 loop-again : tie.Need-loop-again Inv-loop μ-loop
 loop-again c =
-    let t = walk-told ((c .before .before .before .before .before .before .before .before .before .decode-pattern-line) .ensures) ((c .before .q) .given .1) in
-    (next (line-walk ((c .before .before .before .before .before .before .before .before .before .before .before .before .before .before .before .before .before .before .before .args) .cap)) (now ((c .before .before .before .before .before .before .before .before .before .before .before .before .before .before .before .before .before .before .before .args) .s)) ((c .before .before .before .before .before .before .before .before .before .before .before .before .before .before .loop) .inv .0) (t .entries) ((c .before .before .before .before .before .before .before .before .before .before .before .before .before .loop-test) .taken) (t .read) (t .step), walk-ready ((c .before .before .before .before .before .before .before .before .before .decode-pattern-line) .ensures) ((c .before .q) .given .1))
+    let a = (c .before .before .before .before .before .before .before .before .before .before .before .before .before .before .before .before .before .before .before .args) in
+    walk-next (line-walk (a .cap)) (now (a .s)) ((c .before .before .before .before .before .before .before .before .before .before .before .before .before .before .loop) .inv) ((c .before .before .before .before .before .before .before .before .before .before .before .before .before .loop-test) .taken) ((c .before .before .before .before .before .before .before .before .before .decode-pattern-line) .ensures) ((c .before .q) .given .1)
 
 same-length-4 : tie.Need-same-length-4 Inv-loop μ-loop
-same-length-4 c = long-doubles (line-walk ((c .before .before .before .before .before .before .args) .cap)) (now ((c .before .before .before .before .before .before .args) .s)) ((c .before .loop) .inv .0)
+same-length-4 c = long-doubles (line-walk ((c .before .before .before .before .before .before .args) .cap)) (now ((c .before .before .before .before .before .before .args) .s)) ((c .before .loop) .inv)
 
 same-length-5 : tie.Need-same-length-5 Inv-loop μ-loop
-same-length-5 c = long-bits (line-walk ((c .before .before .before .before .before .before .args) .cap)) (now ((c .before .before .before .before .before .before .args) .s)) ((c .before .loop) .inv .0)
+same-length-5 c = long-bits (line-walk ((c .before .before .before .before .before .before .args) .cap)) (now ((c .before .before .before .before .before .before .args) .s)) ((c .before .loop) .inv)
 
 same-length-6 : tie.Need-same-length-6 Inv-loop μ-loop
-same-length-6 c = long-words (line-walk ((c .before .before .before .before .before .before .args) .cap)) (now ((c .before .before .before .before .before .before .args) .s)) ((c .before .loop) .inv .0)
+same-length-6 c = long-words (line-walk ((c .before .before .before .before .before .before .args) .cap)) (now ((c .before .before .before .before .before .before .args) .s)) ((c .before .loop) .inv)
 
 returns-2 : tie.Need-returns-2 Inv-loop μ-loop
-unfolding left
-returns-2 c = let l = (c .before .loop) in ends (l .inv .0 .gathered) (finish (line-walk ((c .before .before .before .before .before .before .args) .cap)) (now ((c .before .before .before .before .before .before .args) .s)) (l .inv .0) ((c .loop-test) .left)) (l .inv .0 .step) (l .inv .1)
+returns-2 c =
+    let a = (c .before .before .before .before .before .before .args) in
+    loop-ends (line-walk (a .cap)) (now (a .s)) ((c .before .loop) .inv) ((c .loop-test) .left)
 
 pub decode-pattern-lines-spec : {M : Type 1} → statement M
 decode-pattern-lines-spec =
