@@ -12,7 +12,9 @@ use Rattle.bitcursor.specs.Code.{raw, give, mapped, tabled, _>>=_ as _then_}
 use Rattle.bitcursor.specs.Codes.{B, B-read, BL}
 use Rattle.bitcursor.specs.Format.{pure, refuse, _>>=_}
 use Rattle.hatch_format.specs.declared.Caps.{Caps}
+use Rattle.hatch_format.specs.HandleRule.{in-payload}
 use Rattle.hatch_format.specs.Counts.{bounded}
+use Rattle.hatch_format.specs.Paths.{handle-count, handles-bounded}
 use Rattle.hatch_points.specs.Gathered.{word}
 use Rattle.hatch_points.proofs.Laws.{Numberless}
 use Rattle.hatch_points.proofs.Lacking.{numberless}
@@ -48,12 +50,12 @@ other-kind caps b (suc (suc (suc (suc (suc k))))) xs p h₁ h₂ h₃ h₄ = ref
 -- a handle count is one word
 pub handles-numberless : (cap : ℕ) (xs : List ℕ) (p : ℕ) → Numberless ((handles-walk cap) .read xs p)
 unfolding handles-walk _>>=_ pure
-handles-numberless cap xs p = numberless word (λ n. refl) ((bounded cap BL) .read xs p)
+handles-numberless cap xs p = numberless word (λ n. refl) ((handle-count cap in-payload 0) .read xs p)
 
 pub handles-read : (cap : ℕ) (xs : List ℕ) (p : ℕ) {n q : ℕ} → (bounded cap BL) .read xs p ≡ got n q → (handles-walk cap) .read xs p ≡ got (word n) q
 unfolding handles-walk _>>=_ pure
-handles-read cap xs p e = rw e
+handles-read cap xs p e = rw (handles-bounded cap 0 xs p, e)
 
 pub handles-refused : (cap : ℕ) (xs : List ℕ) (p : ℕ) {k : Refusal} {q : ℕ} → (bounded cap BL) .read xs p ≡ refused k q → (handles-walk cap) .read xs p ≡ refused k q
 unfolding handles-walk _>>=_ pure
-handles-refused cap xs p e = rw e
+handles-refused cap xs p e = rw (handles-bounded cap 0 xs p, e)

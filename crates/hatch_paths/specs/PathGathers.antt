@@ -15,7 +15,8 @@ use Rattle.text.specs.declared.version.Version.{Version}
 use Rattle.hatch_format.specs.declared.Caps.{Caps}
 use Rattle.hatch_format.specs.Values.{Point, Vertex, Edge, Segments, polyline, edges, Path, polylined, derived}
 use Rattle.hatch_format.specs.Entries.{every, vertexNumbers, edgeWords, edgeNumbers, segmentWords, pathWords, pathNumbers, segmentNumbers}
-use Rattle.hatch_format.specs.Counts.{times, bounded}
+use Rattle.hatch_format.specs.HandleRule.{in-payload}
+use Rattle.hatch_format.specs.Counts.{times}
 use Rattle.hatch_format.specs.Points.{vertex, takes-vertex}
 use Rattle.hatch_format.specs.Edges.{edge, takes-edge}
 use Rattle.hatch_format.specs.Paths.{handle-count, segments-read, segments, path-read, path}
@@ -42,6 +43,10 @@ or-false true = refl
 or-false false = refl
 
 module _ (xs : List ℕ) (caps : Caps) (v : Version) where
+  -- the rule for handle counts, of handles in the payload, where it does not look at the sum
+  abbrev handles-of : Format one ℕ
+  handles-of = handle-count (caps .«boundary_handles») in-payload 0
+
   pub segments-gather : (b : Bool) (p : ℕ) → gathered segmentEntries ((segments caps v b) .read xs p) ≡ (segments-walk caps (fit-release xs caps v) b) .read xs p
   unfolding segments segments-read segments-walk polyline-walk edges-walk relay
   segments-gather true p =
@@ -61,41 +66,41 @@ module _ (xs : List ℕ) (caps : Caps) (v : Version) where
   behindFlags a = plus (segmentEntries (a .segments)) (word (a .boundary-handles))
 
   handle-word : (h : Entries → Entries) (q : ℕ)
-      → (bounded (caps .«boundary_handles») BL >>= λ n. pure {M = one} (h (word n))) .read xs q ≡ (handles-walk (caps .«boundary_handles») >>= λ e. pure {M = one} (h e)) .read xs q
+      → (handles-of >>= λ n. pure {M = one} (h (word n))) .read xs q ≡ (handles-walk (caps .«boundary_handles») >>= λ e. pure {M = one} (h e)) .read xs q
   unfolding handles-walk _>>=_ pure
-  handle-word h q = go ((bounded (caps .«boundary_handles») BL) .read xs q)
+  handle-word h q = go (handles-of .read xs q)
     where
       go : (o : Out ℕ ℕ) → andThen o (λ n r. got (h (word n)) r) ≡ andThen (andThen o (λ n r. got (word n) r)) (λ e r. got (h e) r)
       go (got n r) = refl
       go (refused k r) = refl
 
   flagged-gathers : (flags : ℕ) (p : ℕ)
-      → gathered behindFlags ((segments caps v (polylined flags) >>= λ a. handle-count caps >>= λ n. pure {M = one} (record { flags = flags; segments = a; boundary-handles = n })) .read xs p)
+      → gathered behindFlags ((segments caps v (polylined flags) >>= λ a. handles-of >>= λ n. pure {M = one} (record { flags = flags; segments = a; boundary-handles = n })) .read xs p)
       ≡ (flagged-walk caps (fit-release xs caps v) (polylined flags)) .read xs p
-  unfolding flagged-walk handle-count
+  unfolding flagged-walk
   flagged-gathers flags p =
       first-gathers behindFlags xs p segmentEntries (segments caps v (polylined flags)) (segments-walk caps (fit-release xs caps v) (polylined flags)) _ _ (segments-gather (polylined flags) p) (λ a q h.
-      same-first behindFlags xs q (bounded (caps .«boundary_handles») BL) _ (λ n. pure (plus (segmentEntries a) (word n))) (λ n q h. last-gathers behindFlags xs q _ refl)
+      same-first behindFlags xs q handles-of _ (λ n. pure (plus (segmentEntries a) (word n))) (λ n q h. last-gathers behindFlags xs q _ refl)
       ∙ handle-word (plus (segmentEntries a)) q)
 
   path-made : (flags : ℕ) (a : Path) (q r : ℕ)
-      → (segments caps v (polylined flags) >>= λ b. handle-count caps >>= λ n. pure {M = one} (record { flags = flags; segments = b; boundary-handles = n })) .read xs q ≡ got a r
+      → (segments caps v (polylined flags) >>= λ b. handles-of >>= λ n. pure {M = one} (record { flags = flags; segments = b; boundary-handles = n })) .read xs q ≡ got a r
       → pathEntries a ≡ plus (flagged flags) (behindFlags a)
   unfolding _>>=_ pure
   path-made flags a q r e =
-      let f : Format one Path = segments caps v (polylined flags) >>= λ b. handle-count caps >>= λ n. pure (record { flags = flags; segments = b; boundary-handles = n }) in
+      let f : Format one Path = segments caps v (polylined flags) >>= λ b. handles-of >>= λ n. pure (record { flags = flags; segments = b; boundary-handles = n }) in
       let l = f .sound xs a q r e in
       let b = l .0 in
       let n = l .3 .0 in
       rw (l .3 .3 .0)
       (λ i. record { words = flags ∷ (segmentWords b ++ (n ∷ [])); numbers = sym (append-nil (segmentNumbers b)) i; derived = sym (or-false (odd (flags / 4))) i })
 
-  pub path-gathers : (p : ℕ) → gathered pathEntries ((path caps v) .read xs p) ≡ (path-walk caps (fit-release xs caps v)) .read xs p
+  pub path-gathers : (p : ℕ) → gathered pathEntries ((path caps in-payload v 0) .read xs p) ≡ (path-walk caps (fit-release xs caps v)) .read xs p
   unfolding path path-read path-walk relay
   path-gathers p =
       same-first pathEntries xs p (coded BL) _ _ (λ flags q h.
-      more-gathers pathEntries behindFlags (flagged flags) (segments caps v (polylined flags) >>= λ a. handle-count caps >>= λ n. pure (record { flags = flags; segments = a; boundary-handles = n })) _ xs q
+      more-gathers pathEntries behindFlags (flagged flags) (segments caps v (polylined flags) >>= λ a. handles-of >>= λ n. pure (record { flags = flags; segments = a; boundary-handles = n })) _ xs q
       (flagged-gathers flags q) (λ a r e. path-made flags a q r e))
 
-  pub paths-gather : (n p : ℕ) → gathered (all pathEntries) ((times n (path caps v)) .read xs p) ≡ (repeated n (path-walk caps (fit-release xs caps v))) .read xs p
-  paths-gather = times-gather (path caps v) xs pathEntries (path-walk caps (fit-release xs caps v)) path-gathers
+  pub paths-gather : (n p : ℕ) → gathered (all pathEntries) ((times n (path caps in-payload v 0)) .read xs p) ≡ (repeated n (path-walk caps (fit-release xs caps v))) .read xs p
+  paths-gather = times-gather (path caps in-payload v 0) xs pathEntries (path-walk caps (fit-release xs caps v)) path-gathers

@@ -10,7 +10,9 @@ use Rattle.bitcursor.specs.Inputs.{one}
 use Rattle.bitcursor.specs.Fields.{coded}
 use Rattle.hatch_format.specs.declared.Caps.{Caps}
 use Rattle.hatch_format.specs.Values.{polylined}
+use Rattle.hatch_format.specs.HandleRule.{in-payload}
 use Rattle.hatch_format.specs.Counts.{bounded}
+use Rattle.hatch_format.specs.Paths.{handle-count}
 use Rattle.hatch_points.specs.Gathered.{Entries, word, words, flagged, plus, repeated}
 use Rattle.hatch_points.specs.Walks.{raw-run, double-run, vertices-walk}
 
@@ -49,10 +51,10 @@ polyline-walk caps = do
   vertices ← vertices-walk bulge n
   pure (plus (words (bit bulge ∷ (bit closed ∷ (n ∷ [])))) vertices)
 
--- a handle count that is a word
+-- a handle count that is a word, of handles in the payload: the rule is hatch_format's, and there it does not look at the sum
 unfoldable pub handles-walk : ℕ → Format one Entries
 handles-walk cap = do
-  n ← bounded cap BL
+  n ← handle-count cap in-payload 0
   pure (word n)
 
 module _ (caps : Caps) (has-fits : Bool) where

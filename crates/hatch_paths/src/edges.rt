@@ -10,7 +10,7 @@ ghost use Rattle.hatch_points.specs.Gathered.{repeated};
 ghost use Rattle.hatch_paths.specs.PathWalks.{bit-walk, curve-walk, fitted-raw, fits-walk, spline-lists-walk, spline-walk, edge-of-walk, edge-walk};
 ghost use Rattle.hatch_points.specs.Lists.{lists, Ready, Walks};
 ghost use Rattle.hatch_paths.specs.Splines.{splineHead};
-ghost use Rattle.hatch_points.specs.Heads.{Modest};
+ghost use Rattle.hatch_format.specs.Caps.{documentCaps, NowhereAbove};
 use bitcursor::Read;
 use bitcursor::Refusal;
 use bitcursor::sequence;
@@ -195,7 +195,7 @@ fn decode_spline_edge(
     words: &mut [u32],
     z: Sizes,
 ) -> Walk
-    requires { ⌜ Ready (now s) at z × Modest caps ⌝ }
+    requires { ⌜ Ready (now s) at z × NowhereAbove caps documentCaps ⌝ }
     ensures { λ r. ⌜ Walks (now (s .entry)) ((spline-walk caps fits) .read (now (s .entry)) at) (lists (now (numbers .entry)) (now (bits .entry)) (now (words .entry))) z (lists (now (numbers .exit)) (now (bits .exit)) (now (words .exit))) r ⌝ }
 {
     let head = read_spline_head(s, at, caps);
@@ -226,7 +226,7 @@ fn decode_edge_of(
     words: &mut [u32],
     z: Sizes,
 ) -> Walk
-    requires { ⌜ Ready (now s) at z × Modest caps ⌝ }
+    requires { ⌜ Ready (now s) at z × NowhereAbove caps documentCaps ⌝ }
     ensures { λ r. ⌜ Walks (now (s .entry)) ((edge-of-walk caps fits kind) .read (now (s .entry)) at) (lists (now (numbers .entry)) (now (bits .entry)) (now (words .entry))) z (lists (now (numbers .exit)) (now (bits .exit)) (now (words .exit))) r ⌝ }
 {
     match kind {
@@ -249,7 +249,7 @@ fn decode_edge(
     words: &mut [u32],
     z: Sizes,
 ) -> Walk
-    requires { ⌜ Ready (now s) at z × Modest caps ⌝ }
+    requires { ⌜ Ready (now s) at z × NowhereAbove caps documentCaps ⌝ }
     ensures { λ r. ⌜ Walks (now (s .entry)) ((edge-walk caps fits) .read (now (s .entry)) at) (lists (now (numbers .entry)) (now (bits .entry)) (now (words .entry))) z (lists (now (numbers .exit)) (now (bits .exit)) (now (words .exit))) r ⌝ }
 {
     match bitcursor::within::read_low(s, at, 1) {
@@ -278,7 +278,7 @@ pub fn decode_edges(
     words: &mut [u32],
     z: Sizes,
 ) -> Walk
-    requires { ⌜ Ready (now s) at z × Modest caps ⌝ }
+    requires { ⌜ Ready (now s) at z × NowhereAbove caps documentCaps ⌝ }
     ensures { λ r. ⌜ Walks (now (s .entry)) ((repeated n (edge-walk caps fits)) .read (now (s .entry)) at) (lists (now (numbers .entry)) (now (bits .entry)) (now (words .entry))) z (lists (now (numbers .exit)) (now (bits .exit)) (now (words .exit))) r ⌝ }
 {
     let mut p = at;

@@ -7,7 +7,7 @@ ghost use Rattle.bitcursor.specs.Bits.{odd};
 ghost use Rattle.hatch_points.specs.Gathered.{repeated};
 ghost use Rattle.hatch_paths.specs.PathWalks.{polyline-walk, edges-walk, segments-walk, handles-walk, flagged-walk, path-walk};
 ghost use Rattle.hatch_points.specs.Lists.{lists, Ready, Walks};
-ghost use Rattle.hatch_points.specs.Heads.{Modest};
+ghost use Rattle.hatch_format.specs.Caps.{documentCaps, NowhereAbove};
 use crate::edges;
 use bitcursor::Read;
 use bitcursor::sequence;
@@ -38,7 +38,7 @@ fn decode_polyline_path(
     words: &mut [u32],
     z: Sizes,
 ) -> Walk
-    requires { ⌜ Ready (now s) at z × Modest caps ⌝ }
+    requires { ⌜ Ready (now s) at z × NowhereAbove caps documentCaps ⌝ }
     ensures { λ r. ⌜ Walks (now (s .entry)) ((polyline-walk caps) .read (now (s .entry)) at) (lists (now (numbers .entry)) (now (bits .entry)) (now (words .entry))) z (lists (now (numbers .exit)) (now (bits .exit)) (now (words .exit))) r ⌝ }
 {
     let bulge = bitcursor::within::read_bits(s, at, 1);
@@ -70,7 +70,7 @@ fn decode_edge_path(
     words: &mut [u32],
     z: Sizes,
 ) -> Walk
-    requires { ⌜ Ready (now s) at z × Modest caps ⌝ }
+    requires { ⌜ Ready (now s) at z × NowhereAbove caps documentCaps ⌝ }
     ensures { λ r. ⌜ Walks (now (s .entry)) ((edges-walk caps fits) .read (now (s .entry)) at) (lists (now (numbers .entry)) (now (bits .entry)) (now (words .entry))) z (lists (now (numbers .exit)) (now (bits .exit)) (now (words .exit))) r ⌝ }
 {
     match counts::read_count(s, at, caps.edges) {
@@ -98,7 +98,7 @@ fn decode_segments(
     words: &mut [u32],
     z: Sizes,
 ) -> Walk
-    requires { ⌜ Ready (now s) at z × Modest caps ⌝ }
+    requires { ⌜ Ready (now s) at z × NowhereAbove caps documentCaps ⌝ }
     ensures { λ r. ⌜ Walks (now (s .entry)) ((segments-walk caps fits polyline) .read (now (s .entry)) at) (lists (now (numbers .entry)) (now (bits .entry)) (now (words .entry))) z (lists (now (numbers .exit)) (now (bits .exit)) (now (words .exit))) r ⌝ }
 {
     if polyline {
@@ -148,7 +148,7 @@ fn decode_flagged(
     words: &mut [u32],
     z: Sizes,
 ) -> Walk
-    requires { ⌜ Ready (now s) at z × Modest caps ⌝ }
+    requires { ⌜ Ready (now s) at z × NowhereAbove caps documentCaps ⌝ }
     ensures { λ r. ⌜ Walks (now (s .entry)) ((flagged-walk caps fits polyline) .read (now (s .entry)) at) (lists (now (numbers .entry)) (now (bits .entry)) (now (words .entry))) z (lists (now (numbers .exit)) (now (bits .exit)) (now (words .exit))) r ⌝ }
 {
     match decode_segments(s, at, polyline, caps, fits, numbers, bits, words, z) {
@@ -168,7 +168,7 @@ fn decode_path(
     words: &mut [u32],
     z: Sizes,
 ) -> Walk
-    requires { ⌜ Ready (now s) at z × Modest caps ⌝ }
+    requires { ⌜ Ready (now s) at z × NowhereAbove caps documentCaps ⌝ }
     ensures { λ r. ⌜ Walks (now (s .entry)) ((path-walk caps fits) .read (now (s .entry)) at) (lists (now (numbers .entry)) (now (bits .entry)) (now (words .entry))) z (lists (now (numbers .exit)) (now (bits .exit)) (now (words .exit))) r ⌝ }
 {
     match bitcursor::within::read_bl_u(s, at) {
@@ -197,7 +197,7 @@ pub fn decode_paths(
     words: &mut [u32],
     z: Sizes,
 ) -> Walk
-    requires { ⌜ Ready (now s) at z × Modest caps ⌝ }
+    requires { ⌜ Ready (now s) at z × NowhereAbove caps documentCaps ⌝ }
     ensures { λ r. ⌜ Walks (now (s .entry)) ((repeated n (path-walk caps fits)) .read (now (s .entry)) at) (lists (now (numbers .entry)) (now (bits .entry)) (now (words .entry))) z (lists (now (numbers .exit)) (now (bits .exit)) (now (words .exit))) r ⌝ }
 {
     let mut p = at;

@@ -8,7 +8,7 @@ use native.Mathlib.Nat.{add-zero, add-assoc}
 use native.Mathlib.Omega.{arith}
 use lib.Ieee.{Float, ofBits, binary64}
 use lib.ListN.{length, length-append, set, take}
-use lib.Seq.{sets, length-sets, take-set-le, take-take}
+use lib.Seq.{sets, set-out, length-sets, take-set-le, take-take}
 use Rattle.bitcursor.specs.declared.Refusal.{Refusal}
 use Rattle.bitcursor.specs.Bits.{odd}
 use Rattle.bitcursor.specs.Reading.{Out, got, refused, andThen, never}
@@ -27,6 +27,11 @@ sets-append l i [] ys = ap (λ (k : ℕ). sets l k ys) (sym (add-zero i))
 sets-append l i (x ∷ xs) ys =
     let e : suc i + length xs ≡ i + suc (length xs) = omega arith in
     sets-append (set l i x) (suc i) xs ys ∙ ap (λ (k : ℕ). sets (sets (set l i x) (suc i) xs) k ys) e
+
+-- stores past a list's end change nothing
+pub sets-out : {A : Type 0} (l : List A) (i : ℕ) (vs : List A) → length l ≤ i → sets l i vs ≡ l
+sets-out l i [] h = refl
+sets-out {A} l i (v ∷ vs) h = ap (λ (m : List A). sets m (suc i) vs) (set-out l i v h) ∙ sets-out l (suc i) vs (omega arith)
 
 or-assoc : (a b c : Bool) → (a || b) || c ≡ a || (b || c)
 or-assoc true b c = refl
@@ -184,6 +189,12 @@ pub ends : {xs : List ℕ} {o : Out ℕ Entries} {l l′ : Lists} {z y : Sizes} 
 ends {xs} {o} {l} {l′} {z} {y} {p} e i s h =
     subst (λ (x : Out ℕ Entries). Walks xs x l z l′ (Done p y)) (sym i)
     (record { is = ap (Done p) (s .sizes); laid = s .lists; ready = h })
+
+-- a walk over other lists, which hold what it gathers as they are
+pub walks-unstored : {xs : List ℕ} (o : Out ℕ Entries) {k k′ l : Lists} {z : Sizes} {r : Walk}
+    → ((e : Entries) (q : ℕ) → o ≡ got e q → l ≡ lay l z e) → Walks xs o k z k′ r → Walks xs o l z l r
+walks-unstored (got e q) h w = record { is = w .is; laid = h e q refl; ready = w .ready }
+walks-unstored (refused k q) h w = record { is = w .is; laid = kept-same; ready = w .ready }
 
 -- the last of a row of walks, behind entries w that were laid before it
 pub behind : {xs : List ℕ} {l l₁ l₂ : Lists} {z y : Sizes} {r : Walk} {p : ℕ} (f : Format one Entries) (g : Entries → Entries) {w : Entries} → Step l z w l₁ y

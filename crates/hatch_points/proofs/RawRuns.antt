@@ -7,7 +7,7 @@ use Prim.Native.Nat.{ℕ, zero, suc, _+_, _-_, _*_, _/_, _≤_, _<_, max}
 use native.Mathlib.Omega.{arith}
 use lib.Ieee.{Float, ofBits, binary64}
 use lib.ListN.{length, set, length-set}
-use lib.Seq.{sets, set-out, length-sets}
+use lib.Seq.{sets, length-sets}
 use Rattle.bitcursor.specs.declared.Refusal.the-variants.{TooFewBits}
 use Rattle.bitcursor.specs.Bits.{size}
 use Rattle.bitcursor.specs.Reading.{Out, got, refused, andThen}
@@ -21,7 +21,7 @@ use Rattle.hatch_points.specs.Gathered.{Entries, numbers, gathered}
 use Rattle.hatch_points.specs.Walks.{raw-run}
 use Rattle.hatch_points.specs.Lists.{doublesOf, doubles-append, length-doubles}
 use Rattle.hatch_points.specs.Stores.{rawAt, roomFor}
-use Rattle.hatch_points.proofs.Laws.{sets-append}
+use Rattle.hatch_points.proofs.Laws.{sets-append, sets-out}
 
 pub length-raw : (xs : List ℕ) (p n : ℕ) → length (rawAt xs p n) ≡ n
 unfolding rawAt
@@ -84,14 +84,8 @@ pub raw-short : (xs : List ℕ) (n p : ℕ) → size xs - p < 64 * n → (raw-ru
 unfolding raw-run _>>=_ pure
 raw-short xs n p h = ap (gathered numbers) (times-short xs n p h)
 
--- ---- stores past a list's end change nothing
+-- a run may end where the list does
 module _ {A : Type 0} where
-  pub sets-out : (l : List A) (i : ℕ) (vs : List A) → length l ≤ i → sets l i vs ≡ l
-  sets-out l i [] h = refl
-  sets-out l i (v ∷ vs) h =
-      ap (λ (m : List A). sets m (suc i) vs) (set-out l i v h) ∙ sets-out l (suc i) vs (omega arith)
-
-  -- so a run may end where the list does
   sets-enough : (l : List A) (i : ℕ) (us vs : List A) → length l ≤ i + length us → sets l i us ≡ sets l i (us ++ vs)
   sets-enough l i us vs h = sym (sets-append l i us vs ∙ sets-out (sets l i us) (i + length us) vs (omega (arith, length-sets l i us)))
 

@@ -1,16 +1,16 @@
 -- Counts as the code tests them, and scalar fields in a row in front of a walk: each is read where the one before ended, and a refusal
 -- stays. Assumes nothing.
 use mathlib.Core.Path.{_≡_, refl, sym, ap, _∙_}
-use mathlib.Core.Bool.{Bool, true, false, _&&_}
+use mathlib.Core.Bool.{Bool, true, false}
 use mathlib.Core.List.{List, [], _∷_}
-use Prim.Native.Nat.{ℕ, _+_, _-_, _^_, _≤_, _<_}
+use Prim.Native.Nat.{ℕ, _-_, _≤_, _<_}
 use native.Mathlib.Omega.{arith}
 use lib.Dec.{leb, eqb}
 use borrow.Author.Tests.{le-leb, lt-leb}
 use Rattle.bitcursor.specs.declared.Refusal.the-variants.{CountTooLarge}
 use Rattle.bitcursor.specs.declared.Read.{Read}
 use Rattle.bitcursor.specs.declared.Read.the-variants.{Value, Refused}
-use Rattle.bitcursor.specs.Bits.{size, bit}
+use Rattle.bitcursor.specs.Bits.{size}
 use Rattle.bitcursor.specs.Reading.{Out, got, refused, andThen}
 use Rattle.bitcursor.specs.Code.{Code, raw, _>>=_ as _then_, give, mapped, tabled}
 use Rattle.bitcursor.specs.Codes.{B, B-read, BL}
@@ -19,27 +19,35 @@ use Rattle.bitcursor.specs.Sequence.{thenRead, valueOf}
 use Rattle.bitcursor.specs.Format.{Format, pure, refuse, _>>=_, peek, relay, either}
 use Rattle.bitcursor.specs.Inputs.{one}
 use Rattle.bitcursor.specs.Fields.{coded}
-use Rattle.hatch_format.specs.declared.Caps.{Caps}
-use Rattle.hatch_format.specs.Counts.{bits-left, bounded-read, bounded}
+use Rattle.hatch_format.specs.Counts.{at-least-read, at-least, capped-read, capped, bounded-read, bounded}
 
--- ---- the Rust's `bounds_check`: refusal 3 where the count is above the cap or the bits left
+-- ---- the Rust's `bounds_check`: refusal 3 where the count is above the cap, and then where it is above the bits left
 abbrev pub boundsOf : List ℕ → ℕ → Read → Read
-boundsOf xs cap (Value n p) = elim (leb n cap && leb n (size xs - p)) [ true ↦ Value n p | false ↦ Refused CountTooLarge p ]
+boundsOf xs cap (Value n p) =
+    elim (leb n cap) [ true ↦ elim (leb n (size xs - p)) [ true ↦ Value n p | false ↦ Refused CountTooLarge p ] | false ↦ Refused CountTooLarge p ]
 boundsOf xs cap (Refused k p) = Refused k p
 
 pub bounds-bounded : (cap : ℕ) (c : Code ℕ) (xs : List ℕ) (p : ℕ) → boundsOf xs cap (asRead (c .read xs p)) ≡ asRead ((bounded cap c) .read xs p)
-unfolding bounded bounded-read bits-left peek relay _>>=_ either pure refuse
+unfolding bounded bounded-read capped capped-read at-least at-least-read peek relay _>>=_ either pure refuse
 bounds-bounded cap c xs p = go (c .read xs p)
   where
-    by : (n q : ℕ) (b : Bool) → elim b [ true ↦ Value n q | false ↦ Refused CountTooLarge q ] ≡ asRead ((either {M = one} b (pure n) (refuse CountTooLarge)) .read xs q)
-    by n q true = refl
-    by n q false = refl
+    left-test : (n q : ℕ) (t : Bool)
+        → elim t [ true ↦ Value n q | false ↦ Refused CountTooLarge q ]
+        ≡ asRead (andThen ((either {M = one} t (pure (tt {0})) (refuse CountTooLarge)) .read xs q) (λ u r. got n r))
+    left-test n q true = refl
+    left-test n q false = refl
+
+    cap-test : (n q : ℕ) (s : Bool)
+        → elim s [ true ↦ elim (leb n (size xs - q)) [ true ↦ Value n q | false ↦ Refused CountTooLarge q ] | false ↦ Refused CountTooLarge q ]
+        ≡ asRead (andThen ((either {M = one} s (pure n) (refuse CountTooLarge)) .read xs q) (λ m r. andThen ((at-least-read m) .read xs r) (λ u t. got m t)))
+    cap-test n q true = left-test n q (leb n (size xs - q))
+    cap-test n q false = refl
 
     go : (o : Out ℕ ℕ)
         → boundsOf xs cap (asRead o)
-        ≡ asRead (andThen o (λ n q. (either {M = one} (leb n cap && leb n (size xs - q)) (pure n) (refuse CountTooLarge)) .read xs q))
+        ≡ asRead (andThen (andThen o (λ n q. (either {M = one} (leb n cap) (pure n) (refuse CountTooLarge)) .read xs q)) (λ m r. andThen ((at-least-read m) .read xs r) (λ u t. got m t)))
     go (refused k q) = refl
-    go (got n q) = by n q (leb n cap && leb n (size xs - q))
+    go (got n q) = cap-test n q (leb n cap)
 
 module _ (xs : List ℕ) (cap n p : ℕ) where
   pub bounds-many : cap < n → boundsOf xs cap (Value n p) ≡ Refused CountTooLarge p
@@ -88,19 +96,6 @@ then-value f (Value u p) {v} {q} e = (u, p, refl, go (f p) e)
     go (got a r) h = cc
     go (refused k r) h = let z : _≡_ {A = ℕ} 0 1 = cc in absurd (omega arith)
 then-value f (Refused k p) {v} {q} e = let z : _≡_ {A = ℕ} 0 1 = cc in absurd (omega arith)
-
--- caps that leave room to count in: document 01's do
-pub record Modest (caps : Caps) : Type 0 where
-  pub vertices : caps .vertices < 2 ^ 30
-  pub edges : caps .edges < 2 ^ 30
-  pub knots : caps .knots < 2 ^ 30
-  pub controls : caps .«control_points» < 2 ^ 30
-  pub fits : caps .«fit_points» < 2 ^ 30
-  pub handles : caps .«boundary_handles» < 2 ^ 30
-  pub paths : caps .paths < 2 ^ 30
-  pub lines : caps .«pattern_lines» < 2 ^ 30
-  pub dashes : caps .dashes < 2 ^ 30
-  pub seeds : caps .«seed_points» < 2 ^ 30
 
 -- a count that was read is not above its cap
 pub count-capped : (cap : ℕ) (c : Code ℕ) (xs : List ℕ) (p : ℕ) {n q : ℕ} → (bounded cap c) .read xs p ≡ got n q → n ≤ cap

@@ -1,11 +1,12 @@
-// Runs of doubles: n RD, which are passed by one comparison and stored so far as there is room, and n BD, each read by its tag.
+// Runs of doubles: n RD, which are passed by one comparison, and n BD, each read by its tag; both are stored so far as there is room.
 ghost use mathlib.Core.Path.{_≡_};
 ghost use mathlib.Core.List.{[]};
 ghost use Prim.Native.Nat.{_+_, _*_, _^_, _≤_, _<_, max};
 ghost use lib.ListN.{length};
 ghost use lib.Seq.{sets};
 ghost use Rattle.bitcursor.specs.Answers.{limit};
-ghost use Rattle.hatch_points.specs.Walks.{raw-run, double-run};
+ghost use Rattle.hatch_points.specs.Gathered.{repeated};
+ghost use Rattle.hatch_points.specs.Walks.{raw-run, single-walk, double-run};
 ghost use Rattle.hatch_points.specs.Lists.{lists, doublesOf, Ready, Walks};
 ghost use Rattle.hatch_points.specs.Stores.{rawAt, roomFor};
 use crate::lists;
@@ -24,8 +25,8 @@ pub fn longer(a: usize, b: usize) -> usize
     a
 }
 
-// How many of n numbers, the first at `from`, either list has room for.
-fn stores(n: usize, from: usize, doubles: usize, bits: usize) -> usize
+// How many of n numbers, the first at `from`, the longer list has room for.
+pub fn stores(n: usize, from: usize, doubles: usize, bits: usize) -> usize
     ensures { λ r. ⌜ r ≡ roomFor n from doubles bits ⌝ }
 {
     let room = longer(doubles, bits);
@@ -79,8 +80,8 @@ pub fn raw_run(
     }
 }
 
-// n BD.
-pub fn double_run(
+// n BD, read and stored.
+fn put_doubles(
     s: &[u8],
     at: usize,
     n: usize,
@@ -89,7 +90,7 @@ pub fn double_run(
     z: Sizes,
 ) -> Walk
     requires { ⌜ Ready (now s) at z ⌝ }
-    ensures { λ r. ⌜ Walks (now (s .entry)) ((double-run n) .read (now (s .entry)) at) (lists (now (numbers .entry)) (now (bits .entry)) []) z (lists (now (numbers .exit)) (now (bits .exit)) []) r ⌝ }
+    ensures { λ r. ⌜ Walks (now (s .entry)) ((repeated n single-walk) .read (now (s .entry)) at) (lists (now (numbers .entry)) (now (bits .entry)) []) z (lists (now (numbers .exit)) (now (bits .exit)) []) r ⌝ }
 {
     let mut p = at;
     let mut used = z.numbers;
@@ -115,4 +116,53 @@ pub fn double_run(
             derived: z.derived,
         },
     )
+}
+
+// n BD that no list has room for: their places alone are wanted.
+fn pass_doubles(s: &[u8], at: usize, n: usize, z: Sizes) -> Walk
+    requires { ⌜ Ready (now s) at z ⌝ }
+    ensures { λ r. ⌜ Walks (now (s .entry)) ((repeated n single-walk) .read (now (s .entry)) at) (lists [] [] []) z (lists [] [] []) r ⌝ }
+{
+    let mut p = at;
+    let mut used = z.numbers;
+    let mut i: usize = 0;
+    while i < n {
+        match bitcursor::within::read_bd_bits(s, p) {
+            Read::Value(_, q) => {
+                p = q;
+                used += 1;
+            }
+            Read::Refused(k, q) => {
+                return Walk::Refused(k, q);
+            }
+        }
+        i += 1;
+    }
+    Walk::Done(
+        p,
+        Sizes {
+            numbers: used,
+            words: z.words,
+            derived: z.derived,
+        },
+    )
+}
+
+// n BD: stored so far as there is room, and passed from there on.
+pub fn double_run(
+    s: &[u8],
+    at: usize,
+    n: usize,
+    numbers: &mut [f64],
+    bits: &mut [u64],
+    z: Sizes,
+) -> Walk
+    requires { ⌜ Ready (now s) at z ⌝ }
+    ensures { λ r. ⌜ Walks (now (s .entry)) ((double-run n) .read (now (s .entry)) at) (lists (now (numbers .entry)) (now (bits .entry)) []) z (lists (now (numbers .exit)) (now (bits .exit)) []) r ⌝ }
+{
+    let m = stores(n, z.numbers, numbers.len(), bits.len());
+    match put_doubles(s, at, m, numbers, bits, z) {
+        Walk::Done(p, y) => pass_doubles(s, p, n - m, y),
+        Walk::Refused(k, p) => Walk::Refused(k, p),
+    }
 }

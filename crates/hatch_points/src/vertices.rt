@@ -28,21 +28,18 @@ fn read_extra(s: &[u8], at: usize) -> Read
     }
 }
 
-// Stores the point at `at`, which is there, and the double behind it. A walk that measures has no room, and reads no point.
+// Stores the point at `at`, which is there, and the double behind it.
 fn put_vertex(s: &[u8], at: usize, extra: u64, numbers: &mut [f64], bits: &mut [u64], from: usize)
     requires { ⌜ (length (now s) ≤ limit) × ((at + 128 ≤ 8 * length (now s)) × (from + 3 < 2 ^ 64)) ⌝ }
     ensures { λ _. ⌜ (now (numbers .exit) ≡ sets (now (numbers .entry)) from (doublesOf (vertexAt (now (s .entry)) at extra))) × (now (bits .exit) ≡ sets (now (bits .entry)) from (vertexAt (now (s .entry)) at extra)) ⌝ }
 {
-    if runs::longer(numbers.len(), bits.len()) <= from {
-        return;
-    }
     lists::put_number(numbers, bits, from, words::low_at(s, at, 8));
     lists::put_number(numbers, bits, from + 1, words::low_at(s, at + 64, 8));
     lists::put_number(numbers, bits, from + 2, extra);
 }
 
-// n of them.
-pub fn decode_vertices(
+// n of them, read and stored.
+fn put_vertices(
     s: &[u8],
     at: usize,
     n: usize,
@@ -77,6 +74,55 @@ pub fn decode_vertices(
             derived: z.derived,
         },
     )
+}
+
+// n of them that no list has room for: their places alone are wanted.
+fn pass_vertices(s: &[u8], at: usize, n: usize, z: Sizes) -> Walk
+    requires { ⌜ Ready (now s) at z ⌝ }
+    ensures { λ r. ⌜ Walks (now (s .entry)) ((repeated n vertex-walk) .read (now (s .entry)) at) (lists [] [] []) z (lists [] [] []) r ⌝ }
+{
+    let mut p = at;
+    let mut used = z.numbers;
+    let mut i: usize = 0;
+    while i < n {
+        match read_extra(s, p) {
+            Read::Value(_, q) => {
+                p = q;
+                used += 3;
+            }
+            Read::Refused(k, q) => {
+                return Walk::Refused(k, q);
+            }
+        }
+        i += 1;
+    }
+    Walk::Done(
+        p,
+        Sizes {
+            numbers: used,
+            words: z.words,
+            derived: z.derived,
+        },
+    )
+}
+
+// n of them: stored so far as there is room, and passed from there on.
+pub fn decode_vertices(
+    s: &[u8],
+    at: usize,
+    n: usize,
+    numbers: &mut [f64],
+    bits: &mut [u64],
+    z: Sizes,
+) -> Walk
+    requires { ⌜ Ready (now s) at z × (n < 2 ^ 31) ⌝ }
+    ensures { λ r. ⌜ Walks (now (s .entry)) ((repeated n vertex-walk) .read (now (s .entry)) at) (lists (now (numbers .entry)) (now (bits .entry)) []) z (lists (now (numbers .exit)) (now (bits .exit)) []) r ⌝ }
+{
+    let m = (runs::stores(3 * n, z.numbers, numbers.len(), bits.len()) + 2) / 3;
+    match put_vertices(s, at, m, numbers, bits, z) {
+        Walk::Done(p, y) => pass_vertices(s, p, n - m, y),
+        Walk::Refused(k, p) => Walk::Refused(k, p),
+    }
 }
 
 // n points, with a double behind each or without: without one they are a run of RD.

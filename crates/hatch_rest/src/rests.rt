@@ -5,7 +5,8 @@ ghost use lib.ListN.{length};
 ghost use Rattle.bitcursor.specs.Answers.{limit};
 ghost use Rattle.hatch_format.specs.Patterns.{rest};
 ghost use Rattle.hatch_points.specs.Lists.{lists};
-ghost use Rattle.hatch_points.specs.Heads.{Modest};
+ghost use Rattle.hatch_format.specs.HandleRule.{in-payload};
+ghost use Rattle.hatch_format.specs.Caps.{documentCaps, NowhereAbove};
 ghost use Rattle.hatch_rest.specs.Tails.{Gives};
 ghost use Rattle.hatch_rest.specs.Rests.{noSizes, restEntries, restWalk};
 use crate::patterns;
@@ -43,8 +44,8 @@ pub fn decode_rest(
     bits: &mut [u64],
     words: &mut [u32],
 ) -> RestWalk
-    requires { ⌜ (length (now s) ≤ limit) × ((at ≤ 8 * length (now s)) × Modest caps) ⌝ }
-    ensures { λ r. ⌜ (r ≡ restWalk ((rest caps v) .read (now (s .entry)) at)) × Gives (now (s .entry)) restEntries ((rest caps v) .read (now (s .entry)) at) (lists (now (numbers .entry)) (now (bits .entry)) (now (words .entry))) noSizes (lists (now (numbers .exit)) (now (bits .exit)) (now (words .exit))) ⌝ }
+    requires { ⌜ (length (now s) ≤ limit) × ((at ≤ 8 * length (now s)) × NowhereAbove caps documentCaps) ⌝ }
+    ensures { λ r. ⌜ (r ≡ restWalk ((rest caps in-payload v) .read (now (s .entry)) at)) × Gives (now (s .entry)) restEntries ((rest caps in-payload v) .read (now (s .entry)) at) (lists (now (numbers .entry)) (now (bits .entry)) (now (words .entry))) noSizes (lists (now (numbers .exit)) (now (bits .exit)) (now (words .exit))) ⌝ }
 {
     let fits = version::is_r2010_plus(v);
     let solid = bitcursor::within::read_bits(s, at, 1);

@@ -36,7 +36,7 @@ put-spline-head-requires c κs =
     let d = r .headed ((c .before .before .last) .given .1) ((c .before .before .before .before .before .before .before .before .before .pre) .0 .1 .0) in
     let h = (c .before .before .before .before .before .before .before .before .before .pre) .0 in
     let m = (c .before .before .before .before .before .before .before .before .before .pre) .1 in
-    (omega (arith, h .0, h .1 .0, h .1 .1 .1), (r .degree, (r .rational, (r .periodic, (omega (arith, r .knots, m .knots), omega (arith, d .controls, m .controls))))))
+    (omega (arith, h .0, h .1 .0, h .1 .1 .1), (r .degree, (r .rational, (r .periodic, (omega (arith, r .knots, m .knots), omega (arith, d .controls, m .«control_points»))))))
 
 add-decode-spline-lists : tie.Need-add-decode-spline-lists
 add-decode-spline-lists c = search needs
@@ -48,7 +48,7 @@ decode-spline-lists-requires c κs =
     let d = r .headed ((c .before .before .before .before .before .before .before .before .before .last) .given .1) ((c .before .before .before .before .before .before .before .before .before .before .before .before .before .before .before .before .pre) .0 .1 .0) in
     let h = (c .before .before .before .before .before .before .before .before .before .before .before .before .before .before .before .before .pre) .0 in
     let m = (c .before .before .before .before .before .before .before .before .before .before .before .before .before .before .before .before .pre) .1 in
-    ((h .0, (d .inside, (omega (arith, d .onward, h .1 .1 .0), omega (arith, d .onward, h .1 .1 .1)))), (omega (arith, d .onward, h .1 .1 .1), (omega (arith, d .controls, m .controls), m .fits)))
+    ((h .0, (d .inside, (omega (arith, d .onward, h .1 .1 .0), omega (arith, d .onward, h .1 .1 .1)))), (omega (arith, d .onward, h .1 .1 .1), (omega (arith, d .controls, m .«control_points»), omega (arith, m .«fit_points»))))
 
 enum-known-last-2 : tie.Need-enum-known-last-2
 enum-known-last-2 c = search needs

@@ -24,7 +24,7 @@ enum-known-p : tie.Need-enum-known-p
 enum-known-p c = search needs
 
 put-handle-count-requires : tie.Need-put-handle-count-requires
-put-handle-count-requires c κs = let m = (c .before .before .before .before .before .before .before .before .before .before .before .before .before .before .before .before .before .before .pre) .1 in (walk-ready ((c .before .before .before .before .before .before .before .before .before .before .decode-segments) .ensures) ((c .before .before .p) .given .1), m .handles)
+put-handle-count-requires c κs = let m = (c .before .before .before .before .before .before .before .before .before .before .before .before .before .before .before .before .before .before .pre) .1 in (walk-ready ((c .before .before .before .before .before .before .before .before .before .before .decode-segments) .ensures) ((c .before .before .p) .given .1), omega (arith, m .«boundary_handles»))
 
 enum-known-k : tie.Need-enum-known-k
 enum-known-k c = search needs

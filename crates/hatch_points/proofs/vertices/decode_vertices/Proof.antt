@@ -1,114 +1,93 @@
--- What is left to read, behind what is stored, is what the whole reads; each turn reads and stores one vertex.
-use mathlib.Core.Path.{_≡_, refl, sym, ap, subst, _∙_}
-use mathlib.Core.List.{List, [], _∷_}
-use Prim.Native.Nat.{ℕ, _+_, _-_, _*_, _≤_, _<_}
+-- The first points are stored, as far as there is room; the others are passed, and stores past the lists' ends change nothing.
+use mathlib.Core.Path.{_≡_, refl, sym, ap, _∙_}
+use mathlib.Core.List.{List, []}
+use Prim.Native.Nat.{ℕ, _+_, _-_, _*_, _/_, _≤_, _<_, min, max}
 use native.Mathlib.Omega.{arith}
 use denote.Ref.{now}
 use lib.ListN.{length}
-use Rattle.hatch_points.specs.declared.lists.Sizes.{Sizes}
-use Rattle.hatch_points.specs.Gathered.{numbers}
 use Rattle.hatch_points.specs.Walks.{vertex-walk}
-use Rattle.hatch_points.specs.Lists.{lists, Ready}
-use Rattle.hatch_points.specs.Vertices.{vertexAt, Extra}
-use Rattle.hatch_points.proofs.Laws.{more-numbers, kept-same}
-use Rattle.hatch_points.proofs.Loops.{Along, start, next, loop-refuses, loop-ends, long-doubles, long-bits}
+use Rattle.hatch_points.proofs.Laws.{walk-ready}
+use Rattle.hatch_points.proofs.Loops.{parts-walk, parts-refuse, past-room, used-after, many-3}
+use Rattle.hatch_points.proofs.VertexLaws.{vertex-long}
 use borrow.Author.Needs.{needs}
 use Rattle.hatch_points.proofs.vertices.decode_vertices.Statement.{statement}
 use Rattle.hatch_points.proofs.vertices.decode_vertices.Tie as tie
 use Rattle.hatch_points.proofs.vertices.decode_vertices.Reads as reads
 use Rattle.hatch_points.proofs.vertices.decode_vertices.Lts as lts
-use Rattle.hatch_points.proofs.vertices.put_vertex.Reads as put-vertex-reads
-use Rattle.hatch_points.proofs.vertices.read_extra.Reads as read-extra-reads
+use Rattle.hatch_points.proofs.vertices.pass_vertices.Reads as pass-vertices-reads
+use Rattle.hatch_points.proofs.vertices.put_vertices.Reads as put-vertices-reads
+use Rattle.hatch_points.proofs.runs.stores.Reads as stores-reads
 
-abbrev Inv-loop : tie.InvT-loop
-Inv-loop s at n numbers₀ bits₀ z p₀ used₀ i₀ numbers bits p used i =
-    Along vertex-walk s n at (lists numbers₀ bits₀ []) z i p (lists numbers bits []) (record { numbers = used; words = z .words; derived = z .derived })
+mul-stores : tie.Need-mul-stores
+mul-stores c = search needs
 
-abbrev μ-loop : tie.MeasureT-loop
-μ-loop s at n numbers₀ bits₀ z p₀ used₀ i₀ numbers bits p used i = n - i
+stores-requires : tie.Need-stores-requires
+stores-requires c κs = search needs
 
-loop-holds : tie.Need-loop-holds Inv-loop μ-loop
-loop-holds c = start vertex-walk (now ((c .before .before .before .args) .s)) (c .before .before .before .pre)
+add-m : tie.Need-add-m
+add-m c = search needs
 
-read-extra-requires : tie.Need-read-extra-requires Inv-loop μ-loop
-read-extra-requires c κs = let h = (c .before .loop) .inv .ready in (h .0, h .1 .0)
+put-vertices-requires : tie.Need-put-vertices-requires
+put-vertices-requires c κs = search needs
 
-enum-known-extra : tie.Need-enum-known-extra Inv-loop μ-loop
-enum-known-extra c = search needs
+enum-known-p : tie.Need-enum-known-p
+enum-known-p c = search needs
 
-put-vertex-requires : tie.Need-put-vertex-requires Inv-loop μ-loop
-put-vertex-requires c κs =
-    let l = (c .before .before .before .before .before .before .before .loop) in
-    let t = subst (Extra (now ((c .before .before .before .before .before .before .before .before .before .before .before .args) .s)) (l .p)) ((c .before .before .before .extra) .given .1) ((c .before .before .before .before .before .read-extra) .ensures) in
-    let h = l .inv .ready in
-    (h .0, (omega (arith, t .onward, t .inside), omega (arith, h .0, h .1 .0, h .1 .1 .0)))
+sub-pass-vertices : tie.Need-sub-pass-vertices
+sub-pass-vertices c = omega (arith, c .before .before .before .before .before .before .before .before .before .before .stores .ensures)
 
-add-used : tie.Need-add-used Inv-loop μ-loop
-add-used c = let h = (c .before .before .before .before .before .before .before .before .before .before .before .before .loop) .inv .ready in omega (arith, h .0, h .1 .0, h .1 .1 .0)
+pass-vertices-requires : tie.Need-pass-vertices-requires
+pass-vertices-requires c κs = walk-ready (c .before .before .before .before .before .before .before .put-vertices .ensures) (c .before .p .given .1)
 
-enum-known-k : tie.Need-enum-known-k Inv-loop μ-loop
+enum-known-k : tie.Need-enum-known-k
 enum-known-k c = search needs
 
-same-length : tie.Need-same-length Inv-loop μ-loop
-same-length c = long-doubles vertex-walk (now ((c .before .before .before .before .before .before .before .before .before .args) .s)) ((c .before .before .before .before .before .loop) .inv)
+same-length : tie.Need-same-length
+same-length c = search needs
 
-same-length-2 : tie.Need-same-length-2 Inv-loop μ-loop
-same-length-2 c = long-bits vertex-walk (now ((c .before .before .before .before .before .before .before .before .before .args) .s)) ((c .before .before .before .before .before .loop) .inv)
+same-length-2 : tie.Need-same-length-2
+same-length-2 c = search needs
 
-returns : tie.Need-returns Inv-loop μ-loop
+returns : tie.Need-returns
 returns c =
-    let s = now ((c .before .before .before .before .before .before .before .before .before .args) .s) in
-    let l = (c .before .before .before .before .before .loop) in
-    let o = subst (Extra s (l .p)) ((c .before .k) .given .1) ((c .before .before .before .read-extra) .ensures) in
-    loop-refuses vertex-walk s (l .inv) ((c .before .before .before .before .loop-test) .taken) o kept-same
-
-add-i : tie.Need-add-i Inv-loop μ-loop
-add-i c = omega arith
-
-loop-less : tie.Need-loop-less Inv-loop μ-loop
-loop-less c = omega arith
-
-loop-again : tie.Need-loop-again Inv-loop μ-loop
-loop-again c =
-    let a = (c .before .before .before .before .before .before .before .before .before .before .before .before .before .before .before .before .args) in
+    let a = c .before .before .before .before .before .before .before .before .before .before .before .before .before .before .before .args in
     let s = now (a .s) in
-    let l = (c .before .before .before .before .before .before .before .before .before .before .before .before .loop) in
-    let y : Sizes = record { numbers = l .used; words = a .z .words; derived = a .z .derived } in
-    let t = subst (Extra s (l .p)) ((c .before .before .before .before .before .before .before .before .extra) .given .1) ((c .before .before .before .before .before .before .before .before .before .before .read-extra) .ensures) in
-    let v = vertexAt s (l .p) ((c .before .before .before .before .before .before .before .before .extra) .given .0 .0) in
-    let put = (c .before .before .before .before .put-vertex) .ensures in
-    let h = l .inv .ready in
-    next vertex-walk s (l .inv) (numbers v) ((c .before .before .before .before .before .before .before .before .before .before .before .loop-test) .taken) (t .read)
-    (record { lists = λ i. lists (put .0 i) (put .1 i) []; sizes = more-numbers y v })
-    (h .0, (t .inside, (omega (arith, t .onward, h .1 .1 .0), omega (arith, t .onward, h .1 .1 .1))))
+    let put = c .before .before .before .before .before .before .before .before .put-vertices in
+    let done = c .before .before .p .given .1 in
+    let m = (c .before .before .before .before .before .before .before .before .before .before .before .stores .result + 2) / 3 in
+    let room = c .before .before .before .before .before .before .before .before .before .before .before .stores .ensures in
+    let u = used-after vertex-walk s 3 (vertex-long s) m (a .at) (put .ensures) done in
+    (parts-walk vertex-walk s (a .n) m (a .at) (omega (arith, room)) (put .ensures) done
+    (past-room vertex-walk s (a .n - m) _ (put .last .1 .1 .1 .0) (put .last .1 .1 .1 .1 .0) (λ h. omega (arith, u, many-3 m, room, h, put .kept .1 .1 .1 .0, put .kept .1 .1 .1 .1 .0)) (c .pass-vertices .ensures)))
 
-same-length-3 : tie.Need-same-length-3 Inv-loop μ-loop
-same-length-3 c = long-doubles vertex-walk (now ((c .before .before .before .before .before .args) .s)) ((c .before .loop) .inv)
+same-length-3 : tie.Need-same-length-3
+same-length-3 c = search needs
 
-same-length-4 : tie.Need-same-length-4 Inv-loop μ-loop
-same-length-4 c = long-bits vertex-walk (now ((c .before .before .before .before .before .args) .s)) ((c .before .loop) .inv)
+same-length-4 : tie.Need-same-length-4
+same-length-4 c = search needs
 
-returns-2 : tie.Need-returns-2 Inv-loop μ-loop
-returns-2 c = loop-ends vertex-walk (now ((c .before .before .before .before .before .args) .s)) ((c .before .loop) .inv) ((c .loop-test) .left)
+returns-2 : tie.Need-returns-2
+returns-2 c =
+    let a = c .before .before .before .before .before .before .before .before .before .before .before .before .before .before .args in
+    let s = now (a .s) in
+    let m = (c .before .before .before .before .before .before .before .before .before .before .stores .result + 2) / 3 in
+    parts-refuse vertex-walk s (a .n) m (a .at) (omega (arith, c .before .before .before .before .before .before .before .before .before .before .stores .ensures)) (c .before .before .before .before .before .before .before .put-vertices .ensures) (c .before .k .given .1)
 
 pub decode-vertices-spec : {M : Type 1} → statement M
 decode-vertices-spec =
     tie.close
     (tie.spec
-    Inv-loop
-    μ-loop
-    loop-holds
-    read-extra-requires
-    enum-known-extra
-    put-vertex-requires
-    add-used
+    mul-stores
+    stores-requires
+    add-m
+    put-vertices-requires
+    enum-known-p
+    sub-pass-vertices
+    pass-vertices-requires
     enum-known-k
     same-length
     same-length-2
     returns
-    add-i
-    loop-less
-    loop-again
     same-length-3
     same-length-4
     returns-2)

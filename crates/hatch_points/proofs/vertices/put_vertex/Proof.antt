@@ -6,7 +6,6 @@ use denote.Ref.{now}
 use lib.Ieee.{ofBits, binary64}
 use Rattle.hatch_points.specs.Lists.{doublesOf}
 use Rattle.hatch_points.specs.Vertices.{vertexAt}
-use Rattle.hatch_points.proofs.RawRuns.{sets-out}
 use Rattle.hatch_points.proofs.VertexLaws.{three}
 use borrow.Author.Needs.{needs}
 use Rattle.hatch_points.proofs.vertices.put_vertex.Statement.{statement}
@@ -15,16 +14,6 @@ use Rattle.hatch_points.proofs.vertices.put_vertex.Reads as reads
 use Rattle.hatch_points.proofs.vertices.put_vertex.Lts as lts
 use Rattle.bitcursor.proofs.words.low_at.Reads as low-at-reads
 use Rattle.hatch_points.proofs.lists.put_number.Reads as put-number-reads
-use Rattle.hatch_points.proofs.runs.longer.Reads as longer-reads
-
-longer-requires : tie.Need-longer-requires
-longer-requires c κs = search needs
-
-returns : tie.Need-returns
-returns c =
-    let a = (c .before .before .before .before .before .args) in
-    let v = vertexAt (now (a .s)) (a .at) (a .extra) in
-    (sym (sets-out (now (a .numbers)) (a .from) (doublesOf v) (omega (arith, (c .before .longer) .ensures, (c .if1) .taken))), sym (sets-out (now (a .bits)) (a .from) v (omega (arith, (c .before .longer) .ensures, (c .if1) .taken))))
 
 low-at-requires : tie.Need-low-at-requires
 low-at-requires c κs = search needs
@@ -56,9 +45,9 @@ same-length c = search needs
 same-length-2 : tie.Need-same-length-2
 same-length-2 c = search needs
 
-returns-2 : tie.Need-returns-2
-returns-2 c =
-    let a = (c .before .before .before .before .before .before .before .before .before .before .before .before .before .before .before .before .before .before .before .before .before .before .before .before .before .before .before .before .args) in (
+returns : tie.Need-returns
+returns c =
+    let a = (c .before .before .before .before .before .before .before .before .before .before .before .before .before .before .before .before .before .before .before .before .before .before .before .before .before .before .args) in (
       three (ofBits binary64) (now (a .numbers)) (a .from) (a .extra) ((c .before .before .before .before .before .before .before .before .before .before .before .before .before .before .before .before .before .before .before .put-number) .ensures .0) ((c .before .before .before .before .before .before .before .before .before .before .before .before .before .before .before .before .before .before .before .before .low-at) .ensures) ((c .before .before .before .before .before .before .before .before .before .before .before .put-number2) .ensures .0) ((c .before .before .before .before .before .before .before .before .before .before .before .before .low-at2) .ensures) ((c .before .before .before .before .put-number3) .ensures .0),
       three (λ x. x) (now (a .bits)) (a .from) (a .extra) ((c .before .before .before .before .before .before .before .before .before .before .before .before .before .before .before .before .before .before .before .put-number) .ensures .1) ((c .before .before .before .before .before .before .before .before .before .before .before .before .before .before .before .before .before .before .before .before .low-at) .ensures) ((c .before .before .before .before .before .before .before .before .before .before .before .put-number2) .ensures .1) ((c .before .before .before .before .before .before .before .before .before .before .before .before .low-at2) .ensures) ((c .before .before .before .before .put-number3) .ensures .1),
     )
@@ -67,8 +56,6 @@ pub put-vertex-spec : {M : Type 1} → statement M
 put-vertex-spec =
     tie.close
     (tie.spec
-    longer-requires
-    returns
     low-at-requires
     put-number-requires
     add-put-number
@@ -79,4 +66,4 @@ put-vertex-spec =
     put-number-requires-3
     same-length
     same-length-2
-    returns-2)
+    returns)
