@@ -13,36 +13,11 @@ use Rattle.bitcursor.specs.Bits.{size}
 use Rattle.bitcursor.specs.Reading.{Out, got, refused, andThen}
 use Rattle.bitcursor.specs.Code.{Code, Laid}
 use Rattle.bitcursor.specs.Ranges.{Below}
-use Rattle.bitcursor.specs.Format.{Format, pure, refuse, _>>=_, peek, relay, either}
+use Rattle.bitcursor.specs.Format.{Format, pure, refuse, _>>=_, relay, either}
 use Rattle.bitcursor.specs.Inputs.{one}
-use Rattle.bitcursor.specs.Fields.{coded}
+use Rattle.bitcursor.specs.Fields.{coded, at-least}
 use Rattle.hatch_format.specs.Takes.{Takes, moved}
 use Rattle.hatch_format.specs.Layouts.{EachBy, Each, Count, Bounded, ListedBy, Listed}
-
--- so many bits are left of the payload; else refusal 3, for only counts ask
-module _ (n : ℕ) where
-  unfoldable pub at-least-read : Format one (Unit {0})
-  at-least-read = do
-    left ← peek one (λ xs p. size xs - p) (λ xs ys p h. rw (h .lengths))
-    either (leb n left) (pure tt) (refuse CountTooLarge)
-
-  abbrev pub AtLeast : List ℕ → Unit {0} → ℕ → ℕ → Type 0
-  AtLeast xs u p q = (n ≤ size xs - p) × (q ≡ p)
-
-  pub at-least-to : (xs : List ℕ) (u : Unit {0}) (p q : ℕ) → at-least-read .lays xs u p q → AtLeast xs u p q
-  unfolding at-least-read peek _>>=_ either pure refuse
-  at-least-to xs u p q l = go (leb n (l .0)) refl (l .3)
-    where
-      go : (s : Bool) → leb n (l .0) ≡ s → (either {M = one} s (pure tt) (refuse CountTooLarge)) .lays xs u (l .1) q → AtLeast xs u p q
-      go true e m = (subst (λ (k : ℕ). n ≤ k) (l .2 .0) (leb→le n (l .0) (rw e tt)), m .1 ∙ l .2 .1)
-      go false e m = absurd m
-
-  pub at-least-from : (xs : List ℕ) (u : Unit {0}) (p q : ℕ) → AtLeast xs u p q → at-least-read .lays xs u p q
-  unfolding at-least-read peek _>>=_ either pure
-  at-least-from xs u p q l = (size xs - p, p, (refl, refl), rw (le-leb n (size xs - p) (l .0)) (refl, l .1))
-
-  unfoldable pub at-least : Format one (Unit {0})
-  at-least = relay at-least-read AtLeast at-least-to at-least-from
 
 -- ---- n items, each read by a running sum of those before it
 module _ {A S : Type 0} (f : S → Format one A) (add : S → A → S) where
