@@ -16,10 +16,10 @@ use Rattle.bitcursor.specs.Code.{Code, raw, _>>=_ as _then_, give, mapped, tabl
 use Rattle.bitcursor.specs.Codes.{B, B-read, BL}
 use Rattle.bitcursor.specs.Answers.{asRead}
 use Rattle.bitcursor.specs.Sequence.{thenRead, valueOf}
-use Rattle.bitcursor.specs.Format.{Format, pure, refuse, _>>=_, peek, relay, either}
+use Rattle.bitcursor.specs.Format.{Format, pure, refuse, _>>=_, relay, either}
 use Rattle.bitcursor.specs.Inputs.{one}
-use Rattle.bitcursor.specs.Fields.{coded}
-use Rattle.hatch_format.specs.Counts.{at-least-read, at-least, capped-read, capped, bounded-read, bounded}
+use Rattle.bitcursor.specs.Fields.{coded, asked, at-least}
+use Rattle.hatch_format.specs.Counts.{capped-read, capped, bounded-read, bounded}
 
 -- ---- the Rust's `bounds_check`: refusal 3 where the count is above the cap, and then where it is above the bits left
 abbrev pub boundsOf : List ℕ → ℕ → Read → Read
@@ -28,24 +28,24 @@ boundsOf xs cap (Value n p) =
 boundsOf xs cap (Refused k p) = Refused k p
 
 pub bounds-bounded : (cap : ℕ) (c : Code ℕ) (xs : List ℕ) (p : ℕ) → boundsOf xs cap (asRead (c .read xs p)) ≡ asRead ((bounded cap c) .read xs p)
-unfolding bounded bounded-read capped capped-read at-least at-least-read peek relay _>>=_ either pure refuse
+unfolding bounded bounded-read capped capped-read at-least relay _>>=_ either pure refuse
 bounds-bounded cap c xs p = go (c .read xs p)
   where
     left-test : (n q : ℕ) (t : Bool)
         → elim t [ true ↦ Value n q | false ↦ Refused CountTooLarge q ]
-        ≡ asRead (andThen ((either {M = one} t (pure (tt {0})) (refuse CountTooLarge)) .read xs q) (λ u r. got n r))
+        ≡ asRead (andThen (asked t q) (λ u r. got n r))
     left-test n q true = refl
     left-test n q false = refl
 
     cap-test : (n q : ℕ) (s : Bool)
         → elim s [ true ↦ elim (leb n (size xs - q)) [ true ↦ Value n q | false ↦ Refused CountTooLarge q ] | false ↦ Refused CountTooLarge q ]
-        ≡ asRead (andThen ((either {M = one} s (pure n) (refuse CountTooLarge)) .read xs q) (λ m r. andThen ((at-least-read m) .read xs r) (λ u t. got m t)))
+        ≡ asRead (andThen ((either {M = one} s (pure n) (refuse CountTooLarge)) .read xs q) (λ m r. andThen ((at-least m) .read xs r) (λ u t. got m t)))
     cap-test n q true = left-test n q (leb n (size xs - q))
     cap-test n q false = refl
 
     go : (o : Out ℕ ℕ)
         → boundsOf xs cap (asRead o)
-        ≡ asRead (andThen (andThen o (λ n q. (either {M = one} (leb n cap) (pure n) (refuse CountTooLarge)) .read xs q)) (λ m r. andThen ((at-least-read m) .read xs r) (λ u t. got m t)))
+        ≡ asRead (andThen (andThen o (λ n q. (either {M = one} (leb n cap) (pure n) (refuse CountTooLarge)) .read xs q)) (λ m r. andThen ((at-least m) .read xs r) (λ u t. got m t)))
     go (refused k q) = refl
     go (got n q) = cap-test n q (leb n cap)
 
