@@ -1,18 +1,18 @@
 // Whether the answer that was found is the stored one.
 ghost use Prim.Native.Nat.{_+_, _*_, _≤_};
 ghost use lib.ListN.{length};
-ghost use Rattle.vectors.specs.Words.{Agree, SameAnswer};
+ghost use Rattle.stored.specs.Items.{Agree, SameAnswer};
+use crate::items::item;
 use crate::record::ROOM;
-use crate::words::word;
 
-// Whether the n words from byte `at` are the first n numbers of `found`.
+// Whether the n items from byte `at` are the first n numbers of `found`.
 pub fn same(s: &[u8], at: usize, found: &[u64; ROOM], n: usize) -> bool
     requires { ⌜ (at + 8 * n ≤ length (now s)) × (n ≤ 1024) ⌝ }
     ensures { λ r. ⌜ Agree (now (s .entry)) at (now (found .entry)) n r ⌝ }
 {
     let mut k: usize = 0;
     while k < n {
-        if word(s, at + 8 * k) != found[k] {
+        if item(s, at + 8 * k) != found[k] {
             return false;
         }
         k += 1;

@@ -1,17 +1,13 @@
 // What the program writes: a line for each difference, and what was compared.
 ghost use Prim.Native.Nat.{_≤_};
 ghost use lib.ListN.{length};
-use crate::hatches;
+use crate::items::item;
 use crate::record::Found;
 use crate::record::ROOM;
-use crate::words::word;
 use libc::STDOUT_FILENO;
 
-// Where `counts` has what is no kind: those that were compared by a lent cursor too, and by a string reader, all that were compared, and
-// those that differ.
-const CURSOR: usize = 23;
-
-const READER: usize = 24;
+// Where `counts` has what is no kind: the codes that were compared by a lent cursor too, all that were compared, and those that differ.
+const CURSOR: usize = 24;
 
 const COMPARED: usize = 30;
 
@@ -48,34 +44,27 @@ fn write_ten(text: &[u8], at: usize) {
     }
 }
 
-// Where the name of a kind is in the names below.
-fn name_at(kind: u64) -> usize {
-    if kind < 25 {
-        return 10 * (kind as usize);
-    }
-    0
-}
-
-// The name of a kind, ten characters wide.
+// The name of a kind, ten characters wide; thirteen names to a text.
 fn name(kind: u64) {
-    write_ten(
-        b"unknown   b         bb        3b        bs        bsu       bl        blu       bd        bll       rc        rs        rl        rd        handle    dd        bd f64    rd f64    dd f64    prefix    tv        hatch     hatchs    cursor    reader    ",
-        name_at(kind),
-    );
+    if kind < 13 {
+        write_ten(
+            b"unknown   b         bb        3b        bs        bsu       bl        blu       bd        bll       rc        rs        rl        ",
+            10 * (kind as usize),
+        );
+        return;
+    }
+    if kind < 25 {
+        write_ten(
+            b"rd        handle    dd        bd f64    rd f64    dd f64    prefix    tv        hatch     hatchs    reader    cursor    ",
+            10 * ((kind - 13) as usize),
+        );
+    }
 }
 
 fn malformed(index: u64) {
     write(b"differs: record ");
     decimal(index);
     write(b" is malformed\n");
-}
-
-// Where what was lent is counted: a reader for a hatch, a cursor for a code.
-fn lent(kind: u64) -> usize {
-    if kind == hatches::WITH_STRINGS {
-        return READER;
-    }
-    CURSOR
 }
 
 // Adds what replaying the index-th record found; whether to go on: behind a malformed record nothing says where the next begins.
@@ -87,7 +76,7 @@ pub fn count(found: Found, index: u64, counts: &mut [u64; 32]) -> bool {
         }
         Found::Lent(kind) => {
             compared(counts, kind);
-            bump(counts, lent(kind));
+            bump(counts, CURSOR);
             true
         }
         Found::Differs(kind) => {
@@ -118,7 +107,7 @@ pub fn stored(s: &[u8], at: usize)
     let mut k = at;
     while 8 <= s.len() - k {
         write(b" ");
-        decimal(word(s, k));
+        decimal(item(s, k));
         k += 8;
     }
 }

@@ -1,4 +1,4 @@
--- The words fit, so the count of bytes read lies in the part that was lent, and so in the whole.
+-- The items fit, so the count of bytes read lies in the part that was lent, and so in the whole.
 use mathlib.Core.Path.{sym}
 use mathlib.Core.List.{List, _++_}
 use Prim.Native.Nat.{ℕ, _≤_}
@@ -7,8 +7,8 @@ use lib.ListN.{length, length-append}
 use lib.Seq.{length-take-le}
 use Rattle.io.specs.Counts.{Counts}
 use borrow.Author.Needs.{needs}
-use Rattle.vectors.proofs.read_words.Statement.{statement}
-use Rattle.vectors.proofs.read_words.Tie as tie
+use Rattle.stored.proofs.read_items.Statement.{statement}
+use Rattle.stored.proofs.read_items.Tie as tie
 
 counted : (n : ℕ) (part rest : List ℕ) → n ≤ length part → Counts n (part ++ rest)
 counted n part rest h =
@@ -39,8 +39,8 @@ same-length c = search needs
 returns-2 : tie.Need-returns-2
 returns-2 c = let r = c .before .before .read-full in counted (r .result) (r .last .1 .0) _ (r .ensures .0)
 
-pub read-words-spec : {M : Type 1} → statement M
-read-words-spec =
+pub read-items-spec : {M : Type 1} → statement M
+read-items-spec =
     tie.close
     (tie.spec
     returns

@@ -2,8 +2,8 @@
 use Prim.Native.Nat.{_-_}
 use lib.ListN.{length}
 use borrow.Author.Needs.{needs}
-use Rattle.vectors.proofs.hatches.old_are_numbers.Statement.{statement}
-use Rattle.vectors.proofs.hatches.old_are_numbers.Tie as tie
+use Rattle.hatch_vectors.proofs.entries.old_are_numbers.Statement.{statement}
+use Rattle.hatch_vectors.proofs.entries.old_are_numbers.Tie as tie
 
 abbrev Inv-loop : tie.InvT-loop
 Inv-loop numbers k₀ k = Unit {0}

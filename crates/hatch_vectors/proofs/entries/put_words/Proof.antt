@@ -2,8 +2,8 @@
 use Prim.Native.Nat.{_-_}
 use lib.ListN.{length}
 use borrow.Author.Needs.{needs}
-use Rattle.vectors.proofs.hatches.put_words.Statement.{statement}
-use Rattle.vectors.proofs.hatches.put_words.Tie as tie
+use Rattle.hatch_vectors.proofs.entries.put_words.Statement.{statement}
+use Rattle.hatch_vectors.proofs.entries.put_words.Tie as tie
 
 abbrev Inv-loop : tie.InvT-loop
 Inv-loop found₀ from words at₀ k₀ found at k = Unit {0}

@@ -1,8 +1,8 @@
 -- Each colour read is one of the sixteen; the colours that are left fall.
 use Prim.Native.Nat.{_-_}
 use borrow.Author.Needs.{needs}
-use Rattle.vectors.proofs.hatches.put_colors.Statement.{statement}
-use Rattle.vectors.proofs.hatches.put_colors.Tie as tie
+use Rattle.hatch_vectors.proofs.fields.put_colors.Statement.{statement}
+use Rattle.hatch_vectors.proofs.fields.put_colors.Tie as tie
 
 abbrev Inv-loop : tie.InvT-loop
 Inv-loop found₀ from n colors at₀ k₀ found at k = Unit {0}

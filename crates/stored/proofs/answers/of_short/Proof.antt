@@ -4,8 +4,8 @@ use mir.Val.{SFits}
 use mir.ValLaws.{toZ-ofZ}
 use mir.Facts.{sfits-widen}
 use borrow.Author.Needs.{needs}
-use Rattle.vectors.proofs.answers.of_short.Statement.{statement}
-use Rattle.vectors.proofs.answers.of_short.Tie as tie
+use Rattle.stored.proofs.answers.of_short.Statement.{statement}
+use Rattle.stored.proofs.answers.of_short.Tie as tie
 
 cast-signed : tie.Need-cast-signed
 cast-signed c =

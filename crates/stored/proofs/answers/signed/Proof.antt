@@ -11,8 +11,8 @@ use mir.Val.{toZ, ofZ, SFits, Fits}
 use mir.Facts.{toZ-ofZ}
 use borrow.Author.Needs.{needs}
 use borrow.Author.Tests.{lt-ltb, ltb-true}
-use Rattle.vectors.proofs.answers.signed.Statement.{statement}
-use Rattle.vectors.proofs.answers.signed.Tie as tie
+use Rattle.stored.proofs.answers.signed.Statement.{statement}
+use Rattle.stored.proofs.answers.signed.Tie as tie
 
 abbrev Casts : ℤ → Type 0
 Casts z = T (nonNeg z) × Fits w64 (natAbs z)

@@ -1,13 +1,13 @@
--- Another number of words is no same answer; with the right number it is what the comparison word by word says.
+-- Another number of items is no same answer; with the right number it is what the comparison item by item says.
 use mathlib.Core.Path.{_≡_, sym}
 use mathlib.Core.Bool.{Bool, true, false}
 use mathlib.Core.List.{List}
 use Prim.Native.Nat.{ℕ, _-_, _/_}
 use lib.ListN.{length}
-use Rattle.vectors.specs.Words.{Agree, SameAnswer}
+use Rattle.stored.specs.Items.{Agree, SameAnswer}
 use borrow.Author.Needs.{needs}
-use Rattle.vectors.proofs.compare.same_answer.Statement.{statement}
-use Rattle.vectors.proofs.compare.same_answer.Tie as tie
+use Rattle.stored.proofs.compare.same_answer.Statement.{statement}
+use Rattle.stored.proofs.compare.same_answer.Tie as tie
 
 whole : (s : List ℕ) (at : ℕ) (found : List ℕ) (n : ℕ) (b : Bool) → (length s - at) / 8 ≡ n → Agree s at found n b → SameAnswer s at found n b
 whole s at found n true e a = (e, a)

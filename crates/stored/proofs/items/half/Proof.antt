@@ -1,9 +1,9 @@
 -- Each byte is widened and stands 256 times as high as the one before it.
 use native.Mathlib.Omega.{arith}
-use Rattle.vectors.specs.Words.{halfAt}
+use Rattle.stored.specs.Items.{halfAt}
 use borrow.Author.Needs.{needs}
-use Rattle.vectors.proofs.words.half.Statement.{statement}
-use Rattle.vectors.proofs.words.half.Tie as tie
+use Rattle.stored.proofs.items.half.Statement.{statement}
+use Rattle.stored.proofs.items.half.Tie as tie
 
 shared-slice-read-wide : tie.Need-shared-slice-read-wide
 shared-slice-read-wide c = search needs
@@ -59,9 +59,12 @@ add-result-3 c = search needs
 returns : tie.Need-returns
 unfolding halfAt
 returns c =
-    let b0 = c .before .before .before .before .before .before .wide .ensures in
-    let b1 = c .before .before .before .before .wide2 .ensures in
-    let b2 = c .before .before .wide3 .ensures in
+    let third = c .before .before in
+    let second = third .before .before in
+    let first = second .before .before in
+    let b0 = first .wide .ensures in
+    let b1 = second .wide2 .ensures in
+    let b2 = third .wide3 .ensures in
     let b3 = c .wide4 .ensures in
     (rw (b0 .0, b1 .0, b2 .0, b3 .0), omega (arith, b0 .1, b1 .1, b2 .1, b3 .1))
 

@@ -1,8 +1,8 @@
 -- The second half stands 2 ^ 32 times as high as the first.
-use Rattle.vectors.specs.Words.{wordAt}
+use Rattle.stored.specs.Items.{itemAt}
 use borrow.Author.Needs.{needs}
-use Rattle.vectors.proofs.words.word.Statement.{statement}
-use Rattle.vectors.proofs.words.word.Tie as tie
+use Rattle.stored.proofs.items.item.Statement.{statement}
+use Rattle.stored.proofs.items.item.Tie as tie
 
 half-requires : tie.Need-half-requires
 half-requires c κs = search needs
@@ -20,9 +20,9 @@ add-result : tie.Need-add-result
 add-result c = search needs
 
 returns : tie.Need-returns
-unfolding wordAt
+unfolding itemAt
 returns c = rw (c .before .half .ensures .0, c .half2 .ensures .0)
 
-pub word-spec : {M : Type 1} → statement M
-word-spec =
+pub item-spec : {M : Type 1} → statement M
+item-spec =
     tie.close (tie.spec half-requires add-half half-requires-2 mul-result add-result returns)

@@ -3,8 +3,8 @@ use Prim.Native.Nat.{ℕ, _+_, _-_, _*_, _<_, _≤_}
 use native.Mathlib.Omega.{arith}
 use lib.ListN.{length, getD}
 use borrow.Author.Needs.{needs}
-use Rattle.vectors.proofs.report.found.Statement.{statement}
-use Rattle.vectors.proofs.report.found.Tie as tie
+use Rattle.stored.proofs.report.found.Statement.{statement}
+use Rattle.stored.proofs.report.found.Tie as tie
 
 abbrev Inv-loop : tie.InvT-loop
 Inv-loop numbers n k₀ t5 t6 k = Unit {0}

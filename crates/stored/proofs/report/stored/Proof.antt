@@ -1,10 +1,10 @@
--- Each word that is written lies within the bytes, since eight are left; what is left falls.
+-- Each item that is written lies within the bytes, since eight are left; what is left falls.
 use Prim.Native.Nat.{ℕ, _+_, _-_, _*_, _<_, _≤_}
 use native.Mathlib.Omega.{arith}
 use lib.ListN.{length, getD}
 use borrow.Author.Needs.{needs}
-use Rattle.vectors.proofs.report.stored.Statement.{statement}
-use Rattle.vectors.proofs.report.stored.Tie as tie
+use Rattle.stored.proofs.report.stored.Statement.{statement}
+use Rattle.stored.proofs.report.stored.Tie as tie
 
 abbrev Inv-loop : tie.InvT-loop
 Inv-loop s at k₀ t5 k = k ≤ length s
@@ -30,8 +30,8 @@ slice-aggregate-write-2 c = search needs
 write-requires-2 : tie.Need-write-requires-2 Inv-loop μ-loop
 write-requires-2 c κs = search needs
 
-word-requires : tie.Need-word-requires Inv-loop μ-loop
-word-requires c κs = search needs
+item-requires : tie.Need-item-requires Inv-loop μ-loop
+item-requires c κs = search needs
 
 decimal-requires : tie.Need-decimal-requires Inv-loop μ-loop
 decimal-requires c κs = search needs
@@ -60,7 +60,7 @@ stored-spec =
     sub-loop
     slice-aggregate-write-2
     write-requires-2
-    word-requires
+    item-requires
     decimal-requires
     add-k
     loop-less

@@ -3,8 +3,8 @@ use Prim.Native.Nat.{ℕ, _+_, _-_, _*_, _<_, _≤_}
 use native.Mathlib.Omega.{arith}
 use lib.ListN.{length, getD}
 use borrow.Author.Needs.{needs}
-use Rattle.vectors.proofs.report.summary.Statement.{statement}
-use Rattle.vectors.proofs.report.summary.Tie as tie
+use Rattle.stored.proofs.report.summary.Statement.{statement}
+use Rattle.stored.proofs.report.summary.Tie as tie
 
 abbrev Inv-loop : tie.InvT-loop
 Inv-loop counts kind₀ t3 t4 t5 kind = Unit {0}

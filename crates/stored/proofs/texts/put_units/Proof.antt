@@ -1,8 +1,8 @@
 -- Every unit goes to an index below from + n, and so within the list; the units that are left fall.
 use Prim.Native.Nat.{_-_}
 use borrow.Author.Needs.{needs}
-use Rattle.vectors.proofs.texts.put_units.Statement.{statement}
-use Rattle.vectors.proofs.texts.put_units.Tie as tie
+use Rattle.stored.proofs.texts.put_units.Statement.{statement}
+use Rattle.stored.proofs.texts.put_units.Tie as tie
 
 abbrev Inv-loop : tie.InvT-loop
 Inv-loop found₀ from s at width n place₀ k₀ found place k = Unit {0}
