@@ -1,16 +1,17 @@
-//! The command-line tool.
+//! The command-line tool: the line protocol and the commands, over the library.
 
-mod help;
+mod commands;
+mod protocol;
 
 use std::env;
 use std::ffi::OsString;
 use std::io::{self, Write};
 use std::process::ExitCode;
 
-use dwg_hatch::failure::{shown, Failure};
-use dwg_hatch::{draw, read};
-use dwg_hatch::words::{Command, Words};
-use help::TRY_HELP;
+use commands::failure::{shown, Failure};
+use commands::help::TRY_HELP;
+use commands::options::{Asked, Command};
+use commands::{draw, help, read};
 
 fn main() -> ExitCode {
     let words: Vec<OsString> = env::args_os().skip(1).collect();
@@ -41,15 +42,15 @@ fn run(words: &[OsString]) -> Result<u8, Failure> {
 
 fn reads(command: &Command, help: &str, words: &[OsString]) -> Result<u8, Failure> {
     match command.parse(words)? {
-        Words::Help => print(help),
-        Words::Run { options, input } => read::run(command, &options, &input, io::stdout().lock(), io::stderr().lock()),
+        Asked::Help => print(help),
+        Asked::Run { options, input } => read::run(command, &options, &input, io::stdout().lock(), io::stderr().lock()),
     }
 }
 
 fn draws(words: &[OsString]) -> Result<u8, Failure> {
     match draw::DRAW.parse(words)? {
-        Words::Help => print(help::DRAW_HELP),
-        Words::Run { options, input } => draw::run(&options, &input, io::stdout().lock(), io::stderr().lock()),
+        Asked::Help => print(help::DRAW_HELP),
+        Asked::Run { options, input } => draw::run(&options, &input, io::stdout().lock(), io::stderr().lock()),
     }
 }
 
@@ -62,7 +63,7 @@ fn answer(words: &[OsString]) -> Result<u8, Failure> {
             word => return Err(Failure::Usage(format!("answer takes no \"{}\"; dwg-hatch answer --help says what it takes", shown(word)))),
         }
     }
-    dwg_hatch::answer::run(io::stdin().lock(), io::stdout().lock(), f64_entries)?;
+    protocol::answer::run(io::stdin().lock(), io::stdout().lock(), f64_entries)?;
     Ok(0)
 }
 

@@ -5,7 +5,7 @@
 const LIB: &str = concat!(env!("CARGO_MANIFEST_DIR"), "/../crates/dwg_hatch/src/lib.rt");
 const COLORS: &str = concat!(env!("CARGO_MANIFEST_DIR"), "/../crates/hatch_format/src/lib.rt");
 const BODIES: &str = concat!(env!("CARGO_MANIFEST_DIR"), "/../crates/dwg_hatch/src/bodies.rt");
-const RUST: &str = concat!(env!("CARGO_MANIFEST_DIR"), "/src/ffi.rs");
+const RUST: &str = concat!(env!("CARGO_MANIFEST_DIR"), "/src/boundary/ffi.rs");
 
 /// How a function starts in each text.
 const EXPORTED: &str = "pub extern \"C\" fn ";

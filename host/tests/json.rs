@@ -3,13 +3,13 @@
 mod calls;
 mod json_text;
 mod layouts;
+mod requests;
 
 use calls::{answers, call};
-use dwg_hatch::payload::Zeros;
-use dwg_hatch::request::{self, Request};
 use dwg_hatch::{Hatch, HatchBody, Name, ReadHatch, Source, StringReader, Text};
 use json_text::{parse, Value};
 use layouts::{Numbers, Plan};
+use requests::Request;
 
 /// The bytes in hexadecimal, as a request has them.
 fn hexadecimal(bytes: &[u8]) -> String {
@@ -210,15 +210,12 @@ fn stored_requests_have_an_object_each() {
 }
 
 fn same_as_answered(value: &Value, line: &str, answer: &str) {
-    match request::parse(line.as_bytes()) {
-        Some(Request::Hatch(request)) => {
-            let mut zeros = Zeros::default();
-            let body = request.body(&mut zeros);
-            same(value, &body, &body.decode_bits().expect("the body is read"));
-        }
-        Some(Request::Prefix(_)) => assert_eq!(prefix_answer(value), answer),
-        other => panic!("{other:?}"),
+    if line.starts_with("prefix ") {
+        return assert_eq!(prefix_answer(value), answer);
     }
+    let request = Request::of(line);
+    let body = request.body();
+    same(value, &body, &body.decode_bits().expect("the body is read"));
 }
 
 /// The protocol's answer of a prefix, from its JSON.

@@ -1,6 +1,7 @@
 //! What is stored under samples/: files and pictures are as they are made, and show what they are to show.
 
 mod calls;
+mod requests;
 mod svg_text;
 
 #[allow(dead_code)]
@@ -10,9 +11,8 @@ mod files;
 use std::collections::BTreeSet;
 use std::path::PathBuf;
 
-use dwg_hatch::payload::Zeros;
-use dwg_hatch::request::{self, Request};
 use dwg_hatch::{HatchEdge, HatchPathSegments, Point2D, TypedHatch};
+use requests::Request;
 
 fn folder() -> PathBuf {
     PathBuf::from(env!("CARGO_MANIFEST_DIR")).join("../samples")
@@ -79,10 +79,7 @@ fn bad_lines_are_refused_by_their_numbers() {
 
 /// The campus's hatches, as doubles.
 fn campus() -> Vec<TypedHatch> {
-    let hatch = |line: &str| match request::parse(line.as_bytes()) {
-        Some(Request::Hatch(request)) => request.body(&mut Zeros::default()).read().expect("a hatch"),
-        _ => panic!("{line}"),
-    };
+    let hatch = |line: &str| Request::of(line).body().read().expect("a hatch");
     stored("campus.txt").lines().filter(|line| line.starts_with("hatch")).map(hatch).collect()
 }
 

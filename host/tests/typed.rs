@@ -1,24 +1,17 @@
 //! Hatches as trees: nothing of the two lists is lost, and what was laid out is what is in the tree.
 
 mod layouts;
+mod requests;
 
-use dwg_hatch::payload::{Payload, Zeros};
-use dwg_hatch::request::{self, Request};
 use dwg_hatch::{HatchBody, HatchEdge, HatchPathSegments, ReadHatch, StringReader};
 use layouts::{Numbers, Plan};
+use requests::Request;
 
 /// Every stored request for a hatch with its answer by the original Rust, where it has one that is no refusal.
 fn stored() -> Vec<(&'static str, &'static str)> {
     let list = include_str!("../../crates/vectors/data/list");
     let pairs = list.lines().filter(|line| line.starts_with("hatch")).map(|line| line.split_once('\t').expect("REQUEST, tab, ANSWER"));
     pairs.filter(|pair| pair.1.starts_with("ok ")).collect()
-}
-
-/// A payload's bytes, its zeros spelt out.
-fn bytes(payload: &Payload) -> Vec<u8> {
-    let mut zeros = Zeros::default();
-    zeros.reserve(payload);
-    zeros.lend(payload).to_vec()
 }
 
 /// The tree holds the lists, as bits and as f64.
@@ -39,11 +32,7 @@ fn nothing_is_lost(body: &HatchBody) -> ReadHatch<u64> {
 fn stored_hatches_keep_every_word_and_number() {
     let (mut words, mut numbers) = (0, 0);
     for (line, answer) in stored() {
-        let Some(Request::Hatch(request)) = request::parse(line.as_bytes()) else { panic!("{line}") };
-        let payload = bytes(&request.payload);
-        let text = request.strings.as_ref().map(|strings| bytes(&strings.payload)).unwrap_or_default();
-        let strings = request.strings.as_ref().map(|strings| StringReader { payload: &text, start: strings.start, end: strings.end });
-        let read = nothing_is_lost(&HatchBody { payload: &payload, start: request.start, release: request.release, strings });
+        let read = nothing_is_lost(&Request::of(line).body());
         let listed = |items: Vec<String>| if items.is_empty() { "-".to_string() } else { items.join(",") };
         let form = format!(
             " words={} nums={}",

@@ -1,0 +1,253 @@
+//! What the commands for people read: request lines of a file, or a payload that is a binary file. One [`Item`] at a time, with its origin
+//! for messages.
+//!
+//! A file is read and never written. Of a file not more is taken than document 01's limit allows and one byte, since what is longer is
+//! refused unread.
+
+use std::ffi::{OsStr, OsString};
+use std::fs::File;
+use std::io::{self, BufRead, BufReader, Read};
+use std::os::unix::ffi::OsStrExt;
+
+use crate::commands::failure::{shown, Failure};
+use crate::commands::lines;
+use crate::protocol::payload::{Payload, LIMIT};
+use crate::protocol::request::{HatchRequest, PrefixRequest, Request, Strings};
+
+/// The longest line that is read: two payloads at the limit in hexadecimal, and room for the numbers.
+const LONGEST_LINE: u64 = 4 * LIMIT as u64 + 1024;
+
+/// So much of a line is looked at before more is read: a file without line ends is told from a long request by it.
+const FIRST_PART: u64 = 1 << 16;
+
+/// What is asked for.
+#[derive(Clone, Debug, PartialEq, Eq)]
+pub enum Entry {
+    /// A hatch body.
+    Hatch(HatchRequest),
+    /// An entity prefix.
+    Prefix(PrefixRequest),
+}
+
+/// One thing to read, and where it was asked for.
+#[derive(Clone, Debug, PartialEq, Eq)]
+pub struct Item {
+    /// `FILE:LINE`, or `FILE` of a binary file.
+    pub origin: String,
+    /// What is asked for.
+    pub entry: Entry,
+}
+
+/// What a binary file holds.
+#[derive(Clone, Copy, Debug, PartialEq, Eq)]
+pub enum Kind {
+    /// A hatch body.
+    Hatch,
+    /// An entity prefix.
+    Prefix,
+}
+
+/// Where a command's input is. A file is a name, or `-` for standard input.
+#[derive(Clone, Debug, PartialEq, Eq)]
+pub enum Input {
+    /// A file of request lines.
+    Requests(OsString),
+    /// A binary file.
+    Binary(Binary),
+}
+
+/// A binary file as a payload.
+#[derive(Clone, Debug, PartialEq, Eq)]
+pub struct Binary {
+    /// The file.
+    pub file: OsString,
+    /// What it holds.
+    pub kind: Kind,
+    /// The release, any number.
+    pub release: u64,
+    /// The start bit.
+    pub start: usize,
+    /// The string reader, if one is lent.
+    pub strings: Option<BinaryStrings>,
+}
+
+/// A binary file as a string payload.
+#[derive(Clone, Debug, PartialEq, Eq)]
+pub struct BinaryStrings {
+    /// The file.
+    pub file: OsString,
+    /// The start bit.
+    pub start: usize,
+    /// The end bit; without one the payload's end.
+    pub end: Option<usize>,
+}
+
+impl Input {
+    /// The items, in order. A line that is no request is a failure among them, and the lines after it are read; where a file cannot be read,
+    /// or a line is no text, there is no item after the failure.
+    pub fn items(&self) -> Result<Items, Failure> {
+        match self {
+            Input::Requests(file) => Ok(Items::of_lines(name(file), open(file)?)),
+            Input::Binary(binary) => Ok(Items { left: Left::One(Some(binary.item()?)) }),
+        }
+    }
+
+    /// The name of the file that has the requests or the main payload, for messages.
+    pub fn name(&self) -> String {
+        match self {
+            Input::Requests(file) | Input::Binary(Binary { file, .. }) => name(file),
+        }
+    }
+
+    /// The files that are read; standard input is none.
+    pub fn files(&self) -> Vec<&OsStr> {
+        let files = match self {
+            Input::Requests(file) => [Some(file), None],
+            Input::Binary(binary) => [Some(&binary.file), binary.strings.as_ref().map(|strings| &strings.file)],
+        };
+        files.into_iter().flatten().map(OsString::as_os_str).filter(|file| *file != "-").collect()
+    }
+}
+
+impl Binary {
+    fn item(&self) -> Result<Item, Failure> {
+        let (release, start, payload) = (self.release, self.start, payload(&self.file)?);
+        let entry = match self.kind {
+            Kind::Prefix => Entry::Prefix(PrefixRequest { release, start, payload: Payload::Bytes(payload) }),
+            Kind::Hatch => {
+                let strings = self.strings.as_ref().map(BinaryStrings::read).transpose()?;
+                Entry::Hatch(HatchRequest { release, start, payload: Payload::Bytes(payload), strings, lent: None })
+            }
+        };
+        Ok(Item { origin: name(&self.file), entry })
+    }
+}
+
+impl BinaryStrings {
+    fn read(&self) -> Result<Strings, Failure> {
+        let payload = payload(&self.file)?;
+        let end = self.end.unwrap_or(8 * payload.len());
+        Ok(Strings { start: self.start, end, payload: Payload::Bytes(payload) })
+    }
+}
+
+/// The items of an input.
+pub struct Items {
+    left: Left,
+}
+
+/// What is left of an input.
+enum Left {
+    Lines { name: String, number: u64, lines: Box<dyn BufRead> },
+    One(Option<Item>),
+}
+
+impl Items {
+    /// The items of request lines. `name` is the file's, for messages.
+    pub fn of_lines(name: String, lines: impl Read + 'static) -> Items {
+        Items { left: Left::Lines { name, number: 0, lines: Box::new(BufReader::with_capacity(1 << 16, lines)) } }
+    }
+}
+
+impl Iterator for Items {
+    type Item = Result<Item, Failure>;
+
+    fn next(&mut self) -> Option<Result<Item, Failure>> {
+        let Left::Lines { name, number, lines } = &mut self.left else {
+            let Left::One(item) = &mut self.left else { return None };
+            return item.take().map(Ok);
+        };
+        let found = loop {
+            *number += 1;
+            match next_line(name, *number, lines.as_mut()) {
+                Ok(Some(line)) if lines::is_passed_over(&line) => {}
+                Ok(Some(line)) if !lines::is_text(&line) => break Some(Err(no_text(name, *number, &line))),
+                Ok(Some(line)) => return Some(item(format!("{name}:{number}"), &line)),
+                Ok(None) => break None,
+                Err(failure) => break Some(Err(failure)),
+            }
+        };
+        self.left = Left::One(None);
+        found
+    }
+}
+
+/// The next line; `None` at the end.
+fn next_line(name: &str, number: u64, lines: &mut dyn BufRead) -> Result<Option<Vec<u8>>, Failure> {
+    let mut line = Vec::new();
+    take(name, lines, FIRST_PART, &mut line)?;
+    if line.len() as u64 == FIRST_PART && line.last() != Some(&b'\n') {
+        if !lines::is_text_so_far(&line) {
+            return Err(no_text(name, number, &line));
+        }
+        take(name, lines, LONGEST_LINE - FIRST_PART, &mut line)?;
+    }
+    if line.len() as u64 == LONGEST_LINE && line.last() != Some(&b'\n') {
+        return Err(Failure::Usage(format!("{name}:{number}: the line is longer than any request can be, and reading ends here")));
+    }
+    // Some editors put this mark before the first line.
+    if number == 1 && line.starts_with(b"\xef\xbb\xbf") {
+        line.drain(..3);
+        return Ok(Some(line));
+    }
+    Ok((!line.is_empty()).then_some(line))
+}
+
+/// Adds what is left of the line, but not more than so many bytes.
+fn take(name: &str, lines: &mut dyn BufRead, most: u64, line: &mut Vec<u8>) -> Result<(), Failure> {
+    lines.take(most).read_until(b'\n', line).map(drop).map_err(|error| unreadable(name, &error))
+}
+
+fn no_text(name: &str, number: u64, line: &[u8]) -> Failure {
+    let start = shown(&line[..line.len().min(20)]);
+    Failure::Usage(format!("{name}:{number}: \"{start}\" is no text; a binary file is read with --release N, and reading ends here"))
+}
+
+fn item(origin: String, line: &[u8]) -> Result<Item, Failure> {
+    match crate::protocol::request::parse(line) {
+        Some(Request::Hatch(request)) => Ok(Item { origin, entry: Entry::Hatch(request) }),
+        Some(Request::Prefix(request)) => Ok(Item { origin, entry: Entry::Prefix(request) }),
+        Some(Request::Code(_) | Request::Text(_)) | None => Err(Failure::Usage(format!("{origin}: {}", lines::why_not(line)))),
+    }
+}
+
+/// A binary file's bytes, but not more than one above the limit.
+fn payload(file: &OsStr) -> Result<Vec<u8>, Failure> {
+    let mut bytes = Vec::new();
+    open(file)?.take(LIMIT as u64 + 1).read_to_end(&mut bytes).map_err(|error| unreadable(&name(file), &error))?;
+    Ok(bytes)
+}
+
+fn open(file: &OsStr) -> Result<Box<dyn Read>, Failure> {
+    if file == "-" {
+        return Ok(Box::new(io::stdin()));
+    }
+    let open = File::open(file).map_err(|error| unreadable(&name(file), &error))?;
+    Ok(Box::new(open))
+}
+
+/// A file's name for messages.
+fn name(file: &OsStr) -> String {
+    if file == "-" { "standard input".to_string() } else { shown(file.as_bytes()) }
+}
+
+fn unreadable(name: &str, error: &io::Error) -> Failure {
+    Failure::Read(format!("{name} cannot be read: {error}; name a file that can be read, or - for standard input"))
+}
+
+#[cfg(test)]
+mod tests {
+    use super::*;
+
+    #[test]
+    fn items_of_request_lines() {
+        let lines = b"# a comment, then a hatch\n\nhatch 2 0 A9AAA0\nnothing\nprefix 2 0 85D08740\n";
+        let mut items = Items::of_lines("file.txt".to_string(), &lines[..]);
+        let hatch = items.next().unwrap().unwrap();
+        assert!(matches!(&hatch.entry, Entry::Hatch(request) if request.release == 2));
+        assert_eq!(hatch.origin, "file.txt:3");
+        assert_eq!(items.next().unwrap().unwrap_err().status(), 2);
+        assert!(matches!(items.next().unwrap().unwrap().entry, Entry::Prefix(_)));
+        assert!(items.next().is_none());
+    }
+}

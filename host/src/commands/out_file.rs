@@ -1,0 +1,53 @@
+//! Files that a command writes: whole, or not at all.
+
+use std::ffi::{OsStr, OsString};
+use std::fs::{self, File, OpenOptions};
+use std::io::{self, Write};
+use std::os::unix::ffi::OsStrExt;
+use std::path::{Path, PathBuf};
+
+use crate::commands::failure::{shown, Failure};
+use crate::commands::input::Input;
+
+/// Refuses an output that is a file of the input, since that would be lost.
+pub fn is_no_input(file: &OsStr, input: &Input) -> Result<(), Failure> {
+    let Ok(output) = fs::canonicalize(file) else { return Ok(()) };
+    let same = |other: &&OsStr| fs::canonicalize(other).is_ok_and(|other| other == output);
+    match input.files().into_iter().find(same) {
+        Some(_) => Err(Failure::Usage(format!("--output {} is a file of the input, which is not written to; name another", shown(file.as_bytes())))),
+        None => Ok(()),
+    }
+}
+
+/// Puts the bytes into a file. They are written to a new file beside it, which then takes its name, so that whatever fails leaves the old file,
+/// or none.
+pub fn write(file: &OsStr, bytes: &[u8]) -> Result<(), Failure> {
+    let unwritable = |error: io::Error| {
+        let advice = "name a file in a folder that can be written to, or leave --output out";
+        Failure::Draw(format!("{} cannot be written: {error}; {advice}", shown(file.as_bytes())))
+    };
+    // Behind a link the file that it leads to is replaced, and the link stays.
+    let path = fs::canonicalize(file).unwrap_or_else(|_| PathBuf::from(file));
+    let old = fs::metadata(&path).ok();
+    if old.as_ref().is_some_and(|old| !old.is_file()) {
+        return Err(unwritable(io::Error::other("it is there and is no file")));
+    }
+    let (beside, mut new) = beside(&path).map_err(unwritable)?;
+    let written = new.write_all(bytes).and_then(|()| new.sync_all());
+    let written = written.and_then(|()| old.map_or(Ok(()), |old| new.set_permissions(old.permissions())));
+    written.and_then(|()| fs::rename(&beside, &path)).map_err(|error| {
+        let _ = fs::remove_file(&beside);
+        unwritable(error)
+    })
+}
+
+/// A new file beside the one that is to be replaced.
+fn beside(path: &Path) -> io::Result<(PathBuf, File)> {
+    let name = path.file_name().ok_or_else(|| io::Error::other("it is no name of a file"))?;
+    let mut hidden = OsString::from(".");
+    hidden.push(name);
+    hidden.push(format!(".{}.new", std::process::id()));
+    let beside = path.with_file_name(hidden);
+    let file = OpenOptions::new().write(true).create_new(true).open(&beside)?;
+    Ok((beside, file))
+}

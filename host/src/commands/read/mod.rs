@@ -1,0 +1,91 @@
+//! The commands `read` and `prefix`: hatches and prefixes for a person, or as JSON.
+
+mod json;
+mod json_forms;
+mod summary;
+
+use std::io::{BufWriter, Write};
+
+use dwg_hatch::{read_common_entity_bits, CommonEntityBits, Reading, Refusal, TypedHatch};
+
+use crate::commands::each::Problem;
+use crate::commands::failure::Failure;
+use crate::commands::input::{Entry, Input, Item, Kind};
+use crate::commands::options::{Command, Options};
+use crate::protocol::lists::lists;
+use crate::protocol::payload::Zeros;
+use crate::protocol::request::{HatchRequest, PrefixRequest};
+use crate::protocol::OUTSIDE;
+
+/// The command that reads hatches and prefixes.
+pub const READ: Command = Command { name: "read", kind: Kind::Hatch, switches: &["--json"], values: &[] };
+
+/// The command that reads prefixes alone.
+pub const PREFIX: Command = Command { name: "prefix", kind: Kind::Prefix, ..READ };
+
+/// Reads each item of the input and writes it to `output`: a summary, or with `--json` one object a line. What is refused, and each line that
+/// is no request, is a line on `errors`. Gives the tool's status: 0 if all was read, 1 if something was refused or a file could not be
+/// read, 2 if a line was no request.
+pub fn run(command: &Command, options: &Options, input: &Input, output: impl Write, errors: impl Write) -> Result<u8, Failure> {
+    let mut output = BufWriter::with_capacity(1 << 16, output);
+    let mut zeros = Zeros::default();
+    let json = options.has("--json");
+    input.each(errors, |item| {
+        taken(command, item)?;
+        let read = if json { json_text(item, &mut zeros) } else { summary_text(item, &mut zeros) };
+        if let (true, Err(refusal)) = (json, &read) {
+            writeln!(output, "{}", json_forms::refusal(item, refusal))?;
+        }
+        if let Ok(text) = &read {
+            writeln!(output, "{text}")?;
+        }
+        // Written out at once, so that both streams are in order on a terminal, and no one waits for what is read.
+        output.flush()?;
+        read.map(drop).map_err(Problem::Refused)
+    })
+}
+
+/// Whether the command reads the item.
+fn taken(command: &Command, item: &Item) -> Result<(), Failure> {
+    match (command.kind, &item.entry) {
+        (Kind::Prefix, Entry::Hatch(_)) => Err(Failure::Usage("a hatch is read by dwg-hatch read; here a line is prefix".to_string())),
+        _ => Ok(()),
+    }
+}
+
+fn json_text(item: &Item, zeros: &mut Zeros) -> Result<String, Refusal> {
+    match &item.entry {
+        Entry::Hatch(request) => typed(request, zeros).map(|typed| json_forms::hatch(item, &typed)),
+        Entry::Prefix(request) => prefix(request, zeros).map(|(data, place)| json_forms::prefix(item, &data, place)),
+    }
+}
+
+fn summary_text(item: &Item, zeros: &mut Zeros) -> Result<String, Refusal> {
+    match &item.entry {
+        Entry::Hatch(request) => typed(request, zeros).map(|typed| summary::hatch(item, request, &typed)),
+        Entry::Prefix(request) => prefix(request, zeros).map(|(data, place)| summary::prefix(item, request, &data, place)),
+    }
+}
+
+fn prefix(request: &PrefixRequest, zeros: &mut Zeros) -> Reading<CommonEntityBits> {
+    zeros.reserve(&request.payload);
+    read_common_entity_bits(zeros.lend(&request.payload), request.start, request.release)
+}
+
+/// The body with each double as its 64 bits.
+fn typed(request: &HatchRequest, zeros: &mut Zeros) -> Result<TypedHatch<u64>, Refusal> {
+    let body = request.body(zeros);
+    let read = lists(&body, request.lent, |numbers, words| body.decode_bits_into(numbers, words))?;
+    Ok(body.typed(read).expect(OUTSIDE))
+}
+
+#[cfg(test)]
+mod tests {
+    use super::*;
+
+    #[test]
+    fn a_file_that_is_missing_is_status_1() {
+        let missing = Input::Requests("no such file".into());
+        assert_eq!(run(&READ, &Options::default(), &missing, Vec::new(), Vec::new()).unwrap_err().status(), 1);
+    }
+}
