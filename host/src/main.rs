@@ -11,7 +11,7 @@ use std::process::ExitCode;
 use commands::failure::{shown, Failure};
 use commands::help::TRY_HELP;
 use commands::options::{Asked, Command};
-use commands::{draw, help, read};
+use commands::{cut, draw, help, read};
 
 fn main() -> ExitCode {
     let words: Vec<OsString> = env::args_os().skip(1).collect();
@@ -33,6 +33,7 @@ fn run(words: &[OsString]) -> Result<u8, Failure> {
         Some("read") => reads(&read::READ, help::READ_HELP, words),
         Some("prefix") => reads(&read::PREFIX, help::PREFIX_HELP, words),
         Some("draw") => draws(words),
+        Some("cut") => cuts(words),
         Some("answer") => answer(words),
         Some("--help" | "-h" | "help") if words.is_empty() => print(help::HELP),
         Some(word @ ("--help" | "-h" | "help")) => Err(Failure::Usage(format!("{word} takes nothing after it; {TRY_HELP}"))),
@@ -51,6 +52,13 @@ fn draws(words: &[OsString]) -> Result<u8, Failure> {
     match draw::DRAW.parse(words)? {
         Asked::Help => print(help::DRAW_HELP),
         Asked::Run { options, input } => draw::run(&options, &input, io::stdout().lock(), io::stderr().lock()),
+    }
+}
+
+fn cuts(words: &[OsString]) -> Result<u8, Failure> {
+    match cut::CUT.parse(words)? {
+        Asked::Help => print(help::CUT_HELP),
+        Asked::Run { options, input } => cut::run(&options, &input, io::stdout().lock(), io::stderr().lock()),
     }
 }
 

@@ -61,11 +61,12 @@ impl Input {
 #[cfg(test)]
 mod tests {
     use super::*;
+    use crate::commands::input::Kind;
 
     #[test]
     fn nothing_to_do_is_status_0() {
         let mut done = 0;
-        let status = Input::Requests("/dev/null".into()).each(Vec::new(), |_| {
+        let status = Input::Requests("/dev/null".into(), Kind::Hatch).each(Vec::new(), |_| {
             done += 1;
             Ok(())
         });

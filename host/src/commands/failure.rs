@@ -12,6 +12,8 @@ pub enum Failure {
     Read(String),
     /// Something cannot be drawn, or a picture cannot be written: status 1.
     Draw(String),
+    /// A whole drawing, or an object in it, is not as it should be: status 1.
+    Drawing(String),
     /// Reading or writing a stream failed: status 1.
     Io(io::Error),
 }
@@ -21,7 +23,7 @@ impl Failure {
     pub fn status(&self) -> u8 {
         match self {
             Failure::Usage(_) => 2,
-            Failure::Read(_) | Failure::Draw(_) | Failure::Io(_) => 1,
+            Failure::Read(_) | Failure::Draw(_) | Failure::Drawing(_) | Failure::Io(_) => 1,
         }
     }
 
@@ -34,7 +36,7 @@ impl Failure {
 impl fmt::Display for Failure {
     fn fmt(&self, f: &mut fmt::Formatter<'_>) -> fmt::Result {
         match self {
-            Failure::Usage(line) | Failure::Read(line) | Failure::Draw(line) => f.write_str(line),
+            Failure::Usage(line) | Failure::Read(line) | Failure::Draw(line) | Failure::Drawing(line) => f.write_str(line),
             Failure::Io(error) => write!(f, "reading or writing failed: {error}"),
         }
     }

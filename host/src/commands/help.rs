@@ -1,13 +1,15 @@
 //! What `--help` says.
 
 pub const HELP: &str = "\
-Reads hatch bodies and entity prefixes of DWG drawings with a proved reader.
+Reads hatch bodies and entity prefixes of DWG drawings with a proved reader. Of a whole drawing of R2000 (AC1015) they are found in the file; of
+other releases your DWG reader cuts them out.
 
 usage: dwg-hatch COMMAND [OPTION]...
 
   read      read hatch bodies and prefixes: a summary of each, or everything as JSON
   prefix    read entity prefixes alone
   draw      draw the outlines of hatch bodies as a picture (SVG)
+  cut       write the hatch bodies of a whole drawing of R2000 as request lines
   answer    answer request lines on standard input, one line each, for programs
 
 dwg-hatch COMMAND --help says more about a command.
@@ -38,6 +40,8 @@ Without --release FILE has request lines:
 REL is the release, START the start bit. HEX is bytes in hexadecimal, - for no bytes, zN for N zero bytes. Lines that
 are blank or start with # are passed over. FILE - , or none, is standard input. No file is written to.
 
+FILE may be a whole drawing of R2000 too: its hatch bodies are read, as dwg-hatch cut --help says.
+
 What is refused is a line on standard error, with the refusal's number, what it means, its bit and what to do; with
 --json it is an object too. The status is 0 if all was read, 1 if something was refused or a file cannot be read, 2 if
 the command or a line is wrong; other lines are read all the same, but a line that is no text ends the reading.
@@ -53,8 +57,8 @@ usage: dwg-hatch prefix [--json] [FILE]
   --release N    the file is binary and holds a prefix of this release, 1 (R14) to 7 (R2018)
   --start BIT    where the prefix starts in it, in bits from its first byte's top bit; 0 if not given
 
-Without --release FILE has request lines: prefix REL START HEX, as dwg-hatch read --help has them. The same goes for
-refusals and for the status.
+Without --release FILE has request lines: prefix REL START HEX, as dwg-hatch read --help has them, or is a whole drawing of
+R2000, whose entities' prefixes are read. The same goes for refusals and for the status.
 ";
 
 pub const DRAW_HELP: &str = "\
@@ -72,7 +76,7 @@ usage: dwg-hatch draw [--output FILE] [--view X,Y,WIDTH,HEIGHT] [--width PIXELS]
   --width PIXELS             the picture's width, 1 to 100000; 1000 if not given
   --single                   narrow every number of the outlines to single precision first, to see what that tears apart
 
-Where the input is, its request lines and the options for a binary file are as dwg-hatch read --help has them. Lines with a
+Where the input is, its request lines, whole drawings and the options for a binary file are as dwg-hatch read --help has them. Lines with a
 prefix have no outlines and are passed over. No file of the input is written to.
 
 Each hatch is drawn in its own plane, mirrored where its extrusion points straight down. A spline whose knots, degree or
@@ -82,6 +86,26 @@ the outline's title says so. An outline with a number that is not finite or abov
 What is refused, left out or no request is a line on standard error. The status is 0 if all was drawn, 1 if something was
 refused or left out or a file cannot be read or written, 2 if the command or a line is wrong; what else there is is drawn
 all the same, unless there is nothing.
+";
+
+pub const CUT_HELP: &str = "\
+Finds the objects of a whole drawing of R2000 (a file that begins with AC1015), and writes a request line for each hatch body.
+
+usage: dwg-hatch cut [--prefixes] [DRAWING]
+
+  --prefixes    write a request line for each entity's prefix too
+
+DRAWING - , or none, is standard input; it is not written to. Before each object's lines stands a comment with its handle, its
+type, its place in the file, and the bit at which its own fields end. The lines are as dwg-hatch read --help has them, and
+dwg-hatch read and draw take the drawing itself too; so cut is for a look at the lines, or to hand them to another program.
+
+Entities are objects of the types 1 TEXT, 4 BLOCK, 5 ENDBLK, 7 INSERT, 17 ARC, 18 CIRCLE, 19 LINE, 20 to 26 DIMENSION, 27 POINT,
+34 VIEWPORT, 77 LWPOLYLINE and 78 HATCH; of others none is cut. Drawings of other releases are not cut: docs/PAYLOADS.md says
+where in an object a prefix and a hatch body lie, for who has a reader of drawings.
+
+What is wrong with the drawing or an object is a line on standard error, and other objects are cut all the same; of many the
+first ten are told, and how many more there are. The status is 0 if all was cut, 1 if something was wrong or the file cannot be
+read, 2 if the command is wrong or the file is no drawing of R2000.
 ";
 
 pub const ANSWER_HELP: &str = "\

@@ -1,14 +1,17 @@
-//! What the commands for people read: request lines of a file, or a payload that is a binary file. One [`Item`] at a time, with its origin
-//! for messages.
+//! What the commands for people read: request lines of a file, a payload that is a binary file, or a whole drawing. One [`Item`] at a time, with its
+//! origin for messages.
 //!
 //! A file is read and never written. Of a file not more is taken than document 01's limit allows and one byte, since what is longer is
 //! refused unread.
 
 use std::ffi::{OsStr, OsString};
 use std::fs::File;
-use std::io::{self, BufRead, BufReader, Read};
+use std::io::{self, BufRead, BufReader, Cursor, Read};
 use std::os::unix::ffi::OsStrExt;
 
+use crate::commands::cut::items::{self, DrawingItems};
+use crate::commands::cut::letters::{self, Letters};
+use crate::commands::cut::Drawing;
 use crate::commands::failure::{shown, Failure};
 use crate::commands::lines;
 use crate::protocol::payload::{Payload, LIMIT};
@@ -32,13 +35,13 @@ pub enum Entry {
 /// One thing to read, and where it was asked for.
 #[derive(Clone, Debug, PartialEq, Eq)]
 pub struct Item {
-    /// `FILE:LINE`, or `FILE` of a binary file.
+    /// `FILE:LINE`, `FILE` of a binary file, or `FILE: handle H` of an object in a drawing.
     pub origin: String,
     /// What is asked for.
     pub entry: Entry,
 }
 
-/// What a binary file holds.
+/// What a binary file holds, or what is read of a drawing.
 #[derive(Clone, Copy, Debug, PartialEq, Eq)]
 pub enum Kind {
     /// A hatch body.
@@ -50,8 +53,8 @@ pub enum Kind {
 /// Where a command's input is. A file is a name, or `-` for standard input.
 #[derive(Clone, Debug, PartialEq, Eq)]
 pub enum Input {
-    /// A file of request lines.
-    Requests(OsString),
+    /// A file of request lines, or a whole drawing, of which this kind is read.
+    Requests(OsString, Kind),
     /// A binary file.
     Binary(Binary),
 }
@@ -87,22 +90,34 @@ impl Input {
     /// or a line is no text, there is no item after the failure.
     pub fn items(&self) -> Result<Items, Failure> {
         match self {
-            Input::Requests(file) => Ok(Items::of_lines(name(file), open(file)?)),
+            Input::Requests(file, kind) => match opened(file)? {
+                Opened::Drawing(drawing) => Ok(Items { left: Left::Drawing(DrawingItems::new(name(file), drawing, *kind)) }),
+                Opened::Lines(lines) => Ok(Items::of_lines(name(file), lines)),
+            },
             Input::Binary(binary) => Ok(Items { left: Left::One(Some(binary.item()?)) }),
+        }
+    }
+
+    /// The drawing, where the input is one.
+    pub fn drawing(&self) -> Result<Option<Drawing>, Failure> {
+        let Input::Requests(file, _) = self else { return Ok(None) };
+        match opened(file)? {
+            Opened::Drawing(drawing) => Ok(Some(drawing)),
+            Opened::Lines(_) => Ok(None),
         }
     }
 
     /// The name of the file that has the requests or the main payload, for messages.
     pub fn name(&self) -> String {
         match self {
-            Input::Requests(file) | Input::Binary(Binary { file, .. }) => name(file),
+            Input::Requests(file, _) | Input::Binary(Binary { file, .. }) => name(file),
         }
     }
 
     /// The files that are read; standard input is none.
     pub fn files(&self) -> Vec<&OsStr> {
         let files = match self {
-            Input::Requests(file) => [Some(file), None],
+            Input::Requests(file, _) => [Some(file), None],
             Input::Binary(binary) => [Some(&binary.file), binary.strings.as_ref().map(|strings| &strings.file)],
         };
         files.into_iter().flatten().map(OsString::as_os_str).filter(|file| *file != "-").collect()
@@ -139,6 +154,7 @@ pub struct Items {
 /// What is left of an input.
 enum Left {
     Lines { name: String, number: u64, lines: Box<dyn BufRead> },
+    Drawing(DrawingItems),
     One(Option<Item>),
 }
 
@@ -153,9 +169,10 @@ impl Iterator for Items {
     type Item = Result<Item, Failure>;
 
     fn next(&mut self) -> Option<Result<Item, Failure>> {
-        let Left::Lines { name, number, lines } = &mut self.left else {
-            let Left::One(item) = &mut self.left else { return None };
-            return item.take().map(Ok);
+        let (name, number, lines) = match &mut self.left {
+            Left::Lines { name, number, lines } => (name, number, lines),
+            Left::Drawing(items) => return items.next(),
+            Left::One(item) => return item.take().map(Ok),
         };
         let found = loop {
             *number += 1;
@@ -211,11 +228,29 @@ fn item(origin: String, line: &[u8]) -> Result<Item, Failure> {
     }
 }
 
-/// A binary file's bytes, but not more than one above the limit.
+/// A binary file's bytes, but not more than one above the limit. A whole drawing is no payload.
 fn payload(file: &OsStr) -> Result<Vec<u8>, Failure> {
     let mut bytes = Vec::new();
     open(file)?.take(LIMIT as u64 + 1).read_to_end(&mut bytes).map_err(|error| unreadable(&name(file), &error))?;
-    Ok(bytes)
+    Letters::of(&bytes).map_or(Ok(bytes), |letters| Err(letters.no_payload(&name(file))))
+}
+
+/// A file that is no payload, by its first letters.
+enum Opened {
+    Drawing(Drawing),
+    Lines(Box<dyn Read>),
+}
+
+fn opened(file: &OsStr) -> Result<Opened, Failure> {
+    let mut rest = open(file)?;
+    let mut first = Vec::new();
+    rest.by_ref().take(letters::COUNT as u64).read_to_end(&mut first).map_err(|error| unreadable(&name(file), &error))?;
+    let letters = Letters::of(&first);
+    let whole = Cursor::new(first).chain(rest);
+    Ok(match letters {
+        Some(letters) => Opened::Drawing(items::drawing(&name(file), letters, whole)?),
+        None => Opened::Lines(Box::new(whole)),
+    })
 }
 
 fn open(file: &OsStr) -> Result<Box<dyn Read>, Failure> {
@@ -231,7 +266,7 @@ fn name(file: &OsStr) -> String {
     if file == "-" { "standard input".to_string() } else { shown(file.as_bytes()) }
 }
 
-fn unreadable(name: &str, error: &io::Error) -> Failure {
+pub fn unreadable(name: &str, error: &io::Error) -> Failure {
     Failure::Read(format!("{name} cannot be read: {error}; name a file that can be read, or - for standard input"))
 }
 

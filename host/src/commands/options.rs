@@ -112,7 +112,7 @@ impl Command {
         let Some(release) = self.number(options, "--release")? else {
             return match BINARY.iter().find(|name| options.has(name)) {
                 Some(name) => Err(self.usage(format!("{name} goes with --release N, which says that the file is binary"))),
-                None => Ok(Input::Requests(file)),
+                None => Ok(Input::Requests(file, self.kind)),
             };
         };
         let start = self.place(options, "--start")?.unwrap_or(0);

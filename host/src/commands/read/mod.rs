@@ -85,7 +85,7 @@ mod tests {
 
     #[test]
     fn a_file_that_is_missing_is_status_1() {
-        let missing = Input::Requests("no such file".into());
+        let missing = Input::Requests("no such file".into(), Kind::Hatch);
         assert_eq!(run(&READ, &Options::default(), &missing, Vec::new(), Vec::new()).unwrap_err().status(), 1);
     }
 }

@@ -1,0 +1,1 @@
+//! Drawings made here, whole and damaged.
