@@ -174,7 +174,7 @@ fn laid_out_hatches_are_in_their_json_bit_by_bit() {
     for (at, (line, (release, payload, strings))) in printed.lines().zip(&bodies).enumerate() {
         let value = parse(line);
         let strings = strings.as_ref().map(|(text, end)| StringReader { payload: text, start: 0, end: *end });
-        let body = HatchBody { payload, start: 0, release: *release, strings };
+        let body = HatchBody { payload, start: 0, release_number: *release, strings };
         same(&value, &body, &body.decode_bits().expect("the body is read"));
         assert_eq!(value.at("origin").text(), format!("standard input:{}", at + 1));
         assert_eq!((value.at("request").text(), value.at("release").whole()), (if strings.is_some() { "hatchs" } else { "hatch" }, *release));

@@ -143,6 +143,22 @@ fn standard_input_may_be_lines_or_bytes() {
 }
 
 #[test]
+fn a_release_is_named_or_numbered() {
+    let by = |release: &str| answers(&["read", "--release", release], &[0xa9, 0xaa, 0xa0]);
+    let spellings = ["R2000", "r2000", "AC1015", "ac1015", "02"];
+    assert!(spellings.iter().all(|release| by(release) == by("2")));
+    assert_eq!(answers(&["prefix", "--release=R2018"], &[0x85; 40]), answers(&["prefix", "--release=7"], &[0x85; 40]));
+    for unknown in ["R2001", "AC1016", "2000", "2.0", "R2000 "] {
+        let output = call(&["read", "--release", unknown, "-"], &[0xa9, 0xaa, 0xa0]);
+        match unknown {
+            // Any number is handed to the library, which refuses it.
+            "2000" => assert!(refuses(&output, 1).contains("refusal 9 at bit 0")),
+            _ => assert!(refuses(&output, 2).contains("which is none of R14, R2000, R2004, R2007, R2010, R2013, R2018, nor a number")),
+        }
+    }
+}
+
+#[test]
 fn lent_lengths_of_a_request_count() {
     let body = "A9AA9010".to_string() + &"00".repeat(16);
     let line = |lent: &str| format!("hatch 2 0 {body}{lent}\n");

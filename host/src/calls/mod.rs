@@ -7,5 +7,6 @@ mod outline_lists;
 pub(crate) mod outlines;
 pub(crate) mod prefixes;
 pub(crate) mod refusal;
+pub(crate) mod release;
 pub(crate) mod texts;
 pub(crate) mod typed;

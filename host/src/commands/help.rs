@@ -25,7 +25,7 @@ usage: dwg-hatch read [--json] [FILE]
                        Finite doubles are the shortest numbers that give the same double back, NaNs and infinities
                        strings with their 64 bits, as \"0x7ff8000000000001\"
   --release N          the file is binary and holds a hatch body of this release: 1 R14, 2 R2000, 3 R2004, 4 R2007,
-                       5 R2010, 6 R2013, 7 R2018
+                       5 R2010, 6 R2013, 7 R2018; its name will do too, as R2000, or how a drawing of it begins, as AC1015
   --start BIT          where the body starts in it, in bits from its first byte's top bit; 0 if not given
   --strings FILE       the texts come from this binary file, through a string reader
   --string-start BIT   where the string reader starts; 0 if not given
@@ -54,7 +54,7 @@ usage: dwg-hatch prefix [--json] [FILE]
        dwg-hatch prefix [--json] --release N [--start BIT] [FILE]
 
   --json         print one JSON object a line for each request, with every field; docs/JSON.md has their names
-  --release N    the file is binary and holds a prefix of this release, 1 (R14) to 7 (R2018)
+  --release N    the file is binary and holds a prefix of this release, 1 (R14) to 7 (R2018), or by its name
   --start BIT    where the prefix starts in it, in bits from its first byte's top bit; 0 if not given
 
 Without --release FILE has request lines: prefix REL START HEX, as dwg-hatch read --help has them, or is a whole drawing of

@@ -3,6 +3,8 @@
 use std::ffi::{OsStr, OsString};
 use std::os::unix::ffi::OsStrExt;
 
+use dwg_hatch::Release;
+
 use crate::commands::failure::{shown, Failure};
 use crate::commands::input::{Binary, BinaryStrings, Input, Kind};
 use crate::protocol::request::number;
@@ -109,7 +111,7 @@ impl Command {
 
     fn input(&self, options: &Options, file: &OsStr) -> Result<Input, Failure> {
         let file = file.to_os_string();
-        let Some(release) = self.number(options, "--release")? else {
+        let Some(release) = self.release(options)? else {
             return match BINARY.iter().find(|name| options.has(name)) {
                 Some(name) => Err(self.usage(format!("{name} goes with --release N, which says that the file is binary"))),
                 None => Ok(Input::Requests(file, self.kind)),
@@ -130,6 +132,17 @@ impl Command {
             None if start.or(end).is_some() => Err(self.usage("--string-start and --string-end go with --strings FILE".to_string())),
             None => Ok(None),
         }
+    }
+
+    /// The release's number: any, so that what the library says of an unknown one is seen, or that of a release by its name.
+    fn release(&self, options: &Options) -> Result<Option<u64>, Failure> {
+        let Some(value) = options.value("--release") else { return Ok(None) };
+        let named = || value.to_str()?.parse().ok().map(Release::number);
+        let wrong = || {
+            let names = Release::ALL.map(Release::name).join(", ");
+            self.usage(format!("--release is \"{}\", which is none of {names}, nor a number", shown(value.as_bytes())))
+        };
+        number(value.as_bytes()).or_else(named).map(Some).ok_or_else(wrong)
     }
 
     fn place(&self, options: &Options, name: &str) -> Result<Option<usize>, Failure> {

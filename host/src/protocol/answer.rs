@@ -195,7 +195,7 @@ fn written<T: Display>(reading: Reading<T>) -> String {
 }
 
 fn refused(refusal: &Refusal) -> String {
-    format!("err {} {} {}", refusal.number, refusal.place, refusal.second_place)
+    format!("err {} {} {}", refusal.number(), refusal.place, refusal.second_place)
 }
 
 /// Answers every line of `input` on `output`, in order.

@@ -34,9 +34,9 @@ fn asked(item: &Item) -> Vec<Field> {
 /// A refusal.
 pub fn refusal(item: &Item, refusal: &Refusal) -> String {
     let parts = object([
-        ("number", refusal.number.to_string()),
-        ("meaning", string(refusal.meaning())),
-        ("advice", string(refusal.advice())),
+        ("number", refusal.number().to_string()),
+        ("meaning", string(refusal.reason.meaning())),
+        ("advice", string(refusal.reason.advice())),
         ("place", refusal.place.to_string()),
         ("second_place", refusal.second_place.to_string()),
     ]);

@@ -1,13 +1,13 @@
 //! Hatches and prefixes as a person reads them: a line for each thing that they hold. Each double has all its digits.
 
-use dwg_hatch::{CommonEntityBits, GradientFill, Hatch, HatchEdge, HatchPath, HatchPathSegments, Name, PatternLine, Point2D, Source, Text, TypedHatch};
+use dwg_hatch::{
+    CommonEntityBits, GradientFill, Hatch, HatchEdge, HatchPath, HatchPathSegments, Name, PatternLine, Point2D, Release, Source, Text, TypedHatch,
+};
 
 use crate::commands::failure::counted;
 use crate::commands::input::Item;
 use crate::protocol::request::{HatchRequest, PrefixRequest};
 
-/// The releases, from 1.
-const RELEASES: [&str; 7] = ["R14", "R2000", "R2004", "R2007", "R2010", "R2013", "R2018"];
 const STYLES: [&str; 3] = ["odd parity", "outermost", "whole area"];
 const TYPES: [&str; 3] = ["user-defined", "predefined", "custom"];
 const LINETYPES: [&str; 4] = ["the layer's", "the block's", "continuous", "by its handle"];
@@ -64,8 +64,8 @@ pub fn prefix(item: &Item, request: &PrefixRequest, data: &CommonEntityBits, pla
 }
 
 fn title(item: &Item, kind: &str, release: u64, start: usize, end: usize) -> String {
-    let known = usize::try_from(release).ok().and_then(|release| RELEASES.get(release.wrapping_sub(1)));
-    format!("{}: {kind}, release {release} ({}), bits {start} to {end}", item.origin, known.unwrap_or(&"unknown"))
+    let name = Release::try_from(release).map_or("unknown", Release::name);
+    format!("{}: {kind}, release {release} ({name}), bits {start} to {end}", item.origin)
 }
 
 /// A line with what it is about in front.
