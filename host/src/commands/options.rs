@@ -173,7 +173,7 @@ mod tests {
         let read = Command { name: "read", kind: Kind::Hatch, switches: &["--json"], values: &[] };
         let words = |line: &str| line.split(' ').map(Into::into).collect::<Vec<OsString>>();
         let Ok(Asked::Run { options, input }) = read.parse(&words("--json requests.txt")) else { panic!("no work") };
-        assert!(options.has("--json") && input == Input::Requests("requests.txt".into()));
+        assert!(options.has("--json") && input == Input::Requests("requests.txt".into(), Kind::Hatch));
         let failure = read.parse(&words("--start 3 body.bin")).unwrap_err();
         assert_eq!(failure.to_string(), "--start goes with --release N, which says that the file is binary; dwg-hatch read --help says more");
     }

@@ -1,20 +1,11 @@
 //! Whole drawings, told apart by the letters that a file begins with: AC10 and two digits.
 
+use dwg_hatch::Release;
+
 use crate::commands::failure::Failure;
 
 /// How many letters they are.
 pub const COUNT: usize = 6;
-
-/// The letters of each release, and its name.
-const RELEASES: [([u8; COUNT], &str); 7] = [
-    (*b"AC1014", "R14"),
-    (*b"AC1015", "R2000"),
-    (*b"AC1018", "R2004"),
-    (*b"AC1021", "R2007"),
-    (*b"AC1024", "R2010"),
-    (*b"AC1027", "R2013"),
-    (*b"AC1032", "R2018"),
-];
 
 /// The letters of a whole drawing.
 #[derive(Clone, Copy, Debug, PartialEq, Eq)]
@@ -29,19 +20,22 @@ impl Letters {
 
     /// Whether the drawing can be cut: it is of R2000.
     pub fn is_cut(self) -> bool {
-        self.0 == *b"AC1015"
+        self.release() == Some(Release::R2000)
+    }
+
+    fn release(self) -> Option<Release> {
+        Release::ALL.into_iter().find(|release| release.signature().as_bytes() == self.0)
     }
 
     /// The release's name, or the letters where they are of none that is known.
-    pub fn release(self) -> String {
-        let known = RELEASES.iter().find(|(letters, _)| *letters == self.0);
-        known.map_or_else(|| self.0.iter().copied().map(char::from).collect(), |(_, name)| name.to_string())
+    fn name(self) -> String {
+        self.release().map_or_else(|| self.0.iter().copied().map(char::from).collect(), |release| release.to_string())
     }
 
     /// Why a drawing that cannot be cut is not read.
     pub fn not_cut(self, file: &str) -> Failure {
         let reads = "dwg-hatch reads the hatch bodies and entity prefixes in it, which your DWG reader cuts out";
-        Failure::Usage(format!("{file}: this is a whole drawing of {}; {reads} (docs/PAYLOADS.md says where they lie)", self.release()))
+        Failure::Usage(format!("{file}: this is a whole drawing of {}; {reads} (docs/PAYLOADS.md says where they lie)", self.name()))
     }
 
     /// Why a whole drawing is not read where a payload is wanted.
@@ -50,7 +44,7 @@ impl Letters {
             return self.not_cut(file);
         }
         let advice = "leave --release out, and the hatches in it are found and read";
-        Failure::Usage(format!("{file}: this is a whole drawing of {}, and --release N goes with a payload alone; {advice}", self.release()))
+        Failure::Usage(format!("{file}: this is a whole drawing of {}, and --release N goes with a payload alone; {advice}", self.name()))
     }
 }
 
@@ -63,15 +57,15 @@ mod tests {
         for bytes in [&b""[..], b"AC101", b"AC10A5", b"AC1 15", b"AC1115", b"ac1015", b"AC10\xb1\xb5", b" AC1015", b"hatch 2 0 A9AAA0"] {
             assert_eq!(Letters::of(bytes), None, "{bytes:?}");
         }
-        let release = |bytes: &[u8]| Letters::of(bytes).map(Letters::release);
-        assert_eq!(release(b"AC1015").as_deref(), Some("R2000"));
-        assert_eq!(release(b"AC1032\0\0").as_deref(), Some("R2018"));
-        assert_eq!(release(b"AC1009").as_deref(), Some("AC1009"));
+        let name = |bytes: &[u8]| Letters::of(bytes).map(Letters::name);
+        assert_eq!(name(b"AC1015").as_deref(), Some("R2000"));
+        assert_eq!(name(b"AC1032\0\0").as_deref(), Some("R2018"));
+        assert_eq!(name(b"AC1009").as_deref(), Some("AC1009"));
     }
 
     #[test]
     fn r2000_alone_is_cut() {
-        let cut: Vec<&str> = RELEASES.iter().filter(|(letters, _)| Letters(*letters).is_cut()).map(|(_, name)| *name).collect();
-        assert_eq!(cut, ["R2000"]);
+        let cut = |release: &Release| Letters::of(release.signature().as_bytes()).is_some_and(Letters::is_cut);
+        assert!(Release::ALL.into_iter().filter(cut).eq([Release::R2000]));
     }
 }

@@ -36,10 +36,12 @@ struct Counts {
 /// Writes a request line for each hatch body of a drawing to `output`, with `--prefixes` one for each entity's prefix too. What cannot be cut is a line
 /// on `errors`. Gives the tool's status: 0 if all was cut, 1 if something is wrong with the drawing.
 pub fn run(options: &Options, input: &Input, output: impl Write, mut errors: impl Write) -> Result<u8, Failure> {
-    let drawing = input.drawing()?.ok_or_else(|| {
-        CUT.usage(format!("{} is no whole drawing, which begins with AC10 and two digits; its lines or its payload are for read", input.name()))
-    })?;
     let name = input.name();
+    if matches!(input, Input::Binary(_)) {
+        return Err(CUT.usage("cut takes a whole drawing, which states its release: leave --release out".to_string()));
+    }
+    let wrong = || CUT.usage(format!("{name} is no whole drawing, which begins with AC10 and two digits; dwg-hatch read reads lines and payloads"));
+    let drawing = input.drawing()?.ok_or_else(wrong)?;
     let mut output = BufWriter::with_capacity(1 << 16, output);
     let mut status = 0;
     cut(&name, drawing, options.has("--prefixes"), &mut output, |wrong| {

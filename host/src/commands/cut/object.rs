@@ -2,13 +2,13 @@
 
 use std::ops::Range;
 
-use dwg_hatch::{read_bs_u, read_common_entity_bits, read_handle, read_rl, Refusal};
+use dwg_hatch::{read_bs_u, read_common_entity_bits, read_handle, read_rl, Refusal, Release};
 
 use super::modular;
 use super::object_map::Pair;
 
 /// The release of the drawings that are cut, by its number.
-pub const RELEASE: u64 = 2;
+pub const RELEASE: u64 = Release::R2000 as u64;
 
 /// An object. Bits are the payload's.
 #[derive(Clone, Debug, PartialEq, Eq)]

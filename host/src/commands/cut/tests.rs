@@ -1,1 +1,275 @@
-//! Drawings made here, whole and damaged.
+//! Drawings made here, whole, damaged at every byte, and built to mislead: no panic, and not more work than the file is long.
+
+#[path = "../../../tests/layouts/mod.rs"]
+mod layouts;
+#[path = "../../../tests/records/mod.rs"]
+mod records;
+
+use dwg_hatch::HatchPath;
+
+use super::*;
+use crate::commands::draw;
+use crate::commands::failure::Failure;
+use crate::commands::options::Asked;
+use crate::commands::read;
+use layouts::{Bits, Numbers, Plan};
+use records::{block, drawing, drawing_of, end, modular_short, Record, FIRST_OBJECT, HATCH};
+
+/// What a command gives: its status, what it writes, and its lines about what is wrong.
+struct Given {
+    status: u8,
+    output: String,
+    errors: Vec<String>,
+}
+
+/// What a command gives for these bytes, as a file of this test.
+fn given(test: &str, bytes: &[u8], kind: Kind, command: impl FnOnce(&Input, &mut Vec<u8>, &mut Vec<u8>) -> Result<u8, Failure>) -> Given {
+    let path = std::env::temp_dir().join(format!("dwg-hatch-{}-{test}.dwg", std::process::id()));
+    std::fs::write(&path, bytes).expect("a file");
+    let (mut output, mut errors) = (Vec::new(), Vec::new());
+    let result = command(&Input::Requests(path.clone().into(), kind), &mut output, &mut errors);
+    std::fs::remove_file(path).expect("the file");
+    let [output, errors] = [output, errors].map(|text| String::from_utf8(text).expect("UTF-8"));
+    let mut errors: Vec<String> = errors.lines().map(str::to_string).collect();
+    let status = result.unwrap_or_else(|failure| {
+        errors.push(format!("dwg-hatch: {failure}"));
+        failure.status()
+    });
+    assert_eq!(status == 0, errors.is_empty(), "{errors:?}");
+    Given { status, output, errors }
+}
+
+fn cut_of(test: &str, bytes: &[u8], word: &str) -> Given {
+    let words: Vec<_> = word.split_whitespace().map(Into::into).collect();
+    let Ok(Asked::Run { options, .. }) = CUT.parse(&words) else { panic!("{words:?}") };
+    given(test, bytes, Kind::Hatch, |input, output, errors| run(&options, input, output, errors))
+}
+
+fn read_of(test: &str, bytes: &[u8], kind: Kind) -> Given {
+    given(test, bytes, kind, |input, output, errors| read::run(&read::READ, &Options::default(), input, output, errors))
+}
+
+fn draw_of(test: &str, bytes: &[u8]) -> Given {
+    given(test, bytes, Kind::Hatch, |input, output, errors| draw::run(&Options::default(), input, output, errors))
+}
+
+/// A hatch's payload, from a plan of numbers of a generator.
+fn hatch(handle: u64) -> Vec<u8> {
+    let n = &mut Numbers(handle);
+    let path = HatchPath { num_boundary_handles: 2, ..n.path(2) };
+    let plan = Plan { paths: vec![path], lines: Vec::new(), ..Plan::new(n, 2, false) };
+    let [fields, _] = plan.lay_out(n, false);
+    record(handle, HATCH, fields, 2)
+}
+
+fn record(handle: u64, type_number: usize, fields: Bits, handles: usize) -> Vec<u8> {
+    let record = Record { release: 2, type_number, handle, fields, strings: Bits(Vec::new()), handles: vec![handle; handles] };
+    record.lay_out(&mut Numbers(handle)).bytes
+}
+
+/// A line along x, whose ends' z are 0, by the facts of R2000 drawings; its end's x and y are the default.
+fn line(handle: u64) -> Vec<u8> {
+    let mut fields = Bits(Vec::new());
+    fields.number(1, 1);
+    (0..2).for_each(|_| {
+        fields.raw(2.5f64.to_bits(), 8);
+        fields.number(0, 2);
+    });
+    fields.number(3, 2);
+    record(handle, 19, fields, 1)
+}
+
+/// Two hatches, a line and an object that is no entity, the later handles first in the file; two pairs in a block.
+fn small() -> Vec<u8> {
+    let other = record(0x1b, 42, Bits(vec![true; 9]), 0);
+    drawing_of(&[(0x2f1, hatch(0x2f1)), (0x2f0, hatch(0x2f0)), (0x20, line(0x20)), (0x1b, other)], 2)
+}
+
+#[test]
+fn a_whole_drawing_is_cut() {
+    let bytes = small();
+    let all = cut_of("whole", &bytes, "--prefixes");
+    assert_eq!((all.status, all.errors.len()), (0, 0), "{:?}", all.errors);
+    let lines: Vec<&str> = all.output.lines().collect();
+    let starts: Vec<String> = lines.iter().map(|line| line.split(' ').take(4).collect::<Vec<_>>().join(" ")).collect();
+    assert_eq!(starts[1..3], ["# handle 20: LINE", &starts[2]]);
+    let count = |start: &str| lines.iter().filter(|line| line.starts_with(start)).count();
+    assert_eq!((count("prefix 2 "), count("hatch 2 "), count("# handle 2F"), count("#")), (3, 2, 2, 5));
+    assert_eq!(lines.last(), Some(&"# 4 objects: hatches 2, other entities 1, of types that are not known as entities 1."));
+    // Without the prefixes the same but for the line and the prefixes.
+    let hatches: Vec<&str> = lines.iter().copied().filter(|line| !line.starts_with("prefix ") && !line.contains("LINE")).collect();
+    assert_eq!(cut_of("whole", &bytes, "").output.lines().collect::<Vec<_>>(), hatches);
+    // Each line that is cut is read, and from the drawing itself the same is read.
+    let read = read_of("whole", &bytes, Kind::Hatch);
+    assert_eq!((read.status, read.output.matches(": hatch, release 2 (R2000)").count()), (0, 2), "{:?}", read.errors);
+    assert_eq!(read_of("whole", &bytes, Kind::Prefix).output.matches(": prefix, release 2 (R2000)").count(), 3);
+}
+
+/// Whatever is wrong: not more lines than ten objects, the hatches that are refused, the map and the count of what is not told; not more output than
+/// the file's length allows.
+fn bounded(given: &Given, bytes: &[u8], hatches: usize) {
+    assert!(given.errors.len() <= 12 + hatches, "{:?}", given.errors);
+    assert!(given.errors.iter().all(|line| line.starts_with("dwg-hatch: ") && line.len() < 600), "{:?}", given.errors);
+    assert!(given.output.len() <= 1000 + 8 * bytes.len(), "{} bytes from {}", given.output.len(), bytes.len());
+    assert!(given.status <= 2);
+}
+
+#[test]
+fn a_drawing_that_ends_anywhere_is_told() {
+    let bytes = small();
+    for length in 0..bytes.len() {
+        let given = cut_of("cut-short", &bytes[..length], "--prefixes");
+        bounded(&given, &bytes, 2);
+        // With fewer letters it is no drawing. The map lies last in it, so one line tells that its section passes the file's end.
+        assert_eq!((given.status, given.errors.len()), (if length < letters::COUNT { 2 } else { 1 }, 1), "{length}: {:?}", given.errors);
+    }
+}
+
+#[test]
+fn a_drawing_with_any_byte_changed_is_read_or_told() {
+    let bytes = small();
+    let mut told = 0;
+    for at in 0..bytes.len() {
+        for value in [0, 1, 0x7f, 0x80, 0xff, bytes[at] ^ 1, bytes[at] ^ 0x40] {
+            let mut damaged = bytes.clone();
+            damaged[at] = value;
+            let given = cut_of("byte", &damaged, "--prefixes");
+            bounded(&given, &bytes, 2);
+            told += usize::from(given.status != 0);
+            for given in [read_of("byte", &damaged, Kind::Hatch), read_of("byte", &damaged, Kind::Prefix), draw_of("byte", &damaged)] {
+                assert!(given.status <= 2 && given.errors.len() <= 14, "{:?}", given.errors);
+            }
+        }
+    }
+    assert!(told > 100, "{told}");
+}
+
+/// The only line that tells what is wrong, behind the file's name.
+fn wrong(bytes: &[u8]) -> String {
+    let given = cut_of("wrong", bytes, "");
+    bounded(&given, bytes, 0);
+    assert_eq!((given.status, given.errors.len()), (1, 1), "{:?}", given.errors);
+    given.errors[0].split_once("wrong.dwg: ").expect("the file's name").1.to_string()
+}
+
+/// A drawing with one object, whose handle is 20 by the map.
+fn one(payload: &[u8]) -> Vec<u8> {
+    drawing(&[modular_short(payload.len()), payload.to_vec()].concat(), &[block(&[(0x20, FIRST_OBJECT as i64)]), end()].concat())
+}
+
+/// What an object begins with, and bits behind it.
+fn begin(type_number: u64, size: u64, more: &[bool]) -> Vec<u8> {
+    let mut bits = Bits(Vec::new());
+    bits.number(1, 2);
+    bits.raw(type_number, 1);
+    bits.raw(size, 4);
+    bits.handle(0x20);
+    bits.0.extend(more);
+    bits.bytes(0)
+}
+
+#[test]
+fn every_number_is_tested_before_it_is_used() {
+    let whole = one(&line(0x20));
+    let (length, map) = (whole.len(), whole.len() - 10);
+    let changed = |at: usize, value: [u8; 4]| [&whole[..at], &value, &whole[at + 4..]].concat();
+    let placed = |place: i64| drawing(&[0; 4], &[block(&[(0x20, place)]), end()].concat());
+    let past = |begin: u64, end: u64| format!("its object map would lie at bytes {begin} to {end}, and it has {length} bytes");
+    let in_map = |wrong: &str| format!("its object map is wrong: its {wrong}, and reading ends here");
+    let of_section = format!("and its section ends at byte {length}");
+    let cases = [
+        // Section locators: none, 2^32 - 1, more than there is room for, none of the map; the map past the end, by its place and by its length.
+        (changed(0x15, [0; 4]), "none of its 0 section locators is section 2, the object map".to_string()),
+        (changed(0x15, [0xff; 4]), format!("it states 4294967295 section locators at byte 21, and has {length} bytes")),
+        (changed(0x15, [8, 0, 0, 0]), format!("it states 8 section locators at byte 21, and has {length} bytes")),
+        (changed(0x15, [2, 0, 0, 0]), "none of its 2 section locators is section 2, the object map".to_string()),
+        (changed(0x2c, [0xff; 4]), past(u32::MAX.into(), u64::from(u32::MAX) + 10)),
+        (changed(0x30, [0xff; 4]), past(map as u64, map as u64 + u64::from(u32::MAX))),
+        (changed(0x30, [11, 0, 0, 0]), past(map as u64, length as u64 + 1)),
+        // The map: no block at all, a length below its own, past its section; numbers without an end.
+        (changed(0x30, [0; 4]), in_map(&format!("section ends at byte {map} without a block of length 2, which ends a map"))),
+        (changed(map, [0; 4]), in_map(&format!("block at byte {map} states a length of 0 bytes, {of_section}"))),
+        (changed(map, [0xff; 4]), in_map(&format!("block at byte {map} states a length of 65535 bytes, {of_section}"))),
+        (changed(map, [0, 4, 0xff, 0xff]), in_map(&format!("handle at byte {} ends before its last byte", map + 2))),
+        (drawing(&[], &[&[0, 32][..], &[0xff; 30], &[0; 2], &end()].concat()), in_map("handle at byte 54 is longer than any that a drawing needs")),
+        // An object outside of the file; a length without an end, past the end, too short for what an object begins with.
+        (placed(1000), "handle 20: the object map puts it at byte 1000, and the file has 67".to_string()),
+        (placed(-1), "handle 20: the object map puts it at byte -1, and the file has 66".to_string()),
+        (changed(FIRST_OBJECT, [0xff; 4]), format!("handle 20: its length at byte 52 passes the file's end at byte {length}")),
+        (one(&[]), "handle 20: its type, size and handle at byte 54 cannot be read: refusal 1 at bit 0: ".to_string()),
+    ];
+    for (bytes, expected) in cases {
+        let wrong = wrong(&bytes);
+        assert!(wrong.starts_with(&expected) && wrong.ends_with("save the drawing anew"), "{wrong}\n{expected}");
+    }
+}
+
+#[test]
+fn an_object_that_is_wrong_is_told_by_its_handle() {
+    let cases = [
+        (line(0x21), "the object at byte 52, where the object map puts it, has the handle 21; "),
+        (begin(78, 58 + 26, &[]), "its fields would end at bit 84, and not between its handle's end and the payload's, bits 58 and 64; "),
+        (begin(19, u32::MAX.into(), &[]), "its fields would end at bit 4294967295, and not between its handle's end and the payload's, bits 58 and 64; "),
+        (begin(78, 57, &[]), "its fields would end at bit 57, and not between its handle's end and the payload's, bits 58 and 64; "),
+        // A hatch whose prefix is cut short, or ends behind its fields.
+        (begin(78, 60, &[]), "its prefix cannot be read: refusal 1 at bit "),
+        (begin(78, 60, &records::prefix_of(2, 0).0), "its prefix ends at bit 92, behind its fields' end at bit 60"),
+    ];
+    for (payload, expected) in cases {
+        let wrong = wrong(&one(&payload));
+        assert!(wrong.strip_prefix("handle 20: ").is_some_and(|wrong| wrong.starts_with(expected)), "{wrong}\n{expected}");
+    }
+}
+
+/// A map that names the same objects again and again, block after block.
+#[test]
+fn a_map_that_runs_in_circles_comes_to_an_end() {
+    let payload = hatch(0x20);
+    let objects = [modular_short(payload.len()), payload].concat();
+    let map = [block(&[(0x20, FIRST_OBJECT as i64)]).repeat(5000), end()].concat();
+    let bytes = drawing(&objects, &map);
+    let wrong = wrong(&bytes);
+    assert!(wrong.starts_with(&format!("its objects come to more than its {} bytes, so that some lie over one another, and reading ends here", bytes.len())));
+}
+
+/// Hatches inside one another: each object's length reaches to the last one's end.
+#[test]
+fn objects_that_lie_over_one_another_are_told() {
+    const COUNT: u64 = 4000;
+    let start = |handle: u64| {
+        let mut bits = Bits(Vec::new());
+        bits.number(0, 2);
+        bits.raw(HATCH as u64, 2);
+        bits.raw(1000, 4);
+        bits.handle(0x1_0000 + handle);
+        bits.bytes(0)
+    };
+    let size = 4 + start(0).len();
+    let object = |handle: u64| {
+        let length = size * (COUNT - handle) as usize - 4 + 0x8000;
+        [[length as u16 | 0x8000, (length >> 15) as u16].map(u16::to_le_bytes).concat(), start(handle)].concat()
+    };
+    let objects: Vec<u8> = (0..COUNT).flat_map(object).chain(std::iter::repeat_n(0, 0x8000)).collect();
+    let pairs: Vec<(u64, i64)> = (0..COUNT).map(|handle| (0x1_0000 + handle, (FIRST_OBJECT + size * handle as usize) as i64)).collect();
+    let bytes = drawing(&objects, &[pairs.chunks(1000).flat_map(block).collect(), end()].concat());
+    let given = cut_of("over", &bytes, "--prefixes");
+    bounded(&given, &bytes, COUNT as usize);
+    assert!(given.errors.last().is_some_and(|line| line.contains("some lie over one another")), "{:?}", given.errors.last());
+}
+
+#[test]
+fn of_many_objects_that_are_wrong_ten_are_told_and_the_others_counted() {
+    let pairs: Vec<(u64, i64)> = (1..=60_000).map(|handle| (handle, 1_000_000)).collect();
+    let bytes = drawing(&[], &[pairs.chunks(10_000).flat_map(block).collect(), end()].concat());
+    let given = cut_of("many", &bytes, "");
+    assert_eq!((given.status, given.errors.len()), (1, 11));
+    assert!(given.errors[10].contains("of its objects 59990 more cannot be read; "), "{}", given.errors[10]);
+    assert_eq!(read_of("many", &bytes, Kind::Hatch).errors.len(), 11);
+}
+
+#[test]
+fn a_drawing_without_objects_is_cut_to_nothing() {
+    let given = cut_of("none", &drawing(&[], &end()), "--prefixes");
+    assert_eq!((given.status, given.output.lines().count()), (0, 2));
+    assert!(given.output.ends_with("# 0 objects: hatches 0, other entities 0, of types that are not known as entities 0.\n"));
+}
