@@ -15,8 +15,8 @@ pub fn all() -> Vec<(&'static str, Laid)> {
         ("object-r2004.bin", object(3, "SOLID")),
         ("object-r2007.bin", object(4, "SOLID")),
         ("object-r2010.bin", object(5, "SOLID")),
-        ("object-r2013-no-text.bin", object(6, "")),
-        ("object-r2018-long-text.bin", object(7, &"Zuluft ".repeat(300))),
+        ("object-r2013.bin", object(6, "")),
+        ("object-r2018.bin", object(7, &"Zuluft ".repeat(300))),
     ]
 }
 
