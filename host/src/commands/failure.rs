@@ -12,7 +12,7 @@ pub enum Failure {
     Read(String),
     /// Something cannot be drawn, or a picture cannot be written: status 1.
     Draw(String),
-    /// Reading or writing a stream failed: status 1.
+    /// Standard input cannot be read or standard output not be written, which the error says: status 1.
     Io(io::Error),
 }
 
@@ -35,7 +35,7 @@ impl fmt::Display for Failure {
     fn fmt(&self, f: &mut fmt::Formatter<'_>) -> fmt::Result {
         match self {
             Failure::Usage(line) | Failure::Read(line) | Failure::Draw(line) => f.write_str(line),
-            Failure::Io(error) => write!(f, "reading or writing failed: {error}"),
+            Failure::Io(error) => write!(f, "{error}"),
         }
     }
 }

@@ -1,4 +1,17 @@
-//! What `--help` says.
+//! What `--help` and `--version` say.
+
+pub const VERSION: &str = concat!("dwg-hatch ", env!("CARGO_PKG_VERSION"), "\n");
+
+/// The help of a command.
+pub fn of(command: &str) -> Option<&'static str> {
+    Some(match command {
+        "read" => READ_HELP,
+        "prefix" => PREFIX_HELP,
+        "draw" => DRAW_HELP,
+        "answer" => ANSWER_HELP,
+        _ => return None,
+    })
+}
 
 pub const HELP: &str = "\
 Reads hatch bodies and entity prefixes of DWG drawings with a proved reader.
@@ -10,7 +23,9 @@ usage: dwg-hatch COMMAND [OPTION]...
   draw      draw the outlines of hatch bodies as a picture (SVG)
   answer    answer request lines on standard input, one line each, for programs
 
-dwg-hatch COMMAND --help says more about a command.
+dwg-hatch help COMMAND says more about a command, and so does dwg-hatch COMMAND --help; dwg-hatch --version says which
+version this is. The status is 0 if all went well, 1 if something was refused or could not be read or written, 2 if the
+command or a line is wrong.
 ";
 
 pub const READ_HELP: &str = "\

@@ -10,7 +10,7 @@ use std::io::{self, BufRead, BufReader, Read};
 use std::os::unix::ffi::OsStrExt;
 
 use crate::commands::failure::{shown, Failure};
-use crate::commands::lines;
+use crate::commands::{lines, streams};
 use crate::protocol::payload::{Payload, LIMIT};
 use crate::protocol::request::{HatchRequest, PrefixRequest, Request, Strings};
 
@@ -220,7 +220,7 @@ fn payload(file: &OsStr) -> Result<Vec<u8>, Failure> {
 
 fn open(file: &OsStr) -> Result<Box<dyn Read>, Failure> {
     if file == "-" {
-        return Ok(Box::new(io::stdin()));
+        return Ok(Box::new(streams::input()));
     }
     let open = File::open(file).map_err(|error| unreadable(&name(file), &error))?;
     Ok(Box::new(open))

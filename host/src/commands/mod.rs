@@ -9,3 +9,4 @@ pub mod lines;
 pub mod options;
 pub mod out_file;
 pub mod read;
+pub mod streams;
