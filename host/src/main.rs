@@ -11,6 +11,7 @@ use std::process::ExitCode;
 use commands::failure::{shown, Failure};
 use commands::help::TRY_HELP;
 use commands::options::{Asked, Command};
+use commands::streams::{self, NamedInput};
 use commands::{cut, draw, help, read};
 
 fn main() -> ExitCode {
@@ -35,30 +36,46 @@ fn run(words: &[OsString]) -> Result<u8, Failure> {
         Some("draw") => draws(words),
         Some("cut") => cuts(words),
         Some("answer") => answer(words),
-        Some("--help" | "-h" | "help") if words.is_empty() => print(help::HELP),
-        Some(word @ ("--help" | "-h" | "help")) => Err(Failure::Usage(format!("{word} takes nothing after it; {TRY_HELP}"))),
+        Some("help") => print(help_about(words)?),
+        Some("--help" | "-h") if words.is_empty() => print(help::HELP),
+        Some("--version" | "-V") if words.is_empty() => print(help::VERSION),
+        Some(word @ ("--help" | "-h" | "--version" | "-V")) => Err(Failure::Usage(format!("{word} takes nothing after it; {TRY_HELP}"))),
         _ => Err(Failure::Usage(format!("there is no command \"{}\"; {TRY_HELP}", shown(command.as_encoded_bytes())))),
+    }
+}
+
+/// What `help` and the words behind it ask for.
+fn help_about(words: &[OsString]) -> Result<&'static str, Failure> {
+    match words {
+        [] => Ok(help::HELP),
+        [command] => match command.to_str().and_then(help::of) {
+            Some(text) => Ok(text),
+            None => Err(Failure::Usage(format!("there is no command \"{}\"; {TRY_HELP}", shown(command.as_encoded_bytes())))),
+        },
+        [_, second, ..] => {
+            Err(Failure::Usage(format!("help is for one command at a time, and \"{}\" is a second; {TRY_HELP}", shown(second.as_encoded_bytes()))))
+        }
     }
 }
 
 fn reads(command: &Command, help: &str, words: &[OsString]) -> Result<u8, Failure> {
     match command.parse(words)? {
         Asked::Help => print(help),
-        Asked::Run { options, input } => read::run(command, &options, &input, io::stdout().lock(), io::stderr().lock()),
+        Asked::Run { options, input } => read::run(command, &options, &input, streams::output(), io::stderr().lock()),
     }
 }
 
 fn draws(words: &[OsString]) -> Result<u8, Failure> {
     match draw::DRAW.parse(words)? {
         Asked::Help => print(help::DRAW_HELP),
-        Asked::Run { options, input } => draw::run(&options, &input, io::stdout().lock(), io::stderr().lock()),
+        Asked::Run { options, input } => draw::run(&options, &input, streams::output(), io::stderr().lock()),
     }
 }
 
 fn cuts(words: &[OsString]) -> Result<u8, Failure> {
     match cut::CUT.parse(words)? {
         Asked::Help => print(help::CUT_HELP),
-        Asked::Run { options, input } => cut::run(&options, &input, io::stdout().lock(), io::stderr().lock()),
+        Asked::Run { options, input } => cut::run(&options, &input, streams::output(), io::stderr().lock()),
     }
 }
 
@@ -71,12 +88,12 @@ fn answer(words: &[OsString]) -> Result<u8, Failure> {
             word => return Err(Failure::Usage(format!("answer takes no \"{}\"; dwg-hatch answer --help says what it takes", shown(word)))),
         }
     }
-    protocol::answer::run(io::stdin().lock(), io::stdout().lock(), f64_entries)?;
+    protocol::answer::run(NamedInput(streams::input()), streams::output(), f64_entries)?;
     Ok(0)
 }
 
 fn print(text: &str) -> Result<u8, Failure> {
-    let mut out = io::stdout().lock();
+    let mut out = streams::output();
     out.write_all(text.as_bytes())?;
     out.flush()?;
     Ok(0)

@@ -20,13 +20,13 @@ fn commands(page: &str) -> Vec<(&str, Vec<&str>)> {
 
 #[test]
 fn every_command_prints_what_the_page_says() {
-    const END: &str = "=== the command's end";
+    const END: &str = "=== here the command ends";
     let root = PathBuf::from(env!("CARGO_MANIFEST_DIR")).join("..");
     let page = std::fs::read_to_string(root.join("docs/PAYLOADS.md")).expect("the page");
     let commands = commands(&page);
     let tool = format!("'{}'", env!("CARGO_BIN_EXE_dwg-hatch").replace('\'', "'\\''"));
     // One shell for all, since the first command is a function that others call.
-    let script: String = commands.iter().map(|(command, _)| format!("{}\necho '{}'\n", command.replace("./dwg-hatch", &tool), END.replace('\'', "'\\''"))).collect();
+    let script: String = commands.iter().map(|(command, _)| format!("{}\necho '{END}'\n", command.replace("./dwg-hatch", &tool))).collect();
     let output = Command::new("bash").arg("-c").arg(script).current_dir(root).output().expect("bash starts");
     let printed = String::from_utf8(output.stdout).expect("UTF-8");
     let printed: Vec<&str> = printed.split_terminator(&format!("{END}\n")).collect();

@@ -294,7 +294,7 @@ fn output_that_cannot_be_written_is_one_line_and_status_1() {
     let full = fs::OpenOptions::new().write(true).open("/dev/full").expect("/dev/full");
     let path = file("full.txt", format!("hatch 2 0 {EMPTY}\n").as_bytes());
     let output = tool().arg("read").arg(path).stdout(full).output().expect("the tool starts");
-    assert!(refuses(&output, 1).contains("writing failed"));
+    assert!(refuses(&output, 1).contains("standard output (/dev/full) cannot be written: No space left on device"));
 }
 
 #[test]

@@ -14,7 +14,7 @@ pub enum Failure {
     Draw(String),
     /// A whole drawing, or an object in it, is not as it should be: status 1.
     Drawing(String),
-    /// Reading or writing a stream failed: status 1.
+    /// Standard input cannot be read or standard output not be written, which the error says: status 1.
     Io(io::Error),
 }
 
@@ -37,7 +37,7 @@ impl fmt::Display for Failure {
     fn fmt(&self, f: &mut fmt::Formatter<'_>) -> fmt::Result {
         match self {
             Failure::Usage(line) | Failure::Read(line) | Failure::Draw(line) | Failure::Drawing(line) => f.write_str(line),
-            Failure::Io(error) => write!(f, "reading or writing failed: {error}"),
+            Failure::Io(error) => write!(f, "{error}"),
         }
     }
 }

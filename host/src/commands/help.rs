@@ -1,4 +1,18 @@
-//! What `--help` says.
+//! What `--help` and `--version` say.
+
+pub const VERSION: &str = concat!("dwg-hatch ", env!("CARGO_PKG_VERSION"), "\n");
+
+/// The help of a command.
+pub fn of(command: &str) -> Option<&'static str> {
+    Some(match command {
+        "read" => READ_HELP,
+        "prefix" => PREFIX_HELP,
+        "draw" => DRAW_HELP,
+        "cut" => CUT_HELP,
+        "answer" => ANSWER_HELP,
+        _ => return None,
+    })
+}
 
 pub const HELP: &str = "\
 Reads hatch bodies and entity prefixes of DWG drawings with a proved reader. Of a whole drawing of R2000 (AC1015) they are found in the file; of
@@ -12,7 +26,9 @@ usage: dwg-hatch COMMAND [OPTION]...
   cut       write the hatch bodies of a whole drawing of R2000 as request lines
   answer    answer request lines on standard input, one line each, for programs
 
-dwg-hatch COMMAND --help says more about a command.
+dwg-hatch help COMMAND says more about a command, and so does dwg-hatch COMMAND --help; dwg-hatch --version says which
+version this is. The status is 0 if all went well, 1 if something was refused or could not be read or written, 2 if the
+command or a line is wrong.
 ";
 
 pub const READ_HELP: &str = "\

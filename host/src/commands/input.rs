@@ -13,7 +13,7 @@ use crate::commands::cut::items::{self, DrawingItems};
 use crate::commands::cut::letters::{self, Letters};
 use crate::commands::cut::Drawing;
 use crate::commands::failure::{shown, Failure};
-use crate::commands::lines;
+use crate::commands::{lines, streams};
 use crate::protocol::payload::{Payload, LIMIT};
 use crate::protocol::request::{HatchRequest, PrefixRequest, Request, Strings};
 
@@ -255,7 +255,7 @@ fn opened(file: &OsStr) -> Result<Opened, Failure> {
 
 fn open(file: &OsStr) -> Result<Box<dyn Read>, Failure> {
     if file == "-" {
-        return Ok(Box::new(io::stdin()));
+        return Ok(Box::new(streams::input()));
     }
     let open = File::open(file).map_err(|error| unreadable(&name(file), &error))?;
     Ok(Box::new(open))

@@ -10,3 +10,4 @@ pub mod lines;
 pub mod options;
 pub mod out_file;
 pub mod read;
+pub mod streams;

@@ -32,6 +32,13 @@ pub fn write(file: &OsStr, bytes: &[u8]) -> Result<(), Failure> {
     if old.as_ref().is_some_and(|old| !old.is_file()) {
         return Err(unwritable(io::Error::other("it is there and is no file")));
     }
+    // The folder's rights alone would let a file be replaced that may not be written to.
+    if old.as_ref().is_some_and(|old| old.permissions().readonly()) {
+        return Err(unwritable(io::Error::other("its rights do not let it be written to")));
+    }
+    if old.is_some() {
+        OpenOptions::new().append(true).open(&path).map_err(unwritable)?;
+    }
     let (beside, mut new) = beside(&path).map_err(unwritable)?;
     let written = new.write_all(bytes).and_then(|()| new.sync_all());
     let written = written.and_then(|()| old.map_or(Ok(()), |old| new.set_permissions(old.permissions())));
