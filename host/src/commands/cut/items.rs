@@ -16,6 +16,10 @@ pub struct DrawingItems {
     name: String,
     drawing: Drawing,
     kind: Kind,
+    /// An item that is next, behind a line about it.
+    next: Option<Item>,
+    /// How many objects and how many items there were; `None` where the end was told.
+    counts: Option<[usize; 2]>,
 }
 
 /// The drawing of a file that begins with these letters, or why it cannot be cut. Not more of it is taken than a payload may have, and one byte.
@@ -34,24 +38,52 @@ pub fn drawing(name: &str, letters: Letters, file: impl Read) -> Result<Drawing,
 impl DrawingItems {
     /// The items of one kind. `name` is the file's, for messages.
     pub fn new(name: String, drawing: Drawing, kind: Kind) -> DrawingItems {
-        DrawingItems { name, drawing, kind }
+        DrawingItems { name, drawing, kind, next: None, counts: Some([0; 2]) }
     }
 
     /// The object's item, if it has one of the kind.
-    fn item(&self, object: &Object) -> Option<Result<Item, Failure>> {
-        let (origin, bytes) = (format!("{}: handle {:X}", self.name, object.handle), self.drawing.payload(object));
-        let payload = || Payload::Bytes(bytes.to_vec());
+    fn item(&mut self, object: &Object) -> Option<Result<Item, Failure>> {
+        let (origin, payload) = (format!("{}: handle {:X}", self.name, object.handle), self.drawing.payload(object));
+        let bytes = || Payload::Bytes(payload.to_vec());
         match self.kind {
             Kind::Prefix => types::entity(object.type_number).map(|_| {
-                let request = PrefixRequest { release: RELEASE, start: object.prefix_start, payload: payload() };
+                let request = PrefixRequest { release: RELEASE, start: object.prefix_start, payload: bytes() };
                 Ok(Item { origin, entry: Entry::Prefix(request) })
             }),
-            Kind::Hatch => (object.type_number == types::HATCH).then(|| {
-                let start = object.body_start(bytes).map_err(|wrong| Failure::Drawing(format!("{origin}: {wrong}")))?;
-                let request = HatchRequest { release: RELEASE, start, payload: payload(), strings: None, lent: None };
-                Ok(Item { origin, entry: Entry::Hatch(request) })
-            }),
+            Kind::Hatch if object.type_number != types::HATCH => None,
+            Kind::Hatch => {
+                let wrong = |wrong: String| Some(Err(Failure::Drawing(format!("{origin}: {wrong}"))));
+                let start = match object.body_start(payload) {
+                    Ok(start) => start,
+                    Err(why) => return wrong(why),
+                };
+                let told = object.wrong_end(payload, start).and_then(wrong);
+                let request = HatchRequest { release: RELEASE, start, payload: bytes(), strings: None, lent: None };
+                let item = Item { origin, entry: Entry::Hatch(request) };
+                if told.is_some() {
+                    self.next = Some(item);
+                    return told;
+                }
+                Some(Ok(item))
+            }
         }
+    }
+
+    /// The object's item, counted.
+    fn counted(&mut self, object: &Object) -> Option<Result<Item, Failure>> {
+        let item = self.item(object);
+        if let Some([objects, items]) = &mut self.counts {
+            *objects += 1;
+            *items += usize::from(item.is_some());
+        }
+        item
+    }
+
+    /// The line about a drawing in which there is nothing to read; once.
+    fn nothing(&mut self) -> Option<Result<Item, Failure>> {
+        let [objects, items] = self.counts.take()?;
+        let what = if self.kind == Kind::Hatch { "a hatch" } else { "known as an entity" };
+        (items == 0).then(|| Err(Failure::Nothing(format!("{}: of its objects that can be read, {objects}, none is {what}", self.name))))
     }
 }
 
@@ -59,14 +91,18 @@ impl Iterator for DrawingItems {
     type Item = Result<Item, Failure>;
 
     fn next(&mut self) -> Option<Result<Item, Failure>> {
-        loop {
-            let item = match self.drawing.next()? {
-                Ok(object) => self.item(&object),
+        if let Some(item) = self.next.take() {
+            return Some(Ok(item));
+        }
+        while let Some(object) = self.drawing.next() {
+            let item = match object {
+                Ok(object) => self.counted(&object),
                 Err(wrong) => Some(Err(Failure::Drawing(format!("{}: {wrong}", self.name)))),
             };
             if item.is_some() {
                 return item;
             }
         }
+        self.nothing()
     }
 }

@@ -92,10 +92,14 @@ fn cut_object(
     if !is_hatch {
         return Ok(());
     }
-    match object.body_start(payload) {
-        Ok(start) => request(output, "hatch", start, payload)?,
-        Err(wrong) => tell(format!("handle {handle:X}: {wrong}")),
-    }
+    let wrong = match object.body_start(payload) {
+        Ok(start) => {
+            request(output, "hatch", start, payload)?;
+            object.wrong_end(payload, start)
+        }
+        Err(wrong) => Some(wrong),
+    };
+    wrong.into_iter().for_each(|wrong| tell(format!("handle {handle:X}: {wrong}")));
     Ok(())
 }
 

@@ -2,7 +2,7 @@
 
 use std::ops::Range;
 
-use dwg_hatch::{read_bs_u, read_common_entity_bits, read_handle, read_rl, Refusal, Release};
+use dwg_hatch::{read_bs_u, read_common_entity_bits, read_handle, read_rl, HatchBody, Refusal, Release};
 
 use super::modular;
 use super::object_map::Pair;
@@ -57,6 +57,13 @@ impl Object {
             return Err(format!("its prefix ends at bit {start}, behind its fields' end at bit {}", self.fields_end));
         }
         Ok(start)
+    }
+
+    /// What is wrong with a hatch's body that is read to another bit than its fields end at. One that is refused says so when it is read.
+    pub fn wrong_end(&self, payload: &[u8], start: usize) -> Option<String> {
+        let read = HatchBody { payload, start, release_number: RELEASE, strings: None }.measure();
+        let end = read.ok().map(|lengths| lengths.places.main).filter(|end| *end != self.fields_end)?;
+        Some(format!("its body is read to bit {end}, and by the drawing its fields end at bit {}: do not rely on it", self.fields_end))
     }
 }
 

@@ -35,7 +35,8 @@ fn given(test: &str, bytes: &[u8], kind: Kind, command: impl FnOnce(&Input, &mut
         errors.push(format!("dwg-hatch: {failure}"));
         failure.status()
     });
-    assert_eq!(status == 0, errors.is_empty(), "{errors:?}");
+    let nothing = |line: &&String| line.contains(": of its objects that can be read, ");
+    assert_eq!(status == 0, errors.len() == errors.iter().filter(nothing).count(), "{errors:?}");
     Given { status, output, errors }
 }
 
@@ -264,7 +265,9 @@ fn of_many_objects_that_are_wrong_ten_are_told_and_the_others_counted() {
     let given = cut_of("many", &bytes, "");
     assert_eq!((given.status, given.errors.len()), (1, 11));
     assert!(given.errors[10].contains("of its objects 59990 more cannot be read; "), "{}", given.errors[10]);
-    assert_eq!(read_of("many", &bytes, Kind::Hatch).errors.len(), 11);
+    let read = read_of("many", &bytes, Kind::Hatch);
+    assert_eq!((read.status, read.errors.len()), (1, 12));
+    assert!(read.errors[11].ends_with("many.dwg: of its objects that can be read, 0, none is a hatch"), "{}", read.errors[11]);
 }
 
 #[test]
@@ -272,4 +275,23 @@ fn a_drawing_without_objects_is_cut_to_nothing() {
     let given = cut_of("none", &drawing(&[], &end()), "--prefixes");
     assert_eq!((given.status, given.output.lines().count()), (0, 2));
     assert!(given.output.ends_with("# 0 objects: hatches 0, other entities 0, of types that are not known as entities 0.\n"));
+    let read = read_of("none", &drawing(&[], &end()), Kind::Hatch);
+    assert_eq!((read.status, read.output.as_str(), read.errors.len()), (0, "", 1), "{:?}", read.errors);
+}
+
+/// A body that is read, but to another bit than the drawing says: it is told, and read all the same.
+#[test]
+fn a_body_that_ends_elsewhere_than_the_drawing_says_is_told() {
+    let plan = Plan { paths: Vec::new(), ..Plan::new(&mut Numbers(7), 2, false) };
+    let with = |more: usize| {
+        let [body, _] = plan.lay_out(&mut Numbers(7), false);
+        one(&record(0x20, HATCH, Bits([body.0, vec![true; more]].concat()), 0))
+    };
+    assert_eq!(read_of("end", &with(0), Kind::Hatch).errors, [""; 0]);
+    let (read, cut) = (read_of("end", &with(3), Kind::Hatch), cut_of("end", &with(3), ""));
+    assert!(read.output.contains(": handle 20: hatch, ") && cut.output.contains("\nhatch 2 "), "{}{}", read.output, cut.output);
+    for given in [read, cut, draw_of("end", &with(3))] {
+        assert_eq!((given.status, given.errors.len()), (1, 1), "{:?}", given.errors);
+        assert!(given.errors[0].contains(": handle 20: its body is read to bit ") && given.errors[0].ends_with(": do not rely on it"), "{}", given.errors[0]);
+    }
 }
