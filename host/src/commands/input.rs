@@ -5,7 +5,7 @@
 //! refused unread.
 
 use std::ffi::{OsStr, OsString};
-use std::fs::File;
+use std::fs::{self, File};
 use std::io::{self, BufRead, BufReader, Read};
 use std::os::unix::ffi::OsStrExt;
 
@@ -34,6 +34,8 @@ pub enum Entry {
 pub struct Item {
     /// `FILE:LINE`, or `FILE` of a binary file.
     pub origin: String,
+    /// The line's number, from 1; a binary file has none.
+    pub line: Option<u64>,
     /// What is asked for.
     pub entry: Entry,
 }
@@ -88,7 +90,7 @@ impl Input {
     pub fn items(&self) -> Result<Items, Failure> {
         match self {
             Input::Requests(file) => Ok(Items::of_lines(name(file), open(file)?)),
-            Input::Binary(binary) => Ok(Items { left: Left::One(Some(binary.item()?)) }),
+            Input::Binary(binary) => Ok(Items { left: Left::One(Some(binary.item()?)), only: None }),
         }
     }
 
@@ -97,6 +99,16 @@ impl Input {
         match self {
             Input::Requests(file) | Input::Binary(Binary { file, .. }) => name(file),
         }
+    }
+
+    /// Whether the items can be asked for twice, which is so if they come from files; a pipe is empty the second time.
+    pub fn can_be_read_again(&self) -> bool {
+        let strings = match self {
+            Input::Binary(Binary { strings: Some(strings), .. }) => Some(&strings.file),
+            _ => None,
+        };
+        let (Input::Requests(file) | Input::Binary(Binary { file, .. })) = self;
+        [Some(file), strings].into_iter().flatten().all(|file| file != "-" && fs::metadata(file).is_ok_and(|file| file.is_file()))
     }
 
     /// The files that are read; standard input is none.
@@ -119,7 +131,7 @@ impl Binary {
                 Entry::Hatch(HatchRequest { release, start, payload: Payload::Bytes(payload), strings, lent: None })
             }
         };
-        Ok(Item { origin: name(&self.file), entry })
+        Ok(Item { origin: name(&self.file), line: None, entry })
     }
 }
 
@@ -134,6 +146,8 @@ impl BinaryStrings {
 /// The items of an input.
 pub struct Items {
     left: Left,
+    /// The one line that is looked at, if not all are.
+    only: Option<u64>,
 }
 
 /// What is left of an input.
@@ -145,7 +159,12 @@ enum Left {
 impl Items {
     /// The items of request lines. `name` is the file's, for messages.
     pub fn of_lines(name: String, lines: impl Read + 'static) -> Items {
-        Items { left: Left::Lines { name, number: 0, lines: Box::new(BufReader::with_capacity(1 << 16, lines)) } }
+        Items { left: Left::Lines { name, number: 0, lines: Box::new(BufReader::with_capacity(1 << 16, lines)) }, only: None }
+    }
+
+    /// Only the item of this line; the others are passed over unread.
+    pub fn only(self, line: Option<u64>) -> Items {
+        Items { only: line, ..self }
     }
 }
 
@@ -160,9 +179,10 @@ impl Iterator for Items {
         let found = loop {
             *number += 1;
             match next_line(name, *number, lines.as_mut()) {
+                Ok(Some(_)) if self.only.is_some_and(|only| only != *number) => {}
                 Ok(Some(line)) if lines::is_passed_over(&line) => {}
                 Ok(Some(line)) if !lines::is_text(&line) => break Some(Err(no_text(name, *number, &line))),
-                Ok(Some(line)) => return Some(item(format!("{name}:{number}"), &line)),
+                Ok(Some(line)) => return Some(item(name, *number, &line)),
                 Ok(None) => break None,
                 Err(failure) => break Some(Err(failure)),
             }
@@ -203,10 +223,11 @@ fn no_text(name: &str, number: u64, line: &[u8]) -> Failure {
     Failure::Usage(format!("{name}:{number}: \"{start}\" is no text; a binary file is read with --release N, and reading ends here"))
 }
 
-fn item(origin: String, line: &[u8]) -> Result<Item, Failure> {
+fn item(name: &str, number: u64, line: &[u8]) -> Result<Item, Failure> {
+    let origin = format!("{name}:{number}");
     match crate::protocol::request::parse(line) {
-        Some(Request::Hatch(request)) => Ok(Item { origin, entry: Entry::Hatch(request) }),
-        Some(Request::Prefix(request)) => Ok(Item { origin, entry: Entry::Prefix(request) }),
+        Some(Request::Hatch(request)) => Ok(Item { origin, line: Some(number), entry: Entry::Hatch(request) }),
+        Some(Request::Prefix(request)) => Ok(Item { origin, line: Some(number), entry: Entry::Prefix(request) }),
         Some(Request::Code(_) | Request::Text(_)) | None => Err(Failure::Usage(format!("{origin}: {}", lines::why_not(line)))),
     }
 }
