@@ -5,7 +5,7 @@ use std::io::{self, Write};
 use dwg_hatch::Refusal;
 
 use crate::commands::failure::Failure;
-use crate::commands::input::{Input, Item};
+use crate::commands::input::{Input, Item, Items};
 
 /// Why an item is not done.
 #[derive(Debug)]
@@ -35,12 +35,19 @@ impl From<io::Error> for Problem {
 }
 
 impl Input {
+    /// [`Items::each`] of all its items.
+    pub fn each(&self, errors: impl Write, work: impl FnMut(&Item) -> Result<(), Problem>) -> Result<u8, Failure> {
+        self.items()?.each(errors, work)
+    }
+}
+
+impl Items {
     /// Does the work for each item, in order. Each problem is one line on `errors`, with the item's origin, and the next item's turn comes; but
     /// a file or a stream that fails ends the work, and is the failure. Gives the tool's status: 0 if all was done, 1 if something was refused,
     /// 2 if a line was wrong.
-    pub fn each(&self, mut errors: impl Write, mut work: impl FnMut(&Item) -> Result<(), Problem>) -> Result<u8, Failure> {
+    pub fn each(self, mut errors: impl Write, mut work: impl FnMut(&Item) -> Result<(), Problem>) -> Result<u8, Failure> {
         let mut status = 0;
-        for item in self.items()? {
+        for item in self {
             let (number, line) = match item {
                 Err(failure @ (Failure::Read(_) | Failure::Io(_))) => return Err(failure),
                 Err(failure) => (failure.status(), failure.to_string()),

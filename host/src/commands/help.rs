@@ -22,7 +22,7 @@ usage: dwg-hatch COMMAND [OPTION]...
 
   read      read hatch bodies and prefixes: a summary of each, or everything as JSON
   prefix    read entity prefixes alone
-  draw      draw the outlines of hatch bodies as a picture (SVG)
+  draw      draw hatch bodies as a picture (SVG)
   cut       write the hatch bodies of a whole drawing of R2000 as request lines
   answer    answer request lines on standard input, one line each, for programs
 
@@ -78,18 +78,22 @@ R2000, whose entities' prefixes are read. The same goes for refusals and for the
 ";
 
 pub const DRAW_HELP: &str = "\
-Draws the outlines of hatch bodies as one picture in SVG, which a browser shows: polylines with their bulges, lines, arcs,
-ellipses and splines, light inside by the even-odd rule, so that islands are holes (lighter where the hatch is not solid),
-and seed points as crosses.
+Draws hatch bodies as one picture in SVG, which a browser shows: outlines of polylines with their bulges, lines, arcs, ellipses
+and splines, light inside by the even-odd rule, so that islands are holes; pattern lines with their dashes, gradients, and seed
+points as crosses. Coordinates of the drawing stand at the frame with a scale bar in its units, and in each hatch where it fits
+the number of its request line and its pattern's name.
 
-usage: dwg-hatch draw [--output FILE] [--view X,Y,WIDTH,HEIGHT] [--width PIXELS] [--single] [FILE]
+usage: dwg-hatch draw [--output FILE] [--view X,Y,WIDTH,HEIGHT] [--only LINE] [--width PIXELS] [--max-lines N] [--single] [FILE]
        dwg-hatch draw [OPTION]... --release N [--start BIT] [--strings FILE [--string-start BIT] [--string-end BIT]] [FILE]
 
   --output FILE              write the picture to this file and not to standard output. It is written whole or not at all:
                              whatever fails leaves an old file of this name as it was
   --view X,Y,WIDTH,HEIGHT    show this part of the drawing, X,Y its lower left corner, in the drawing's units; if not given,
                              all that is drawn, with a margin
+  --only LINE                draw the hatch of this line of FILE alone, from 1; no other line is looked at
   --width PIXELS             the picture's width, 1 to 100000; 1000 if not given
+  --max-lines N              draw so many strokes of pattern lines at most, 0 to 10000000; 20000 if not given. Hatches whose
+                             lines would be more are drawn without, and a warning says so
   --single                   narrow every number of the outlines to single precision first, to see what that tears apart
 
 Where the input is, its request lines, whole drawings and the options for a binary file are as dwg-hatch read --help has them. Lines with a
@@ -97,7 +101,8 @@ prefix have no outlines and are passed over. No file of the input is written to.
 
 Each hatch is drawn in its own plane, mirrored where its extrusion points straight down. A spline whose knots, degree or
 weights make no curve, or that has fit points alone, is drawn as its control points or fit points, joined by dashed lines;
-the outline's title says so. An outline with a number that is not finite or above 1e15 is left out.
+the outline's title says so. An outline or pattern line with a number that is not finite or above 1e15 is left out. Where most
+hatches are smaller than 3 pixels, since they lie far apart, a warning says so, and how to look at one.
 
 What is refused, left out or no request is a line on standard error. The status is 0 if all was drawn, 1 if something was
 refused or left out or a file cannot be read or written, 2 if the command or a line is wrong; what else there is is drawn

@@ -5,7 +5,7 @@
 //! refused unread.
 
 use std::ffi::{OsStr, OsString};
-use std::fs::File;
+use std::fs::{self, File};
 use std::io::{self, BufRead, BufReader, Cursor, Read};
 use std::os::unix::ffi::OsStrExt;
 
@@ -37,6 +37,8 @@ pub enum Entry {
 pub struct Item {
     /// `FILE:LINE`, `FILE` of a binary file, or `FILE: handle H` of an object in a drawing.
     pub origin: String,
+    /// The line's number, from 1; a binary file has none.
+    pub line: Option<u64>,
     /// What is asked for.
     pub entry: Entry,
 }
@@ -91,10 +93,10 @@ impl Input {
     pub fn items(&self) -> Result<Items, Failure> {
         match self {
             Input::Requests(file, kind) => match opened(file)? {
-                Opened::Drawing(drawing) => Ok(Items { left: Left::Drawing(DrawingItems::new(name(file), drawing, *kind)) }),
+                Opened::Drawing(drawing) => Ok(Items { left: Left::Drawing(DrawingItems::new(name(file), drawing, *kind)), only: None }),
                 Opened::Lines(lines) => Ok(Items::of_lines(name(file), lines)),
             },
-            Input::Binary(binary) => Ok(Items { left: Left::One(Some(binary.item()?)) }),
+            Input::Binary(binary) => Ok(Items { left: Left::One(Some(Ok(binary.item()?))), only: None }),
         }
     }
 
@@ -112,6 +114,16 @@ impl Input {
         match self {
             Input::Requests(file, _) | Input::Binary(Binary { file, .. }) => name(file),
         }
+    }
+
+    /// Whether the items can be asked for twice, which is so if they come from files; a pipe is empty the second time.
+    pub fn can_be_read_again(&self) -> bool {
+        let strings = match self {
+            Input::Binary(Binary { strings: Some(strings), .. }) => Some(&strings.file),
+            _ => None,
+        };
+        let (Input::Requests(file, _) | Input::Binary(Binary { file, .. })) = self;
+        [Some(file), strings].into_iter().flatten().all(|file| file != "-" && fs::metadata(file).is_ok_and(|file| file.is_file()))
     }
 
     /// The files that are read; standard input is none.
@@ -134,7 +146,7 @@ impl Binary {
                 Entry::Hatch(HatchRequest { release, start, payload: Payload::Bytes(payload), strings, lent: None })
             }
         };
-        Ok(Item { origin: name(&self.file), entry })
+        Ok(Item { origin: name(&self.file), line: None, entry })
     }
 }
 
@@ -149,19 +161,32 @@ impl BinaryStrings {
 /// The items of an input.
 pub struct Items {
     left: Left,
+    /// The one line that is looked at, if not all are.
+    only: Option<u64>,
 }
 
 /// What is left of an input.
 enum Left {
     Lines { name: String, number: u64, lines: Box<dyn BufRead> },
     Drawing(DrawingItems),
-    One(Option<Item>),
+    One(Option<Result<Item, Failure>>),
 }
 
 impl Items {
     /// The items of request lines. `name` is the file's, for messages.
     pub fn of_lines(name: String, lines: impl Read + 'static) -> Items {
-        Items { left: Left::Lines { name, number: 0, lines: Box::new(BufReader::with_capacity(1 << 16, lines)) } }
+        Items { left: Left::Lines { name, number: 0, lines: Box::new(BufReader::with_capacity(1 << 16, lines)) }, only: None }
+    }
+
+    /// Only the item of this line; the others are passed over unread. A drawing has no lines.
+    pub fn only(self, line: Option<u64>) -> Items {
+        match (&self.left, line) {
+            (Left::Drawing(_), Some(_)) => {
+                let wrong = "--only names a line, and a drawing has none; dwg-hatch cut writes its hatches as lines".to_string();
+                Items { left: Left::One(Some(Err(Failure::Usage(wrong)))), only: None }
+            }
+            _ => Items { only: line, ..self },
+        }
     }
 }
 
@@ -172,14 +197,15 @@ impl Iterator for Items {
         let (name, number, lines) = match &mut self.left {
             Left::Lines { name, number, lines } => (name, number, lines),
             Left::Drawing(items) => return items.next(),
-            Left::One(item) => return item.take().map(Ok),
+            Left::One(item) => return item.take(),
         };
         let found = loop {
             *number += 1;
             match next_line(name, *number, lines.as_mut()) {
+                Ok(Some(_)) if self.only.is_some_and(|only| only != *number) => {}
                 Ok(Some(line)) if lines::is_passed_over(&line) => {}
                 Ok(Some(line)) if !lines::is_text(&line) => break Some(Err(no_text(name, *number, &line))),
-                Ok(Some(line)) => return Some(item(format!("{name}:{number}"), &line)),
+                Ok(Some(line)) => return Some(item(name, *number, &line)),
                 Ok(None) => break None,
                 Err(failure) => break Some(Err(failure)),
             }
@@ -220,10 +246,11 @@ fn no_text(name: &str, number: u64, line: &[u8]) -> Failure {
     Failure::Usage(format!("{name}:{number}: \"{start}\" is no text; a binary file is read with --release N, and reading ends here"))
 }
 
-fn item(origin: String, line: &[u8]) -> Result<Item, Failure> {
+fn item(name: &str, number: u64, line: &[u8]) -> Result<Item, Failure> {
+    let origin = format!("{name}:{number}");
     match crate::protocol::request::parse(line) {
-        Some(Request::Hatch(request)) => Ok(Item { origin, entry: Entry::Hatch(request) }),
-        Some(Request::Prefix(request)) => Ok(Item { origin, entry: Entry::Prefix(request) }),
+        Some(Request::Hatch(request)) => Ok(Item { origin, line: Some(number), entry: Entry::Hatch(request) }),
+        Some(Request::Prefix(request)) => Ok(Item { origin, line: Some(number), entry: Entry::Prefix(request) }),
         Some(Request::Code(_) | Request::Text(_)) | None => Err(Failure::Usage(format!("{origin}: {}", lines::why_not(line)))),
     }
 }

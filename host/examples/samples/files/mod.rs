@@ -3,6 +3,7 @@
 mod bad;
 mod body;
 mod campus;
+mod fills;
 mod objects;
 mod outlines;
 mod plan;
@@ -20,6 +21,8 @@ pub fn all() -> Vec<(&'static str, Vec<u8>)> {
         ("duct.txt", outlines::duct()),
         ("edges.txt", outlines::edges()),
         ("strings.txt", outlines::strings()),
+        ("patterns.txt", fills::patterns()),
+        ("gradients.txt", fills::gradients()),
         ("campus.txt", campus::text()),
         ("prefix.txt", prefixes::text()),
         ("bad.txt", bad::text()),

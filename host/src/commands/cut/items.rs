@@ -48,7 +48,7 @@ impl DrawingItems {
         match self.kind {
             Kind::Prefix => types::entity(object.type_number).map(|_| {
                 let request = PrefixRequest { release: RELEASE, start: object.prefix_start, payload: bytes() };
-                Ok(Item { origin, entry: Entry::Prefix(request) })
+                Ok(Item { origin, line: None, entry: Entry::Prefix(request) })
             }),
             Kind::Hatch if object.type_number != types::HATCH => None,
             Kind::Hatch => {
@@ -59,7 +59,7 @@ impl DrawingItems {
                 };
                 let told = object.wrong_end(payload, start).and_then(wrong);
                 let request = HatchRequest { release: RELEASE, start, payload: bytes(), strings: None, lent: None };
-                let item = Item { origin, entry: Entry::Hatch(request) };
+                let item = Item { origin, line: None, entry: Entry::Hatch(request) };
                 if told.is_some() {
                     self.next = Some(item);
                     return told;

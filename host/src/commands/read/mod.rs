@@ -2,6 +2,7 @@
 
 mod json;
 mod json_forms;
+mod measures;
 mod summary;
 
 use std::io::{BufWriter, Write};
