@@ -10,3 +10,4 @@ pub mod options;
 pub mod out_file;
 pub mod read;
 pub mod streams;
+pub mod warnings;
