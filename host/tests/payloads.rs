@@ -28,6 +28,7 @@ fn every_command_prints_what_the_page_says() {
     // One shell for all, since the first command is a function that others call.
     let script: String = commands.iter().map(|(command, _)| format!("{}\necho '{END}'\n", command.replace("./dwg-hatch", &tool))).collect();
     let output = Command::new("bash").arg("-c").arg(script).current_dir(root).output().expect("bash starts");
+    assert!(output.stderr.is_empty(), "{}", String::from_utf8_lossy(&output.stderr));
     let printed = String::from_utf8(output.stdout).expect("UTF-8");
     let printed: Vec<&str> = printed.split_terminator(&format!("{END}\n")).collect();
     assert_eq!(printed.len(), commands.len());

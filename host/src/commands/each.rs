@@ -7,13 +7,15 @@ use dwg_hatch::Refusal;
 use crate::commands::failure::Failure;
 use crate::commands::input::{Input, Item, Items};
 
-/// Why an item is not done.
+/// Why an item is not done, or may be done wrongly.
 #[derive(Debug)]
 pub enum Problem {
     /// The library refuses it.
     Refused(Refusal),
     /// Something else is wrong.
     Failed(Failure),
+    /// It is done, but may not be what was meant.
+    Doubted(String),
 }
 
 impl From<Refusal> for Problem {
@@ -43,8 +45,8 @@ impl Input {
 
 impl Items {
     /// Does the work for each item, in order. Each problem is one line on `errors`, with the item's origin, and the next item's turn comes; but
-    /// a file or a stream that fails ends the work, and is the failure. Gives the tool's status: 0 if all was done, 1 if something was refused,
-    /// 2 if a line was wrong.
+    /// a file or a stream that fails ends the work, and is the failure. Gives the tool's status: 0 if all was done, with warnings too, 1 if something
+    /// was refused, 2 if a line was wrong.
     pub fn each(self, mut errors: impl Write, mut work: impl FnMut(&Item) -> Result<(), Problem>) -> Result<u8, Failure> {
         let mut status = 0;
         for item in self {
@@ -53,6 +55,7 @@ impl Items {
                 Err(failure) => (failure.status(), failure.to_string()),
                 Ok(item) => match work(&item) {
                     Ok(()) => continue,
+                    Err(Problem::Doubted(line)) => (0, format!("{}: warning: {line}", item.origin)),
                     Err(Problem::Refused(refusal)) => (1, format!("{}: {refusal}", item.origin)),
                     Err(Problem::Failed(failure @ Failure::Io(_))) => return Err(failure),
                     Err(Problem::Failed(failure)) => (failure.status(), format!("{}: {failure}", item.origin)),

@@ -34,12 +34,13 @@ command or a line is wrong.
 pub const READ_HELP: &str = "\
 Reads hatch bodies and entity prefixes, and prints a summary of each, or everything as JSON.
 
-usage: dwg-hatch read [--json] [FILE]
-       dwg-hatch read [--json] --release N [--start BIT] [--strings FILE [--string-start BIT] [--string-end BIT]] [FILE]
+usage: dwg-hatch read [--json] [--quiet] [FILE]
+       dwg-hatch read [--json] [--quiet] --release N [--start BIT] [--strings FILE [--string-start BIT] [--string-end BIT]] [FILE]
 
   --json               print one JSON object a line for each request, with every field; docs/JSON.md has their names.
                        Finite doubles are the shortest numbers that give the same double back, NaNs and infinities
                        strings with their 64 bits, as \"0x7ff8000000000001\"
+  --quiet              do not warn of hatches that may have been read wrongly
   --release N          the file is binary and holds a hatch body of this release: 1 R14, 2 R2000, 3 R2004, 4 R2007,
                        5 R2010, 6 R2013, 7 R2018; its name will do too, as R2000, or how a drawing of it begins, as AC1015
   --start BIT          where the body starts in it, in bits from its first byte's top bit; 0 if not given
@@ -59,8 +60,10 @@ are blank or start with # are passed over. FILE - , or none, is standard input. 
 FILE may be a whole drawing of R2000 too: its hatch bodies are read, as dwg-hatch cut --help says.
 
 What is refused is a line on standard error, with the refusal's number, what it means, its bit and what to do; with
---json it is an object too. The status is 0 if all was read, 1 if something was refused or a file cannot be read, 2 if
-the command or a line is wrong; other lines are read all the same, but a line that is no text ends the reading.
+--json it is an object too. A wrong release or start bit may give a whole hatch too: one that leaves more than a byte
+unread, or is of R2007 or later and read without strings, has a line of warning there. The status is 0 if all was
+read, 1 if something was refused or a file cannot be read, 2 if the command or a line is wrong; other lines are read all
+the same, but a line that is no text ends the reading.
 ";
 
 pub const PREFIX_HELP: &str = "\

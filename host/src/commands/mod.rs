@@ -12,3 +12,4 @@ pub mod options;
 pub mod out_file;
 pub mod read;
 pub mod streams;
+pub mod warnings;

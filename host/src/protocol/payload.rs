@@ -13,6 +13,14 @@ pub enum Payload {
 }
 
 impl Payload {
+    /// Its length in bits.
+    pub fn bits(&self) -> u128 {
+        8 * match self {
+            Payload::Bytes(bytes) => bytes.len() as u128,
+            Payload::Zeros(count) => u128::from(*count),
+        }
+    }
+
     /// The payload that a request's field names: `-`, `zN`, or bytes in hexadecimal.
     pub fn parse(field: &[u8]) -> Option<Payload> {
         match field {
@@ -79,6 +87,7 @@ mod tests {
         assert_eq!(Payload::parse(b"-"), Some(Payload::Bytes(vec![])));
         assert_eq!(Payload::parse(b"z12"), Some(Payload::Zeros(12)));
         assert_eq!(Payload::parse(b"3Ff"), None);
+        assert_eq!([Payload::Bytes(vec![0; 3]).bits(), Payload::Zeros(u64::MAX).bits()], [24, 8 * u128::from(u64::MAX)]);
         let (mut zeros, payload) = (Zeros::default(), Payload::Zeros(3));
         zeros.reserve(&payload);
         assert_eq!(zeros.lend(&payload), [0, 0, 0]);

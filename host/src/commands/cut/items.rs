@@ -44,10 +44,9 @@ impl DrawingItems {
     /// The object's item, if it has one of the kind.
     fn item(&mut self, object: &Object) -> Option<Result<Item, Failure>> {
         let (origin, payload) = (format!("{}: handle {:X}", self.name, object.handle), self.drawing.payload(object));
-        let bytes = || Payload::Bytes(payload.to_vec());
         match self.kind {
             Kind::Prefix => types::entity(object.type_number).map(|_| {
-                let request = PrefixRequest { release: RELEASE, start: object.prefix_start, payload: bytes() };
+                let request = PrefixRequest { release: RELEASE, start: object.prefix_start, payload: Payload::Bytes(payload.to_vec()) };
                 Ok(Item { origin, line: None, entry: Entry::Prefix(request) })
             }),
             Kind::Hatch if object.type_number != types::HATCH => None,
@@ -57,8 +56,9 @@ impl DrawingItems {
                     Ok(start) => start,
                     Err(why) => return wrong(why),
                 };
-                let told = object.wrong_end(payload, start).and_then(wrong);
-                let request = HatchRequest { release: RELEASE, start, payload: bytes(), strings: None, lent: None };
+                let (bytes, why) = object.body(payload, start);
+                let told = why.and_then(wrong);
+                let request = HatchRequest { release: RELEASE, start, payload: Payload::Bytes(bytes.to_vec()), strings: None, lent: None };
                 let item = Item { origin, line: None, entry: Entry::Hatch(request) };
                 if told.is_some() {
                     self.next = Some(item);

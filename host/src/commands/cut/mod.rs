@@ -94,8 +94,9 @@ fn cut_object(
     }
     let wrong = match object.body_start(payload) {
         Ok(start) => {
-            request(output, "hatch", start, payload)?;
-            object.wrong_end(payload, start)
+            let (bytes, wrong) = object.body(payload, start);
+            request(output, "hatch", start, bytes)?;
+            wrong
         }
         Err(wrong) => Some(wrong),
     };

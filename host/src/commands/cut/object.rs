@@ -59,11 +59,17 @@ impl Object {
         Ok(start)
     }
 
-    /// What is wrong with a hatch's body that is read to another bit than its fields end at. One that is refused says so when it is read.
-    pub fn wrong_end(&self, payload: &[u8], start: usize) -> Option<String> {
-        let read = HatchBody { payload, start, release_number: RELEASE, strings: None }.measure();
-        let end = read.ok().map(|lengths| lengths.places.main).filter(|end| *end != self.fields_end)?;
-        Some(format!("its body is read to bit {end}, and by the drawing its fields end at bit {}: do not rely on it", self.fields_end))
+    /// The bytes that a hatch's body is read from, and what is wrong if it is read to another bit than its fields end at; one that is refused says so
+    /// when it is read.
+    ///
+    /// They end with the byte in which the fields end. Only if the body is refused so they are the whole payload: a count of boundary handles is tested
+    /// by the bits after it, and these are the handles'.
+    pub fn body<'a>(&self, payload: &'a [u8], start: usize) -> (&'a [u8], Option<String>) {
+        let end = |payload: &[u8]| HatchBody { payload, start, release_number: RELEASE, strings: None }.measure().map(|lengths| lengths.places.main);
+        let fields = &payload[..self.fields_end.div_ceil(8)];
+        let (bytes, end) = end(fields).map_or_else(|_| (payload, end(payload).ok()), |end| (fields, Some(end)));
+        let wrong = |end: usize| format!("its body is read to bit {end}, and by the drawing its fields end at bit {}: do not rely on it", self.fields_end);
+        (bytes, end.filter(|end| *end != self.fields_end).map(wrong))
     }
 }
 

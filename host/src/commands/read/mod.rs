@@ -13,36 +13,41 @@ use crate::commands::each::Problem;
 use crate::commands::failure::Failure;
 use crate::commands::input::{Entry, Input, Item, Kind};
 use crate::commands::options::{Command, Options};
+use crate::commands::warnings::warning;
 use crate::protocol::lists::lists;
 use crate::protocol::payload::Zeros;
 use crate::protocol::request::{HatchRequest, PrefixRequest};
 use crate::protocol::OUTSIDE;
 
 /// The command that reads hatches and prefixes.
-pub const READ: Command = Command { name: "read", kind: Kind::Hatch, switches: &["--json"], values: &[] };
+pub const READ: Command = Command { name: "read", kind: Kind::Hatch, switches: &["--json", "--quiet"], values: &[] };
 
 /// The command that reads prefixes alone.
-pub const PREFIX: Command = Command { name: "prefix", kind: Kind::Prefix, ..READ };
+pub const PREFIX: Command = Command { name: "prefix", kind: Kind::Prefix, switches: &["--json"], values: &[] };
 
-/// Reads each item of the input and writes it to `output`: a summary, or with `--json` one object a line. What is refused, and each line that
-/// is no request, is a line on `errors`. Gives the tool's status: 0 if all was read, 1 if something was refused or a file could not be
+/// Reads each item of the input and writes it to `output`: a summary, or with `--json` one object a line. What is refused, each line that is no
+/// request and, without `--quiet`, each hatch that may have been read wrongly is a line on `errors`. Gives the tool's status: 0 if all was read, 1 if something was refused or a file could not be
 /// read, 2 if a line was no request.
 pub fn run(command: &Command, options: &Options, input: &Input, output: impl Write, errors: impl Write) -> Result<u8, Failure> {
     let mut output = BufWriter::with_capacity(1 << 16, output);
     let mut zeros = Zeros::default();
     let json = options.has("--json");
+    let quiet = options.has("--quiet");
     input.each(errors, |item| {
         taken(command, item)?;
         let read = if json { json_text(item, &mut zeros) } else { summary_text(item, &mut zeros) };
         if let (true, Err(refusal)) = (json, &read) {
             writeln!(output, "{}", json_forms::refusal(item, refusal))?;
         }
-        if let Ok(text) = &read {
-            writeln!(output, "{text}")?;
+        if let Ok(read) = &read {
+            writeln!(output, "{}", read.text)?;
         }
         // Written out at once, so that both streams are in order on a terminal, and no one waits for what is read.
         output.flush()?;
-        read.map(drop).map_err(Problem::Refused)
+        match (read?.warning, quiet) {
+            (Some(warning), false) => Err(Problem::Doubted(warning)),
+            _ => Ok(()),
+        }
     })
 }
 
@@ -54,17 +59,34 @@ fn taken(command: &Command, item: &Item) -> Result<(), Failure> {
     }
 }
 
-fn json_text(item: &Item, zeros: &mut Zeros) -> Result<String, Refusal> {
-    match &item.entry {
-        Entry::Hatch(request) => typed(request, zeros).map(|typed| json_forms::hatch(item, &typed)),
-        Entry::Prefix(request) => prefix(request, zeros).map(|(data, place)| json_forms::prefix(item, &data, place)),
+/// What is written of an item that was read.
+struct Read {
+    text: String,
+    warning: Option<String>,
+}
+
+impl Read {
+    /// A prefix has no warning: what follows it is the entity's.
+    fn of_prefix(text: String) -> Read {
+        Read { text, warning: None }
+    }
+
+    fn of_hatch(request: &HatchRequest, typed: &TypedHatch<u64>, text: String) -> Read {
+        Read { text, warning: warning(request, typed.hatch.places.main) }
     }
 }
 
-fn summary_text(item: &Item, zeros: &mut Zeros) -> Result<String, Refusal> {
+fn json_text(item: &Item, zeros: &mut Zeros) -> Result<Read, Refusal> {
     match &item.entry {
-        Entry::Hatch(request) => typed(request, zeros).map(|typed| summary::hatch(item, request, &typed)),
-        Entry::Prefix(request) => prefix(request, zeros).map(|(data, place)| summary::prefix(item, request, &data, place)),
+        Entry::Hatch(request) => typed(request, zeros).map(|typed| Read::of_hatch(request, &typed, json_forms::hatch(item, &typed))),
+        Entry::Prefix(request) => prefix(request, zeros).map(|(data, place)| Read::of_prefix(json_forms::prefix(item, &data, place))),
+    }
+}
+
+fn summary_text(item: &Item, zeros: &mut Zeros) -> Result<Read, Refusal> {
+    match &item.entry {
+        Entry::Hatch(request) => typed(request, zeros).map(|typed| Read::of_hatch(request, &typed, summary::hatch(item, request, &typed))),
+        Entry::Prefix(request) => prefix(request, zeros).map(|(data, place)| Read::of_prefix(summary::prefix(item, request, &data, place))),
     }
 }
 
