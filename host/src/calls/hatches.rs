@@ -1,7 +1,7 @@
 //! Hatch bodies: the payloads' bytes, their start bits and a release in; the record, the two lists and the places after them out.
 //!
-//! A body is measured first ([`HatchBody::measure`]), then read into lists of that length ([`HatchBody::decode`]). A caller that has
-//! lists of its own lends them ([`HatchBody::decode_into`]); lists that are too short are refused and left as they were.
+//! [`HatchBody::decode`] reads a body into lists that it makes. A caller that has lists of its own asks how long they must be
+//! ([`HatchBody::measure`]) and lends them ([`HatchBody::decode_into`]); lists that are too short are refused and left as they were.
 //!
 //! A payload may hold any 64 bits as a double. The calls named `bits` hand over those bits; the others hand over an `f64`, which promises
 //! no NaN's pattern.
@@ -9,6 +9,7 @@
 use crate::boundary::ffi;
 pub use super::hatch_record::{GradientColor, GradientFill, Hatch, Lengths, Places, ReadHatch};
 use super::hatch_record::{color, fill, hatch};
+use super::kept;
 use super::refusal::{Reason, Refusal};
 use super::release::Release;
 
@@ -112,18 +113,12 @@ impl<'a> HatchBody<'a> {
 
     /// The body, with lists that are as long as it needs them.
     pub fn decode(&self) -> Result<ReadHatch, Refusal> {
-        let lengths = self.measure()?;
-        let (mut numbers, mut words) = (vec![0.0; lengths.numbers], vec![0; lengths.words]);
-        let hatch = self.decode_into(&mut numbers, &mut words)?;
-        Ok(ReadHatch { hatch, words, numbers })
+        kept::read(self, ReadHatch::of)
     }
 
     /// The same with each double as its 64 bits.
     pub fn decode_bits(&self) -> Result<ReadHatch<u64>, Refusal> {
-        let lengths = self.measure()?;
-        let (mut bits, mut words) = (vec![0; lengths.numbers], vec![0; lengths.words]);
-        let hatch = self.decode_bits_into(&mut bits, &mut words)?;
-        Ok(ReadHatch { hatch, words, numbers: bits })
+        kept::read(self, ReadHatch::of)
     }
 
     /// The body, with lent lists. Entries past the lengths used are left as they were, and on a refusal all are.

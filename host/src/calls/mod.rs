@@ -3,6 +3,7 @@
 pub(crate) mod codes;
 mod hatch_record;
 pub(crate) mod hatches;
+mod kept;
 mod outline_lists;
 pub(crate) mod outlines;
 pub(crate) mod prefixes;

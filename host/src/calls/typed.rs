@@ -4,6 +4,7 @@
 
 use super::codes::OUTSIDE;
 use super::hatches::{Hatch, HatchBody, ReadHatch, StringReader};
+use super::kept;
 use super::outline_lists::{Filled, Rest};
 use super::outlines::{HatchPath, PatternLine, Point2D};
 use super::refusal::Refusal;
@@ -122,7 +123,7 @@ pub fn read_hatch_with_strings(payload: &[u8], start: usize, release: Release, s
 impl HatchBody<'_> {
     /// The body as a tree.
     pub fn read(&self) -> Result<TypedHatch, Refusal> {
-        Ok(self.read_as(self.decode()?))
+        kept::read(self, |hatch, words, numbers| self.tree(hatch, words, numbers).expect(OUTSIDE))
     }
 
     /// The same with each double as its 64 bits, a NaN's too.
@@ -135,7 +136,7 @@ impl HatchBody<'_> {
     /// # Ok::<(), dwg_hatch::Refusal>(())
     /// ```
     pub fn read_bits(&self) -> Result<TypedHatch<u64>, Refusal> {
-        Ok(self.read_as(self.decode_bits()?))
+        kept::read(self, |hatch, words, numbers| self.tree(hatch, words, numbers).expect(OUTSIDE))
     }
 
     /// What was read from this body, as a tree. `None` if the lists do not fit the record, or a text does not lie in its payload: what
@@ -150,8 +151,13 @@ impl HatchBody<'_> {
     /// # Ok::<(), dwg_hatch::Refusal>(())
     /// ```
     pub fn typed<Double: Copy>(&self, read: ReadHatch<Double>) -> Option<TypedHatch<Double>> {
-        let ReadHatch { hatch, words, numbers } = read;
-        let mut rest = Rest { words: &words, numbers: &numbers };
+        self.tree(read.hatch, &read.words, &read.numbers)
+    }
+
+    /// The same of lists that lie elsewhere. What a call over this body gave fits by the library's contract; if it does not, no answer is better than
+    /// a wrong one.
+    fn tree<Double: Copy>(&self, hatch: Hatch<Double>, words: &[u32], numbers: &[Double]) -> Option<TypedHatch<Double>> {
+        let mut rest = Rest { words, numbers };
         let paths = rest.many(hatch.num_paths, Rest::path)?;
         let pattern_lines = rest.many(hatch.num_pattern_lines, Rest::pattern_line)?;
         let seed_points = rest.many(hatch.num_seed_points, Rest::point)?;
@@ -164,11 +170,6 @@ impl HatchBody<'_> {
             None => None,
         };
         Some(TypedHatch { hatch, pattern_name, gradient_name, paths, pattern_lines, seed_points })
-    }
-
-    /// What a call over this body gave fits by the library's contract; if it does not, no answer is better than a wrong one.
-    pub(crate) fn read_as<Double: Copy>(&self, read: ReadHatch<Double>) -> TypedHatch<Double> {
-        self.typed(read).unwrap_or_else(|| panic!("{OUTSIDE}"))
     }
 
     /// The payload that a text of this body lies in; `None` for a text of a string reader that the body does not have.

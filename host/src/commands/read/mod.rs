@@ -98,6 +98,9 @@ fn prefix(request: &PrefixRequest, zeros: &mut Zeros) -> Reading<CommonEntityBit
 /// The body with each double as its 64 bits.
 fn typed(request: &HatchRequest, zeros: &mut Zeros) -> Result<TypedHatch<u64>, Refusal> {
     let body = request.body(zeros);
+    if request.lent.is_none() {
+        return body.read_bits();
+    }
     let read = lists(&body, request.lent, |numbers, words| body.decode_bits_into(numbers, words))?;
     Ok(body.typed(read).expect(OUTSIDE))
 }
