@@ -9,41 +9,43 @@ use std::io::{BufWriter, Write};
 
 use dwg_hatch::{read_common_entity_bits, CommonEntityBits, Reading, Refusal, TypedHatch};
 
-use crate::commands::each::Problem;
+use crate::commands::each::Done;
 use crate::commands::failure::Failure;
 use crate::commands::input::{Entry, Input, Item, Kind};
-use crate::commands::options::{Command, Options};
+use crate::commands::options::{Command, Options, JOBS};
 use crate::protocol::lists::lists;
 use crate::protocol::payload::Zeros;
 use crate::protocol::request::{HatchRequest, PrefixRequest};
 use crate::protocol::OUTSIDE;
 
 /// The command that reads hatches and prefixes.
-pub const READ: Command = Command { name: "read", kind: Kind::Hatch, switches: &["--json"], values: &[] };
+pub const READ: Command = Command { name: "read", kind: Kind::Hatch, switches: &["--json"], values: &[JOBS] };
 
 /// The command that reads prefixes alone.
 pub const PREFIX: Command = Command { name: "prefix", kind: Kind::Prefix, ..READ };
 
 /// Reads each item of the input and writes it to `output`: a summary, or with `--json` one object a line. What is refused, and each line that
 /// is no request, is a line on `errors`. Gives the tool's status: 0 if all was read, 1 if something was refused or a file could not be
-/// read, 2 if a line was no request.
+/// read, 2 if a line was no request. The work is done by as many jobs as `--jobs` says, and what is written is the same for any number.
 pub fn run(command: &Command, options: &Options, input: &Input, output: impl Write, errors: impl Write) -> Result<u8, Failure> {
-    let mut output = BufWriter::with_capacity(1 << 16, output);
-    let mut zeros = Zeros::default();
-    let json = options.has("--json");
-    input.each(errors, |item| {
-        taken(command, item)?;
-        let read = if json { json_text(item, &mut zeros) } else { summary_text(item, &mut zeros) };
-        if let (true, Err(refusal)) = (json, &read) {
-            writeln!(output, "{}", json_forms::refusal(item, refusal))?;
-        }
-        if let Ok(text) = &read {
-            writeln!(output, "{text}")?;
-        }
-        // Written out at once, so that both streams are in order on a terminal, and no one waits for what is read.
-        output.flush()?;
-        read.map(drop).map_err(Problem::Refused)
+    let (jobs, json, command) = (command.jobs(options)?, options.has("--json"), *command);
+    input.each_by_jobs(jobs, BufWriter::with_capacity(1 << 16, output), errors, move || {
+        let mut zeros = Zeros::default();
+        move |item| read(&command, json, item, &mut zeros)
     })
+}
+
+fn read(command: &Command, json: bool, item: &Item, zeros: &mut Zeros) -> Done {
+    if let Err(failure) = taken(command, item) {
+        return Done { text: String::new(), problem: Some(failure.into()) };
+    }
+    match if json { json_text(item, zeros) } else { summary_text(item, zeros) } {
+        Ok(text) => Done { text: text + "\n", problem: None },
+        Err(refusal) => {
+            let text = if json { json_forms::refusal(item, &refusal) + "\n" } else { String::new() };
+            Done { text, problem: Some(refusal.into()) }
+        }
+    }
 }
 
 /// Whether the command reads the item.
