@@ -34,13 +34,15 @@ command or a line is wrong.
 pub const READ_HELP: &str = "\
 Reads hatch bodies and entity prefixes, and prints a summary of each, or everything as JSON.
 
-usage: dwg-hatch read [--json] [--quiet] [FILE]
+usage: dwg-hatch read [--json] [--quiet] [--jobs N] [FILE]
        dwg-hatch read [--json] [--quiet] --release N [--start BIT] [--strings FILE [--string-start BIT] [--string-end BIT]] [FILE]
 
   --json               print one JSON object a line for each request, with every field; docs/JSON.md has their names.
                        Finite doubles are the shortest numbers that give the same double back, NaNs and infinities
                        strings with their 64 bits, as \"0x7ff8000000000001\"
   --quiet              do not warn of hatches that may have been read wrongly
+  --jobs N             work by so many jobs side by side, 1 to 256; as many as the machine has cores if not given. What is
+                       written is the same for any number, in the order of the lines
   --release N          the file is binary and holds a hatch body of this release: 1 R14, 2 R2000, 3 R2004, 4 R2007,
                        5 R2010, 6 R2013, 7 R2018; its name will do too, as R2000, or how a drawing of it begins, as AC1015
   --start BIT          where the body starts in it, in bits from its first byte's top bit; 0 if not given
@@ -69,10 +71,11 @@ the same, but a line that is no text ends the reading.
 pub const PREFIX_HELP: &str = "\
 Reads entity prefixes, and prints a summary of each, or everything as JSON. A hatch body starts where its prefix ends.
 
-usage: dwg-hatch prefix [--json] [FILE]
+usage: dwg-hatch prefix [--json] [--jobs N] [FILE]
        dwg-hatch prefix [--json] --release N [--start BIT] [FILE]
 
   --json         print one JSON object a line for each request, with every field; docs/JSON.md has their names
+  --jobs N       work by so many jobs side by side, 1 to 256; as many as the machine has cores if not given
   --release N    the file is binary and holds a prefix of this release, 1 (R14) to 7 (R2018), or by its name
   --start BIT    where the prefix starts in it, in bits from its first byte's top bit; 0 if not given
 
@@ -135,10 +138,11 @@ read, 2 if the command is wrong or the file is no drawing of R2000.
 pub const ANSWER_HELP: &str = "\
 Answers request lines on standard input, one answer line each, in order.
 
-usage: dwg-hatch answer [--f64]
+usage: dwg-hatch answer [--f64] [--jobs N]
 
   --f64     read doubles by the entries that hand over f64, and write a NaN as 7ff8000000000000;
             else by the entries that hand over a double's 64 bits
+  --jobs N  work by so many jobs side by side, 1 to 256; as many as the machine has cores if not given
 
   b|bb|3b|bs|bsu|bl|blu|bd|bll|rc|rs|rl|rd|handle REL START HEX    one code
   dd REL START HEX DEFAULT                                         DEFAULT is 16 hexadecimal digits

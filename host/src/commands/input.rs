@@ -14,6 +14,7 @@ use crate::commands::cut::letters::{self, Letters};
 use crate::commands::cut::Drawing;
 use crate::commands::failure::{shown, Failure};
 use crate::commands::{lines, streams};
+use crate::jobs::Batch;
 use crate::protocol::payload::{Payload, LIMIT};
 use crate::protocol::request::{HatchRequest, PrefixRequest, Request, Strings};
 
@@ -167,15 +168,38 @@ pub struct Items {
 
 /// What is left of an input.
 enum Left {
-    Lines { name: String, number: u64, lines: Box<dyn BufRead> },
+    Lines { name: String, number: u64, lines: BufReader<Box<dyn Read + Send>> },
     Drawing(DrawingItems),
     One(Option<Result<Item, Failure>>),
 }
 
 impl Items {
     /// The items of request lines. `name` is the file's, for messages.
-    pub fn of_lines(name: String, lines: impl Read + 'static) -> Items {
-        Items { left: Left::Lines { name, number: 0, lines: Box::new(BufReader::with_capacity(1 << 16, lines)) }, only: None }
+    pub fn of_lines(name: String, lines: impl Read + Send + 'static) -> Items {
+        let lines = BufReader::with_capacity(1 << 16, Box::new(lines) as Box<dyn Read + Send>);
+        Items { left: Left::Lines { name, number: 0, lines }, only: None }
+    }
+
+    /// The next items: as many as are there without waiting for more input, but not many more than so many bytes. `None` at the end.
+    pub fn batch(&mut self, bytes: usize) -> Option<ItemBatch> {
+        let first = self.next()?;
+        let mut batch = ItemBatch { size: size(&first), items: vec![first] };
+        while batch.size < bytes && !self.waits() {
+            match self.step() {
+                Step::PassedOver => {}
+                Step::Found(item) => {
+                    batch.size += size(&item);
+                    batch.items.push(item);
+                }
+                Step::End => break,
+            }
+        }
+        Some(batch)
+    }
+
+    /// Whether the next item may not be there yet.
+    fn waits(&self) -> bool {
+        matches!(&self.left, Left::Lines { lines, .. } if !lines.buffer().contains(&b'\n'))
     }
 
     /// Only the item of this line; the others are passed over unread. A drawing has no lines.
@@ -190,28 +214,69 @@ impl Items {
     }
 }
 
+/// Some items that follow one another.
+pub struct ItemBatch {
+    /// The items, one at least; what is no item is a failure.
+    pub items: Vec<Result<Item, Failure>>,
+    size: usize,
+}
+
+impl Batch for ItemBatch {
+    fn size(&self) -> usize {
+        self.size
+    }
+}
+
+/// About how many bytes an item holds.
+fn size(item: &Result<Item, Failure>) -> usize {
+    let payload = |payload: &Payload| if let Payload::Bytes(bytes) = payload { bytes.len() } else { 0 };
+    let bytes = match item.as_ref().map(|item| &item.entry) {
+        Ok(Entry::Hatch(hatch)) => payload(&hatch.payload) + hatch.strings.as_ref().map_or(0, |strings| payload(&strings.payload)),
+        Ok(Entry::Prefix(prefix)) => payload(&prefix.payload),
+        Err(_) => 0,
+    };
+    size_of::<Item>() + bytes
+}
+
 impl Iterator for Items {
     type Item = Result<Item, Failure>;
 
     fn next(&mut self) -> Option<Result<Item, Failure>> {
+        loop {
+            match self.step() {
+                Step::PassedOver => {}
+                Step::Found(item) => return Some(item),
+                Step::End => return None,
+            }
+        }
+    }
+}
+
+/// What one line of an input holds, the next item of a drawing, or all of a binary file.
+enum Step {
+    PassedOver,
+    Found(Result<Item, Failure>),
+    End,
+}
+
+impl Items {
+    fn step(&mut self) -> Step {
         let (name, number, lines) = match &mut self.left {
             Left::Lines { name, number, lines } => (name, number, lines),
-            Left::Drawing(items) => return items.next(),
-            Left::One(item) => return item.take(),
+            Left::Drawing(items) => return items.next().map_or(Step::End, Step::Found),
+            Left::One(item) => return item.take().map_or(Step::End, Step::Found),
         };
-        let found = loop {
-            *number += 1;
-            match next_line(name, *number, lines.as_mut()) {
-                Ok(Some(_)) if self.only.is_some_and(|only| only != *number) => {}
-                Ok(Some(line)) if lines::is_passed_over(&line) => {}
-                Ok(Some(line)) if !lines::is_text(&line) => break Some(Err(no_text(name, *number, &line))),
-                Ok(Some(line)) => return Some(item(name, *number, &line)),
-                Ok(None) => break None,
-                Err(failure) => break Some(Err(failure)),
-            }
+        *number += 1;
+        let last = match next_line(name, *number, lines) {
+            Ok(Some(_)) if self.only.is_some_and(|only| only != *number) => return Step::PassedOver,
+            Ok(Some(line)) if lines::is_passed_over(&line) => return Step::PassedOver,
+            Ok(Some(line)) if !lines::is_text(&line) => Step::Found(Err(no_text(name, *number, &line))),
+            Ok(Some(line)) => return Step::Found(item(name, *number, &line)),
+            Ok(None) => Step::End,
+            Err(failure) => Step::Found(Err(failure)),
         };
         self.left = Left::One(None);
-        found
+        last
     }
 }
 
@@ -265,7 +330,7 @@ fn payload(file: &OsStr) -> Result<Vec<u8>, Failure> {
 /// A file that is no payload, by its first letters.
 enum Opened {
     Drawing(Drawing),
-    Lines(Box<dyn Read>),
+    Lines(Box<dyn Read + Send>),
 }
 
 fn opened(file: &OsStr) -> Result<Opened, Failure> {
@@ -280,7 +345,7 @@ fn opened(file: &OsStr) -> Result<Opened, Failure> {
     })
 }
 
-fn open(file: &OsStr) -> Result<Box<dyn Read>, Failure> {
+fn open(file: &OsStr) -> Result<Box<dyn Read + Send>, Failure> {
     if file == "-" {
         return Ok(Box::new(streams::input()));
     }
@@ -311,5 +376,19 @@ mod tests {
         assert_eq!(items.next().unwrap().unwrap_err().status(), 2);
         assert!(matches!(items.next().unwrap().unwrap().entry, Entry::Prefix(_)));
         assert!(items.next().is_none());
+    }
+
+    #[test]
+    fn batches_have_all_items_and_wait_for_none() {
+        // Three lines are there at once, the fourth comes later.
+        let input = b"hatch 2 0 A9AAA0\nnothing\n# a comment\n".chain(&b"prefix 2 0 85D08740\n"[..]);
+        let mut items = Items::of_lines("file.txt".to_string(), input);
+        let first = items.batch(1 << 16).expect("a batch");
+        assert!(first.items.len() == 2 && first.items[0].is_ok() && first.items[1].is_err() && first.size() > 3);
+        assert_eq!(items.batch(1 << 16).expect("a batch").items.len(), 1);
+        assert!(items.batch(1 << 16).is_none());
+        // A batch ends once it has enough.
+        let mut items = Items::of_lines("file.txt".to_string(), &b"hatch 2 0 A9AAA0\nhatch 2 0 A9AAA0\n"[..]);
+        assert_eq!([1, 1].map(|bytes| items.batch(bytes).expect("a batch").items.len()), [1, 1]);
     }
 }

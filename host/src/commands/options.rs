@@ -7,6 +7,7 @@ use dwg_hatch::Release;
 
 use crate::commands::failure::{shown, Failure};
 use crate::commands::input::{Binary, BinaryStrings, Input, Kind};
+use crate::jobs::{self, MOST_JOBS};
 use crate::protocol::request::number;
 
 /// What a command takes beside its input.
@@ -21,6 +22,9 @@ pub struct Command {
     /// Its own options that take a value each, such as `--output`.
     pub values: &'static [&'static str],
 }
+
+/// The option that says how many jobs work side by side.
+pub const JOBS: &str = "--jobs";
 
 /// The options that say what a binary file is; the last three go with a hatch.
 const BINARY: [&str; 5] = ["--release", "--start", "--strings", "--string-start", "--string-end"];
@@ -158,10 +162,21 @@ impl Command {
         number(bytes).map(Some).ok_or_else(wrong)
     }
 
+    /// How many jobs work side by side: as `--jobs` says, else as many as the machine has cores.
+    pub fn jobs(&self, options: &Options) -> Result<usize, Failure> {
+        options.value(JOBS).map_or_else(|| Ok(jobs::cores()), |value| counted_jobs(value).map_err(|line| self.usage(line)))
+    }
+
     /// Bad usage of this command.
     pub fn usage(&self, line: String) -> Failure {
         Failure::Usage(format!("{line}; dwg-hatch {} --help says more", self.name))
     }
+}
+
+/// The number of jobs that a word names, or what is wrong with it.
+pub fn counted_jobs(word: &OsStr) -> Result<usize, String> {
+    let given = number(word.as_bytes()).and_then(|jobs| usize::try_from(jobs).ok()).filter(|jobs| (1..=MOST_JOBS).contains(jobs));
+    given.ok_or_else(|| format!("{JOBS} is \"{}\", which is no number from 1 to {MOST_JOBS}", shown(word.as_bytes())))
 }
 
 #[cfg(test)]
