@@ -2,6 +2,7 @@
 
 mod commands;
 mod jobs;
+mod progress;
 mod protocol;
 
 use std::env;
@@ -14,6 +15,7 @@ use commands::failure::{shown, Failure};
 use commands::help::TRY_HELP;
 use commands::options::{counted_jobs, Asked, Command};
 use commands::{draw, help, read};
+use progress::{Counted, Progress};
 
 fn main() -> ExitCode {
     let words: Vec<OsString> = env::args_os().skip(1).collect();
@@ -45,14 +47,21 @@ fn run(words: &[OsString]) -> Result<u8, Failure> {
 fn reads(command: &Command, help: &str, words: &[OsString]) -> Result<u8, Failure> {
     match command.parse(words)? {
         Asked::Help => print(help),
-        Asked::Run { options, input } => read::run(command, &options, &input, io::stdout().lock(), io::stderr().lock()),
+        Asked::Run { options, input } => {
+            let _progress = Progress::start(input.length(), true);
+            read::run(command, &options, &input, io::stdout().lock(), io::stderr())
+        }
     }
 }
 
 fn draws(words: &[OsString]) -> Result<u8, Failure> {
     match draw::DRAW.parse(words)? {
         Asked::Help => print(help::DRAW_HELP),
-        Asked::Run { options, input } => draw::run(&options, &input, io::stdout().lock(), io::stderr().lock()),
+        Asked::Run { options, input } => {
+            // A file is read twice, and a picture may have a file of its own.
+            let _progress = Progress::start(input.length().map(|length| 2 * length), draw::writes_to_stdout(&options));
+            draw::run(&options, &input, io::stdout().lock(), io::stderr())
+        }
     }
 }
 
@@ -72,7 +81,8 @@ fn answer(words: &[OsString]) -> Result<u8, Failure> {
             word => return Err(usage(format!("answer takes no \"{}\"", shown(word)))),
         }
     }
-    protocol::answer::run(io::stdin(), io::stdout().lock(), f64_entries, jobs)?;
+    let _progress = Progress::start(progress::length_of_stdin(), true);
+    protocol::answer::run(Counted(io::stdin()), io::stdout().lock(), f64_entries, jobs)?;
     Ok(0)
 }
 

@@ -12,6 +12,7 @@ use std::os::unix::ffi::OsStrExt;
 use crate::commands::failure::{shown, Failure};
 use crate::commands::lines;
 use crate::jobs::Batch;
+use crate::progress::Counted;
 use crate::protocol::payload::{Payload, LIMIT};
 use crate::protocol::request::{HatchRequest, PrefixRequest, Request, Strings};
 
@@ -110,6 +111,12 @@ impl Input {
         };
         let (Input::Requests(file) | Input::Binary(Binary { file, .. })) = self;
         [Some(file), strings].into_iter().flatten().all(|file| file != "-" && fs::metadata(file).is_ok_and(|file| file.is_file()))
+    }
+
+    /// How many bytes all its files have, if it can be read again.
+    pub fn length(&self) -> Option<u64> {
+        let lengths = self.files().into_iter().map(|file| fs::metadata(file).map(|file| file.len()).ok());
+        if self.can_be_read_again() { lengths.sum() } else { None }
     }
 
     /// The files that are read; standard input is none.
@@ -306,10 +313,10 @@ fn payload(file: &OsStr) -> Result<Vec<u8>, Failure> {
 
 fn open(file: &OsStr) -> Result<Box<dyn Read + Send>, Failure> {
     if file == "-" {
-        return Ok(Box::new(io::stdin()));
+        return Ok(Box::new(Counted(io::stdin())));
     }
     let open = File::open(file).map_err(|error| unreadable(&name(file), &error))?;
-    Ok(Box::new(open))
+    Ok(Box::new(Counted(open)))
 }
 
 /// A file's name for messages.
