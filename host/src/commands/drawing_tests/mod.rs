@@ -1,19 +1,20 @@
-//! Drawings made here, whole and damaged at every byte: no panic, and not more work than the file is long. In [`wrong`] each number is wrong in turn.
+//! What `cut`, `read`, `prefix` and `draw` make of drawings made here, whole and damaged at every byte: no panic, and not more work than the file is
+//! long. In [`wrong`] each number is wrong in turn.
 
 mod wrong;
 
-#[path = "../../../../tests/layouts/mod.rs"]
+#[path = "../../../tests/layouts/mod.rs"]
 mod layouts;
-#[path = "../../../../tests/records/mod.rs"]
+#[path = "../../../tests/records/mod.rs"]
 mod records;
 
 use dwg_hatch::HatchPath;
 
-use super::*;
-use crate::commands::draw;
+use crate::commands::cut::{self, letters, CUT};
 use crate::commands::failure::Failure;
-use crate::commands::options::Asked;
-use crate::commands::read;
+use crate::commands::input::{Input, Kind};
+use crate::commands::options::{Asked, Options};
+use crate::commands::{draw, read};
 use layouts::{Bits, Numbers, Plan};
 use records::{drawing_of, Record, HATCH};
 
@@ -46,7 +47,7 @@ fn given(test: &str, bytes: &[u8], kind: Kind, command: impl FnOnce(&Input, &mut
 fn cut_of(test: &str, bytes: &[u8], word: &str) -> Given {
     let words: Vec<_> = word.split_whitespace().map(Into::into).collect();
     let Ok(Asked::Run { options, .. }) = CUT.parse(&words) else { panic!("{words:?}") };
-    given(test, bytes, Kind::Hatch, |input, output, errors| run(&options, input, output, errors))
+    given(test, bytes, Kind::Hatch, |input, output, errors| cut::run(&options, input, output, errors))
 }
 
 fn read_of(test: &str, bytes: &[u8], kind: Kind) -> Given {
