@@ -1,18 +1,20 @@
 //! The command-line tool: the line protocol and the commands, over the library.
 
 mod commands;
+mod jobs;
 mod protocol;
 
 use std::env;
-use std::ffi::OsString;
+use std::ffi::{OsStr, OsString};
 use std::io::{self, Write};
+use std::os::unix::ffi::OsStrExt;
 use std::process::ExitCode;
 
 use commands::failure::{shown, Failure};
 use commands::help::TRY_HELP;
-use commands::options::{Asked, Command};
+use commands::options::{counted_jobs, Asked, Command};
 use commands::streams::{self, NamedInput};
-use commands::{draw, help, read};
+use commands::{cut, draw, help, read};
 
 fn main() -> ExitCode {
     let words: Vec<OsString> = env::args_os().skip(1).collect();
@@ -34,6 +36,7 @@ fn run(words: &[OsString]) -> Result<u8, Failure> {
         Some("read") => reads(&read::READ, help::READ_HELP, words),
         Some("prefix") => reads(&read::PREFIX, help::PREFIX_HELP, words),
         Some("draw") => draws(words),
+        Some("cut") => cuts(words),
         Some("answer") => answer(words),
         Some("help") => print(help_about(words)?),
         Some("--help" | "-h") if words.is_empty() => print(help::HELP),
@@ -71,16 +74,30 @@ fn draws(words: &[OsString]) -> Result<u8, Failure> {
     }
 }
 
+fn cuts(words: &[OsString]) -> Result<u8, Failure> {
+    match cut::CUT.parse(words)? {
+        Asked::Help => print(help::CUT_HELP),
+        Asked::Run { options, input } => cut::run(&options, &input, streams::output(), io::stderr().lock()),
+    }
+}
+
 fn answer(words: &[OsString]) -> Result<u8, Failure> {
-    let mut f64_entries = false;
-    for word in words {
+    let (mut f64_entries, mut jobs) = (false, jobs::cores());
+    let usage = |line: String| Failure::Usage(format!("{line}; dwg-hatch answer --help says what it takes"));
+    let mut words = words.iter();
+    while let Some(word) = words.next() {
         match word.as_encoded_bytes() {
             b"--help" | b"-h" => return print(help::ANSWER_HELP),
             b"--f64" => f64_entries = true,
-            word => return Err(Failure::Usage(format!("answer takes no \"{}\"; dwg-hatch answer --help says what it takes", shown(word)))),
+            b"--jobs" => {
+                let value = words.next().ok_or_else(|| usage("--jobs is given without its value".to_string()))?;
+                jobs = counted_jobs(value).map_err(usage)?;
+            }
+            [b'-', b'-', b'j', b'o', b'b', b's', b'=', value @ ..] => jobs = counted_jobs(OsStr::from_bytes(value)).map_err(usage)?,
+            word => return Err(usage(format!("answer takes no \"{}\"", shown(word)))),
         }
     }
-    protocol::answer::run(NamedInput(streams::input()), streams::output(), f64_entries)?;
+    protocol::answer::run(NamedInput(streams::input()), streams::output(), f64_entries, jobs)?;
     Ok(0)
 }
 

@@ -8,8 +8,8 @@ const RULES: [(&str, &[&str]); 5] = [
     ("boundary", &["crate::", "super::calls", "dwg_hatch::"]),
     ("calls", &["crate::protocol", "crate::commands"]),
     ("protocol", &["commands::", "boundary::"]),
-    ("commands/read", &["commands::draw", "super::draw", "boundary::"]),
-    ("commands/draw", &["commands::read", "super::read", "boundary::"]),
+    ("commands/read", &["commands::draw", "commands::cut", "super::draw", "super::cut", "boundary::"]),
+    ("commands/draw", &["commands::read", "commands::cut", "super::read", "super::cut", "boundary::"]),
 ];
 
 fn files(folder: &Path) -> Vec<PathBuf> {

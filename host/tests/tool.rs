@@ -97,7 +97,7 @@ fn lines_of_any_bytes_are_answered() {
 #[test]
 fn help_is_there_for_all_commands() {
     let help = answers(&["--help"], b"");
-    for (command, option) in [("answer", "--f64"), ("read", "--json"), ("prefix", "--json"), ("draw", "--view")] {
+    for (command, option) in [("answer", "--f64"), ("read", "--json"), ("prefix", "--json"), ("draw", "--view"), ("cut", "--prefixes")] {
         assert!(help.contains(&format!("\n  {command} ")), "{command}");
         for word in ["--help", "-h"] {
             let help = answers(&[command, word], b"");
@@ -109,7 +109,7 @@ fn help_is_there_for_all_commands() {
 #[test]
 fn help_is_a_command_too() {
     assert_eq!(answers(&["help"], b""), answers(&["--help"], b""));
-    for command in ["read", "prefix", "draw", "answer"] {
+    for command in ["read", "prefix", "draw", "cut", "answer"] {
         assert_eq!(answers(&["help", command], b""), answers(&[command, "--help"], b""));
     }
     for words in [&["help", "nothing"][..], &["help", "read", "draw"], &["help", ""], &["--help", "read"]] {
@@ -141,7 +141,7 @@ fn streams_that_are_closed_or_full_are_one_line_and_status_1() {
             assert!(line.contains(told), "{words} {to}: {line}");
         }
     }
-    for command in ["read", "prefix", "draw", "answer", "read --release 2"] {
+    for command in ["read", "prefix", "draw", "cut", "answer", "read --release 2"] {
         let line = refuses(&shell(&format!("\"$0\" {command} <&-")), 1);
         assert!(line.contains("standard input cannot be read: it is closed"), "{command}: {line}");
     }

@@ -12,6 +12,10 @@ pub enum Failure {
     Read(String),
     /// Something cannot be drawn, or a picture cannot be written: status 1.
     Draw(String),
+    /// A whole drawing, or an object in it, is not as it should be: status 1.
+    Drawing(String),
+    /// All is well, and there is nothing to read: status 0.
+    Nothing(String),
     /// Standard input cannot be read or standard output not be written, which the error says: status 1.
     Io(io::Error),
 }
@@ -20,8 +24,9 @@ impl Failure {
     /// The tool's status.
     pub fn status(&self) -> u8 {
         match self {
+            Failure::Nothing(_) => 0,
             Failure::Usage(_) => 2,
-            Failure::Read(_) | Failure::Draw(_) | Failure::Io(_) => 1,
+            Failure::Read(_) | Failure::Draw(_) | Failure::Drawing(_) | Failure::Io(_) => 1,
         }
     }
 
@@ -34,7 +39,7 @@ impl Failure {
 impl fmt::Display for Failure {
     fn fmt(&self, f: &mut fmt::Formatter<'_>) -> fmt::Result {
         match self {
-            Failure::Usage(line) | Failure::Read(line) | Failure::Draw(line) => f.write_str(line),
+            Failure::Usage(line) | Failure::Read(line) | Failure::Draw(line) | Failure::Drawing(line) | Failure::Nothing(line) => f.write_str(line),
             Failure::Io(error) => write!(f, "{error}"),
         }
     }

@@ -1,5 +1,7 @@
 //! The commands: what they take, where their input is, and what they write. Reading and drawing stand apart; both know the protocol's requests.
 
+pub mod angles;
+pub mod cut;
 pub mod draw;
 pub mod each;
 pub mod failure;

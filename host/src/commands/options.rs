@@ -7,6 +7,7 @@ use dwg_hatch::Release;
 
 use crate::commands::failure::{shown, Failure};
 use crate::commands::input::{Binary, BinaryStrings, Input, Kind};
+use crate::jobs::{self, MOST_JOBS};
 use crate::protocol::request::number;
 
 /// What a command takes beside its input.
@@ -21,6 +22,9 @@ pub struct Command {
     /// Its own options that take a value each, such as `--output`.
     pub values: &'static [&'static str],
 }
+
+/// The option that says how many jobs work side by side.
+pub const JOBS: &str = "--jobs";
 
 /// The options that say what a binary file is; the last three go with a hatch.
 const BINARY: [&str; 5] = ["--release", "--start", "--strings", "--string-start", "--string-end"];
@@ -114,7 +118,7 @@ impl Command {
         let Some(release) = self.release(options)? else {
             return match BINARY.iter().find(|name| options.has(name)) {
                 Some(name) => Err(self.usage(format!("{name} goes with --release N, which says that the file is binary"))),
-                None => Ok(Input::Requests(file)),
+                None => Ok(Input::Requests(file, self.kind)),
             };
         };
         let start = self.place(options, "--start")?.unwrap_or(0);
@@ -158,10 +162,21 @@ impl Command {
         number(bytes).map(Some).ok_or_else(wrong)
     }
 
+    /// How many jobs work side by side: as `--jobs` says, else as many as the machine has cores.
+    pub fn jobs(&self, options: &Options) -> Result<usize, Failure> {
+        options.value(JOBS).map_or_else(|| Ok(jobs::cores()), |value| counted_jobs(value).map_err(|line| self.usage(line)))
+    }
+
     /// Bad usage of this command.
     pub fn usage(&self, line: String) -> Failure {
         Failure::Usage(format!("{line}; dwg-hatch {} --help says more", self.name))
     }
+}
+
+/// The number of jobs that a word names, or what is wrong with it.
+pub fn counted_jobs(word: &OsStr) -> Result<usize, String> {
+    let given = number(word.as_bytes()).and_then(|jobs| usize::try_from(jobs).ok()).filter(|jobs| (1..=MOST_JOBS).contains(jobs));
+    given.ok_or_else(|| format!("{JOBS} is \"{}\", which is no number from 1 to {MOST_JOBS}", shown(word.as_bytes())))
 }
 
 #[cfg(test)]
@@ -173,7 +188,7 @@ mod tests {
         let read = Command { name: "read", kind: Kind::Hatch, switches: &["--json"], values: &[] };
         let words = |line: &str| line.split(' ').map(Into::into).collect::<Vec<OsString>>();
         let Ok(Asked::Run { options, input }) = read.parse(&words("--json requests.txt")) else { panic!("no work") };
-        assert!(options.has("--json") && input == Input::Requests("requests.txt".into()));
+        assert!(options.has("--json") && input == Input::Requests("requests.txt".into(), Kind::Hatch));
         let failure = read.parse(&words("--start 3 body.bin")).unwrap_err();
         assert_eq!(failure.to_string(), "--start goes with --release N, which says that the file is binary; dwg-hatch read --help says more");
     }

@@ -2,7 +2,7 @@
 
 use std::ffi::{OsStr, OsString};
 use std::fs::{self, File, OpenOptions};
-use std::io::{self, Write};
+use std::io::{self, BufWriter, Write};
 use std::os::unix::ffi::OsStrExt;
 use std::path::{Path, PathBuf};
 
@@ -19,9 +19,9 @@ pub fn is_no_input(file: &OsStr, input: &Input) -> Result<(), Failure> {
     }
 }
 
-/// Puts the bytes into a file. They are written to a new file beside it, which then takes its name, so that whatever fails leaves the old file,
+/// Writes a file by what is given. It is written to a new file beside it, which then takes its name, so that whatever fails leaves the old file,
 /// or none.
-pub fn write(file: &OsStr, bytes: &[u8]) -> Result<(), Failure> {
+pub fn write<T>(file: &OsStr, put: impl FnOnce(&mut BufWriter<&File>) -> Result<T, Failure>) -> Result<T, Failure> {
     let unwritable = |error: io::Error| {
         let advice = "name a file in a folder that can be written to, or leave --output out";
         Failure::Draw(format!("{} cannot be written: {error}; {advice}", shown(file.as_bytes())))
@@ -39,12 +39,18 @@ pub fn write(file: &OsStr, bytes: &[u8]) -> Result<(), Failure> {
     if old.is_some() {
         OpenOptions::new().append(true).open(&path).map_err(unwritable)?;
     }
-    let (beside, mut new) = beside(&path).map_err(unwritable)?;
-    let written = new.write_all(bytes).and_then(|()| new.sync_all());
-    let written = written.and_then(|()| old.map_or(Ok(()), |old| new.set_permissions(old.permissions())));
-    written.and_then(|()| fs::rename(&beside, &path)).map_err(|error| {
+    let (beside, new) = beside(&path).map_err(unwritable)?;
+    let mut writer = BufWriter::with_capacity(1 << 16, &new);
+    let written = put(&mut writer).and_then(|given| {
+        writer.flush()?;
+        new.sync_all()?;
+        old.map_or(Ok(()), |old| new.set_permissions(old.permissions()))?;
+        fs::rename(&beside, &path)?;
+        Ok(given)
+    });
+    written.map_err(|failure| {
         let _ = fs::remove_file(&beside);
-        unwritable(error)
+        if let Failure::Io(error) = failure { unwritable(error) } else { failure }
     })
 }
 

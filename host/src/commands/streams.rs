@@ -1,7 +1,7 @@
 //! Standard input and output: what fails says which stream it is, and one that is closed is an error and no silence.
 
 use std::fs;
-use std::io::{self, Read, StdinLock, StdoutLock, Write};
+use std::io::{self, Read, Stdin, StdoutLock, Write};
 use std::sync::atomic::{AtomicBool, Ordering};
 
 /// Whether standard input and standard output were closed when the tool was started. Before `main` Rust opens /dev/null in the place of a closed one, where
@@ -26,7 +26,7 @@ extern "C" {
 const F_GETFD: i32 = 1;
 
 /// Standard input. Its errors do not say which file it is, since who reads files says so of each.
-pub struct Input(StdinLock<'static>);
+pub struct Input(Stdin);
 
 /// Standard input, whose errors say what it is.
 pub struct NamedInput(pub Input);
@@ -36,7 +36,7 @@ pub struct Output(StdoutLock<'static>);
 
 /// Standard input, for one reader.
 pub fn input() -> Input {
-    Input(io::stdin().lock())
+    Input(io::stdin())
 }
 
 /// Standard output, for one writer.

@@ -1,10 +1,12 @@
 //! Answers to request lines, as the protocol fixes them.
 
 use std::fmt::{self, Display, Write as _};
-use std::io::{self, BufRead, BufReader, BufWriter, Read, Write};
+use std::io::{self, Read, Write};
 
 use dwg_hatch::{CommonEntityData, Reading, Refusal, Source, Text};
 
+use crate::jobs;
+use crate::protocol::batches::{Batches, Lines};
 use crate::protocol::hatch_form;
 use crate::protocol::payload::Zeros;
 use crate::protocol::request::{self, Code, CodeRequest, HatchRequest, PrefixRequest, Request, TextRequest};
@@ -35,6 +37,13 @@ impl Answerer {
             Some(Request::Hatch(request)) => self.hatch(&request),
             None => BAD_REQUEST.to_string(),
         }
+    }
+
+    /// The answers to some lines, each with a line end.
+    fn lines(&mut self, lines: &[u8]) -> String {
+        let mut answers = String::with_capacity(2 * lines.len());
+        lines.split_inclusive(|byte| *byte == b'\n').for_each(|line| answers.extend([self.line(line).as_str(), "\n"]));
+        answers
     }
 
     fn code(&mut self, request: &CodeRequest) -> String {
@@ -213,24 +222,19 @@ fn refused(refusal: &Refusal) -> String {
     format!("err {} {} {}", refusal.number(), refusal.place, refusal.second_place)
 }
 
-/// Answers every line of `input` on `output`, in order.
+/// Answers every line of `input` on `output`, in order, by so many jobs.
 ///
-/// Answers are written out before the input is waited for, so that a program that asks line by line is not left waiting, and at the end.
-pub fn run(input: impl Read, output: impl Write, f64_entries: bool) -> io::Result<()> {
-    let mut input = BufReader::with_capacity(1 << 16, input);
-    let mut output = BufWriter::with_capacity(1 << 16, output);
-    let mut answerer = Answerer::new(f64_entries);
-    let mut line = Vec::new();
-    loop {
-        if input.buffer().is_empty() {
-            output.flush()?;
-        }
-        line.clear();
-        if input.read_until(b'\n', &mut line)? == 0 {
-            return output.flush();
-        }
-        writeln!(output, "{}", answerer.line(&line))?;
-    }
+/// Answers are written out while the input is waited for, so that a program that asks line by line is not left waiting.
+pub fn run(input: impl Read + Send + 'static, mut output: impl Write, f64_entries: bool, jobs: usize) -> io::Result<()> {
+    let mut batches = Batches::new(input);
+    let worker = move || {
+        let mut answerer = Answerer::new(f64_entries);
+        move |lines: io::Result<Lines>| lines.map(|lines| answerer.lines(&lines.0))
+    };
+    jobs::in_order(jobs, move || batches.next(), worker, |answers: io::Result<String>| {
+        output.write_all(answers?.as_bytes())?;
+        output.flush()
+    })
 }
 
 #[cfg(test)]
@@ -250,9 +254,11 @@ mod tests {
 
     #[test]
     fn lines_are_answered_in_order() {
-        let mut output = Vec::new();
-        run(&b"b 1 0 80\nbb 1 0 -\n"[..], &mut output, false).unwrap();
-        assert_eq!(output, b"ok 1 1\nerr 1 0 0\n");
+        for jobs in [1, 3] {
+            let mut output = Vec::new();
+            run(&b"b 1 0 80\nbb 1 0 -"[..], &mut output, false, jobs).unwrap();
+            assert_eq!(output, b"ok 1 1\nerr 1 0 0\n", "{jobs} jobs");
+        }
     }
 
     // Today's library hands over this very NaN, but no contract of its f64 entries promises a pattern, so no request can test this.

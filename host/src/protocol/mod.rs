@@ -1,6 +1,7 @@
 //! The line protocol: a line as a request, a request as calls of the library, and what they give as an answer line. It knows nothing of the commands.
 
 pub mod answer;
+pub mod batches;
 pub mod hatch_form;
 pub mod lists;
 pub mod payload;

@@ -5,6 +5,7 @@ use std::f64::consts::{PI, TAU};
 use dwg_hatch::{Point2D, Vertex};
 
 use super::runs::{self, Run, Step};
+use crate::commands::angles::Swept;
 
 /// Below this bulge a segment is drawn as a cubic Bezier curve, which is off the arc by less than 1e-11 of the chord. The arc's centre would
 /// be so far away that a picture's reader with single precision misses the arc's ends.
@@ -12,9 +13,6 @@ const FLAT_BULGE: f64 = 0.01;
 
 /// The angle of such a segment: a bulge is the tangent of a quarter of it.
 const FLAT_SWEEP: f64 = 0.04;
-
-/// Angles that differ by less than this from a whole turn are one: what was computed in single precision, 6.2831855, is a whole circle too.
-const SAME_ANGLE: f64 = 1e-6;
 
 /// A part of an ellipse: the points `center + major * cos t + minor * sin t`, where `minor` is `major` turned by a quarter counterclockwise
 /// and times `ratio`, for `t` from `start` to `start + sweep`.
@@ -34,11 +32,9 @@ pub struct Arc {
 
 impl Arc {
     /// The arc of an edge. Its angles are values of `t`; for an ellipse that is no circle they are not the angles of rays from the centre.
-    ///
-    /// Of a clockwise edge the angles are mirrored: they are measured clockwise too. So it runs from `-start_angle` clockwise to `-end_angle`.
-    pub fn of_edge(center: Point2D, major: Point2D, ratio: f64, [start, end]: [f64; 2], counter_clockwise: bool) -> Arc {
-        let sign = if counter_clockwise { 1.0 } else { -1.0 };
-        Arc { center, major, ratio, start: sign * start, sweep: sign * turn(start, end) }
+    pub fn of_edge(center: Point2D, major: Point2D, ratio: f64, angles: [f64; 2], counter_clockwise: bool) -> Arc {
+        let Swept { start, sweep } = Swept::of_edge(angles, counter_clockwise);
+        Arc { center, major, ratio, start, sweep }
     }
 
     /// The point at `t`.
@@ -107,14 +103,6 @@ impl Arc {
         let tangent = |t: f64| way(self.center, self.at(t + PI / 2.0));
         Step::Curve([moved(start, tangent(self.start), length), moved(end, tangent(self.start + self.sweep), -length), end])
     }
-}
-
-/// How far it is counterclockwise from one angle to another: nothing if they are equal, else a turn at most.
-fn turn(start: f64, end: f64) -> f64 {
-    let given = end - start;
-    let turn = given.rem_euclid(TAU);
-    let part = (SAME_ANGLE..=TAU - SAME_ANGLE).contains(&turn);
-    if !part && given.abs() > PI { TAU } else { turn }
 }
 
 /// A polyline's run; `None` if it has no vertices. Its closing segment has the last vertex's bulge; where it is open that bulge has no segment.

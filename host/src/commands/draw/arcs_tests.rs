@@ -111,16 +111,6 @@ fn a_clockwise_edge_has_mirrored_angles() {
 }
 
 #[test]
-fn turns_are_one_at_most() {
-    assert_eq!(turn(1.0, 1.0), 0.0);
-    let single = f64::from(TAU as f32);
-    assert!(single > TAU);
-    assert_eq!([turn(0.0, TAU), turn(0.0, single), turn(single, 0.0), turn(0.0, TAU - 2e-7), turn(TAU, 0.0), turn(0.0, 2.0 * TAU)], [TAU; 6]);
-    assert_eq!([turn(0.0, 1e-9), turn(0.0, 6.25)], [1e-9, 6.25]);
-    assert!((turn(0.0, 2.5 * PI) - FRAC_PI_2).abs() < 1e-12 && (turn(FRAC_PI_2, 0.0) - 1.5 * PI).abs() < 1e-12);
-}
-
-#[test]
 fn an_ellipse_is_turned_by_its_major_axis() {
     // The major axis points up, so the minor one points to the left.
     let arc = Arc::of_edge(point(10.0, 0.0), point(0.0, 4.0), 0.25, [0.0, FRAC_PI_2], true);

@@ -1,33 +1,18 @@
-//! A picture's text: SVG with a group for each hatch. Its coordinates are pixels, so that a line has the same width in a program that does not
-//! know `vector-effect`.
+//! A picture's text: SVG with a group for each hatch, written as the hatches come. Its coordinates are pixels, so that a line has the same width
+//! in a program that does not know `vector-effect`.
 
-use std::fmt::Write;
+use std::io::{self, Write};
 
 use dwg_hatch::Point2D;
 
-use super::arcs::Arc;
-use super::runs::{self, Run, Step};
+use super::area::Area;
+use super::figure::{characters, Figure};
+use super::frame;
+use super::gradients::{self, Frame};
+use super::names::Names;
+use super::patterns;
+use super::pen::{escaped, stroke, Pen};
 use super::view::{Extents, View};
-
-/// A hatch that is drawn.
-pub struct Figure {
-    /// Where it was asked for, and its pattern's name.
-    pub title: String,
-    /// Whether it is solid; else it is drawn lighter.
-    pub is_solid: bool,
-    /// Its boundary paths.
-    pub paths: Vec<Outline>,
-    /// Its seed points.
-    pub seeds: Vec<Point2D>,
-}
-
-/// A boundary path that is drawn.
-pub struct Outline {
-    /// Which path it is, and what it is made of.
-    pub title: String,
-    /// Its runs, one at least.
-    pub runs: Vec<Run>,
-}
 
 /// Colours of the outlines and, lighter, of what they hold. Hatches take them in turn, so that neighbours differ.
 const COLOURS: [&str; 6] = ["#1f5fa8", "#b3541e", "#2c7d4f", "#8a3c8c", "#8f7a12", "#b02a45"];
@@ -36,37 +21,164 @@ const STYLE: &str = "\
 path { fill: none; stroke: currentColor; stroke-width: 1.5; stroke-linecap: round; stroke-linejoin: round; vector-effect: non-scaling-stroke }
 .fill { fill: currentColor; fill-opacity: 0.22; fill-rule: evenodd; stroke: none }
 .lined { fill-opacity: 0.08 }
+.gradient { fill-opacity: 0.75 }
+.pattern { stroke-width: 1 }
 .instead { stroke-dasharray: 6 4 }
 .seed { stroke: #000 }
-text { font: 16px sans-serif }";
+text { font: 16px sans-serif }
+.name { font-size: 12px; stroke: #fff; stroke-width: 4; stroke-linejoin: round; paint-order: stroke }
+.frame rect { fill: none; stroke: #888 }
+.frame line { stroke: #444 }
+.frame text { font-size: 11px; fill: #444; stroke: #fff; stroke-width: 3; stroke-linejoin: round; paint-order: stroke }
+.bar line { stroke-width: 1.5 }";
 
-/// Half of the length of a seed's cross, in pixels.
-const CROSS: f64 = 4.0;
+/// A hatch that is smaller than this in the picture, in pixels, is a dot.
+pub const DOT: f64 = 3.0;
 
-/// Above this part of a turn an arc is written as two halves: the ends of a whole circle are one point, which gives no arc.
-const GREATEST_SWEEP: f64 = 1.5 * std::f64::consts::PI;
-
-impl Figure {
-    /// The extents of all that is drawn of it.
-    pub fn extents(&self) -> Extents {
-        let mut extents = Extents::default();
-        self.paths.iter().flat_map(|path| &path.runs).for_each(|run| run.widen(&mut extents));
-        self.seeds.iter().for_each(|seed| extents.include(*seed));
-        extents
-    }
+/// A hatch of a picture, for messages.
+#[derive(Clone, Copy, Debug)]
+pub struct Seen {
+    /// The number of its request line, if it has one.
+    pub line: Option<u64>,
+    /// Its extents.
+    pub extents: Extents,
 }
 
-/// The picture of some hatches. `precision` is what the coordinates were narrowed to before.
-pub fn picture(name: &str, precision: &str, figures: &[Figure], view: &View) -> String {
-    let Point2D { x, y } = view.corner();
-    let head = format!("Hatch outlines in {precision} precision. The point ({x:?}, {y:?}) of the drawing is this picture's upper left corner");
-    let mut svg = opened(view.width, view.height, name, &format!("{head}, and a unit of it is {:?} pixels here.", view.scale));
-    let seen: Vec<usize> = (0..figures.len()).filter(|at| figures[*at].extents().meets(&view.extents)).collect();
-    seen.iter().for_each(|at| group(&mut svg, &figures[*at], COLOURS[at % COLOURS.len()], view));
-    if seen.is_empty() {
-        svg += &note("Nothing of the drawing lies in this view.");
+/// What a picture shows.
+#[derive(Debug, Default)]
+pub struct Shown {
+    /// How many hatches it has.
+    pub hatches: usize,
+    /// How many of them are dots, and the first one.
+    pub dots: usize,
+    pub first_dot: Option<Seen>,
+    /// How many hatches have no pattern lines, since there would be too many, and the first one.
+    pub floods: usize,
+    pub first_flood: Option<Seen>,
+}
+
+/// A picture that is being written.
+pub struct Sheet<'a, Out> {
+    out: Out,
+    view: &'a View,
+    /// How many strokes of pattern lines may still be drawn.
+    strokes_left: usize,
+    names: Names,
+    shown: Shown,
+}
+
+impl<'a, Out: Write> Sheet<'a, Out> {
+    /// Starts a picture. `precision` is what the coordinates were narrowed to before; of pattern lines so many strokes at most are drawn.
+    pub fn open(mut out: Out, name: &str, precision: &str, view: &'a View, most_strokes: usize) -> io::Result<Sheet<'a, Out>> {
+        let Point2D { x, y } = view.corner();
+        let head = format!("Hatch outlines in {precision} precision. The point ({x:?}, {y:?}) of the drawing is this picture's upper left corner");
+        out.write_all(opened(view.width, view.height, name, &format!("{head}, and a unit of it is {:?} pixels here.", view.scale)).as_bytes())?;
+        Ok(Sheet { out, view, strokes_left: most_strokes, names: Names::default(), shown: Shown::default() })
     }
-    svg + "</svg>\n"
+
+    /// Draws the hatch with this number, if any of it is in view.
+    pub fn add(&mut self, at: usize, figure: &Figure) -> io::Result<()> {
+        let extents = figure.extents();
+        if !extents.meets(&self.view.extents) {
+            return Ok(());
+        }
+        let seen = Seen { line: figure.line, extents };
+        self.count(&seen);
+        let (colour, frame) = (COLOURS[at % COLOURS.len()], placed(self.view, &extents));
+        writeln!(self.out, "<g color=\"{colour}\"><title>{}</title>", escaped(&figure.title))?;
+        self.fill(at, figure, &frame)?;
+        let (visible, names) = (inset(self.view, &frame), figure.names());
+        let (is_lined, is_named) = (figure.pattern_lines().next().is_some() && self.strokes_left > 0, self.names.may_fit(&names, &visible));
+        let mut area = Area::default();
+        if is_lined || is_named {
+            figure.outlines().for_each(|path| area.add(&path.runs, self.view));
+        }
+        if is_lined {
+            self.pattern(figure, &seen, &area)?;
+        }
+        self.outlines(figure)?;
+        if is_named {
+            self.names.add(&names, colour, &area, &visible);
+        }
+        writeln!(self.out, "</g>")
+    }
+
+    /// Ends the picture, and gives what it shows.
+    pub fn close(mut self) -> io::Result<Shown> {
+        if self.shown.hatches == 0 {
+            self.out.write_all(note("Nothing of the drawing lies in this view.").as_bytes())?;
+        }
+        write!(self.out, "{}{}</svg>\n", self.names.text(), frame::frame(self.view))?;
+        self.out.flush()?;
+        Ok(self.shown)
+    }
+
+    fn count(&mut self, seen: &Seen) {
+        let Extents { least, greatest } = seen.extents;
+        self.shown.hatches += 1;
+        if (greatest.x - least.x).max(greatest.y - least.y) * self.view.scale < DOT {
+            self.shown.dots += 1;
+            self.shown.first_dot.get_or_insert(*seen);
+        }
+    }
+
+    /// The area, in its gradient if it has one.
+    fn fill(&mut self, at: usize, figure: &Figure, frame: &Frame) -> io::Result<()> {
+        let mut outlines = figure.outlines().peekable();
+        if outlines.peek().is_none() {
+            return Ok(());
+        }
+        let (id, name) = (format!("gradient-{}", at + 1), figure.typed.gradient_name.as_ref().map(characters));
+        let gradient = figure.typed.hatch.gradient.as_ref();
+        let gradient = gradient.and_then(|fill| gradients::definition(&id, fill, name.as_deref(), figure.is_mirrored, frame));
+        let class = match &gradient {
+            Some(_) => format!("fill gradient\" style=\"fill: url(#{id})"),
+            None if figure.typed.hatch.solid_fill => "fill".to_string(),
+            None => "fill lined".to_string(),
+        };
+        if let Some(definition) = gradient {
+            writeln!(self.out, "<defs>{definition}</defs>")?;
+        }
+        write!(self.out, "<path class=\"{class}\" d=\"")?;
+        let pen = Pen { view: self.view };
+        for outline in outlines {
+            self.out.write_all(pen.area(&outline.runs).as_bytes())?;
+        }
+        writeln!(self.out, "\"/>")
+    }
+
+    fn pattern(&mut self, figure: &Figure, seen: &Seen, area: &Area) -> io::Result<()> {
+        let strokes = patterns::strokes(figure.pattern_lines(), figure.is_mirrored, area, self.view, self.strokes_left);
+        let Some(strokes) = strokes else {
+            self.shown.floods += 1;
+            self.shown.first_flood.get_or_insert(*seen);
+            return Ok(());
+        };
+        self.strokes_left -= strokes.len();
+        if strokes.is_empty() {
+            return Ok(());
+        }
+        let data: String = strokes.into_iter().map(stroke).collect();
+        writeln!(self.out, "<path class=\"pattern\" d=\"{data}\"><title>pattern lines</title></path>")
+    }
+
+    /// The outlines' lines and the seed points.
+    fn outlines(&mut self, figure: &Figure) -> io::Result<()> {
+        let pen = Pen { view: self.view };
+        for path in figure.outlines() {
+            let title = escaped(&path.title);
+            let lines = |instead: bool| path.runs.iter().filter(|run| run.instead.is_some() == instead).map(|run| pen.line(run)).collect::<String>();
+            let classes = [("", lines(false)), (" class=\"instead\"", lines(true))];
+            let paths = classes.iter().filter(|(_, data)| !data.is_empty());
+            let text: String = paths.map(|(class, data)| format!("<path{class} d=\"{data}\"><title>{title}</title></path>\n")).collect();
+            self.out.write_all(text.as_bytes())?;
+        }
+        let crosses: String = figure.seeds().map(|seed| pen.cross(seed)).collect();
+        if crosses.is_empty() {
+            return Ok(());
+        }
+        writeln!(self.out, "<path class=\"seed\" d=\"{crosses}\"><title>seed points</title></path>")
+    }
 }
 
 /// The picture where there is nothing to draw.
@@ -89,121 +201,16 @@ fn opened(width: u32, height: u32, name: &str, description: &str) -> String {
     )
 }
 
-fn group(svg: &mut String, figure: &Figure, colour: &str, view: &View) {
-    let pen = Pen { view };
-    let mut add = |line: String| svg.extend([line.as_str(), "\n"]);
-    add(format!("<g color=\"{colour}\"><title>{}</title>", escaped(&figure.title)));
-    if !figure.paths.is_empty() {
-        let areas: String = figure.paths.iter().map(|path| pen.area(&path.runs)).collect();
-        let lined = if figure.is_solid { "" } else { " lined" };
-        add(format!("<path class=\"fill{lined}\" d=\"{areas}\"/>"));
-    }
-    for path in &figure.paths {
-        let title = escaped(&path.title);
-        for (class, instead) in [("", false), (" class=\"instead\"", true)] {
-            let lines: String = path.runs.iter().filter(|run| run.instead.is_some() == instead).map(|run| pen.line(run)).collect();
-            if !lines.is_empty() {
-                add(format!("<path{class} d=\"{lines}\"><title>{title}</title></path>"));
-            }
-        }
-    }
-    if !figure.seeds.is_empty() {
-        let crosses: String = figure.seeds.iter().map(|seed| pen.cross(*seed)).collect();
-        add(format!("<path class=\"seed\" d=\"{crosses}\"><title>seed points</title></path>"));
-    }
-    add("</g>".to_string());
+/// Extents in the picture.
+fn placed(view: &View, extents: &Extents) -> Frame {
+    let Extents { least, greatest } = extents;
+    Frame { least: view.place(Point2D { x: least.x, y: greatest.y }), greatest: view.place(Point2D { x: greatest.x, y: least.y }) }
 }
 
-/// Writes path data.
-struct Pen<'a> {
-    view: &'a View,
+/// The part of a box that is seen, without the picture's edges.
+fn inset(view: &View, frame: &Frame) -> Frame {
+    const EDGE: f64 = 8.0;
+    let [width, height] = [view.width, view.height].map(f64::from);
+    let least = Point2D { x: frame.least.x.max(EDGE), y: frame.least.y.max(EDGE) };
+    Frame { least, greatest: Point2D { x: frame.greatest.x.min(width - EDGE), y: frame.greatest.y.min(height - EDGE) } }
 }
-
-impl Pen<'_> {
-    /// A run's outline.
-    fn line(&self, run: &Run) -> String {
-        let close = if run.is_closed { "Z" } else { "" };
-        format!("M{}{}{close}", self.point(run.start), self.steps(&run.steps))
-    }
-
-    /// What a path's runs hold: one area, whose runs are joined where there is a gap between them.
-    fn area(&self, runs: &[Run]) -> String {
-        let mut data = String::new();
-        let mut at = None;
-        for run in runs::chained(runs) {
-            let start = self.point(run.start);
-            match &at {
-                None => data.extend(["M", &start]),
-                Some(end) if *end != start => data.extend(["L", &start]),
-                Some(_) => {}
-            }
-            data.push_str(&self.steps(&run.steps));
-            at = Some(self.point(run.end()));
-        }
-        data + "Z"
-    }
-
-    fn steps(&self, steps: &[Step]) -> String {
-        let step = |step: &Step| match step {
-            Step::Line(end) => format!("L{}", self.point(*end)),
-            Step::Curve(points) => format!("C{}", points.map(|point| self.point(point)).join(" ")),
-            Step::Arc(arc, end) if arc.sweep.abs() > GREATEST_SWEEP => {
-                let [first, second] = arc.halves();
-                self.arc(&first, first.at(second.start)) + &self.arc(&second, *end)
-            }
-            Step::Arc(arc, end) => self.arc(arc, *end),
-        };
-        steps.iter().map(step).collect()
-    }
-
-    /// Radii, the major axis's angle in degrees, whether it is more than half a turn, whether angles rise, and the end. In the picture y runs
-    /// down and angles rise clockwise, so the axis's angle changes its sign, and what is counterclockwise in both has falling angles.
-    fn arc(&self, arc: &Arc, end: Point2D) -> String {
-        let [major, minor] = arc.radii().map(|radius| number(radius * self.view.scale));
-        let angle = if major == minor { 0.0 } else { -arc.major.y.atan2(arc.major.x).to_degrees() };
-        let large = u8::from(arc.sweep.abs() > std::f64::consts::PI);
-        let rising = u8::from(!arc.is_counter_clockwise());
-        format!("A{major} {minor} {} {large} {rising} {}", number(angle), self.point(end))
-    }
-
-    fn cross(&self, seed: Point2D) -> String {
-        let Point2D { x, y } = self.view.place(seed);
-        let [left, right, up, down] = [x - CROSS, x + CROSS, y - CROSS, y + CROSS].map(number);
-        format!("M{left} {}L{right} {}M{} {up}L{} {down}", number(y), number(y), number(x), number(x))
-    }
-
-    fn point(&self, point: Point2D) -> String {
-        let Point2D { x, y } = self.view.place(point);
-        format!("{} {}", number(x), number(y))
-    }
-}
-
-/// A number of the picture, to a hundred-thousandth of a pixel.
-fn number(value: f64) -> String {
-    let mut text = String::new();
-    // Writing to a string does not fail.
-    let _ = write!(text, "{value:.5}");
-    let text = text.trim_end_matches('0').trim_end_matches('.');
-    if text == "-0" { "0".to_string() } else { text.to_string() }
-}
-
-/// Text as XML has it. Characters that XML does not allow, and those that control, are left out.
-fn escaped(text: &str) -> String {
-    let mut safe = String::with_capacity(text.len());
-    for letter in text.chars() {
-        match letter {
-            '&' => safe.push_str("&amp;"),
-            '<' => safe.push_str("&lt;"),
-            '>' => safe.push_str("&gt;"),
-            '"' => safe.push_str("&quot;"),
-            '\u{fffe}' | '\u{ffff}' => {}
-            letter if letter.is_control() => {}
-            letter => safe.push(letter),
-        }
-    }
-    safe
-}
-
-#[cfg(test)]
-#[path = "svg_tests.rs"]
-mod tests;

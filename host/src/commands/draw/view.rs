@@ -58,10 +58,21 @@ impl Extents {
         ([x, y].into_iter().all(near) && fits(width) && fits(height)).then_some(Extents { least: Point2D { x, y }, greatest })
     }
 
+    /// As `--view` takes it, in few digits: the corner rounded down and the sides up.
+    pub fn rounded(&self) -> String {
+        let Extents { least, greatest } = *self;
+        let side = (greatest.x - least.x).max(greatest.y - least.y);
+        let power = side.log10().floor() - 2.0;
+        let (step, decimals) = (10f64.powf(power), if power < 0.0 { -power as usize } else { 0 });
+        let corner = [least.x, least.y].map(|coordinate| (coordinate / step).floor() * step);
+        let sides = [greatest.x - corner[0], greatest.y - corner[1]].map(|side| (side / step).ceil() * step);
+        corner.into_iter().chain(sides).map(|number| format!("{number:.decimals$}")).collect::<Vec<String>>().join(",")
+    }
+
     /// With a margin on all sides. What has no extent, such as a single point, gets some.
     pub fn with_margin(&self) -> Extents {
         let Extents { least, greatest } = *self;
-        let farthest = [least.x, least.y, greatest.x, greatest.y].into_iter().fold(0.0, |far: f64, coordinate| far.max(coordinate.abs()));
+        let farthest = farthest(self);
         let side = (greatest.x - least.x).max(greatest.y - least.y).max(LEAST_SIDE).max(LEAST_PART * farthest);
         let margin = side * if least == greatest { 0.5 } else { MARGIN };
         Extents {
@@ -69,6 +80,12 @@ impl Extents {
             greatest: Point2D { x: greatest.x + margin, y: greatest.y + margin },
         }
     }
+}
+
+/// The greatest absolute value of a coordinate.
+fn farthest(extents: &Extents) -> f64 {
+    let Extents { least, greatest } = extents;
+    [least.x, least.y, greatest.x, greatest.y].into_iter().fold(0.0, |far: f64, coordinate| far.max(coordinate.abs()))
 }
 
 /// A picture's size and scale. Coordinates in it are pixels from its upper left corner, y down.
@@ -92,8 +109,12 @@ impl View {
     /// The view of these extents in a picture of this width.
     pub fn new(extents: Extents, width: u32) -> View {
         let Extents { least, greatest } = extents;
-        let scale = f64::from(width) / (greatest.x - least.x);
-        let height = ((greatest.y - least.y) * scale).ceil().clamp(1.0, f64::from(Self::TALLEST)) as u32;
+        let [across, up] = [greatest.x - least.x, greatest.y - least.y];
+        let scale = f64::from(width) / across;
+        // A side is the difference of rounded coordinates: what their last digits may add is no row of pixels, so that a square stays one.
+        let farthest = self::farthest(&extents);
+        let slack = 1e-6 + up * scale * (farthest * 4.0 * f64::EPSILON) * (1.0 / across + 1.0 / up);
+        let height = (up * scale - slack).ceil().clamp(1.0, f64::from(Self::TALLEST)) as u32;
         View { extents, width, height, scale }
     }
 
@@ -138,6 +159,25 @@ mod tests {
         let [here, next] = [x, f64::from_bits(x.to_bits() + 1)].map(|x| view.place(Point2D { x, y: 5_230_000.0 }).x);
         let step = 2f64.powi(22 - 52) * 100.0;
         assert!((next - here - step).abs() < step / 1000.0, "{here} {next}");
+    }
+
+    #[test]
+    fn a_square_view_is_a_square_picture() {
+        for text in ["0,0,10,10", "4650945.1,9230702.7,0.3,0.3", "4650000,9230000,7,7", "-1e15,1e15,1e4,1e4", "0.1,0.2,1e-9,1e-9"] {
+            let view = View::new(Extents::parse(text).expect("a view"), 1000);
+            assert_eq!((view.width, view.height), (1000, 1000), "{text}");
+        }
+        // A part of a pixel has a row of its own.
+        assert_eq!(View::new(Extents::parse("4650000,0,10,7.001").expect("a view"), 1000).height, 701);
+    }
+
+    #[test]
+    fn a_view_in_few_digits_is_a_view_of_as_much() {
+        assert_eq!(extents([4_650_945.118, 9_230_702.9, 4_650_989.2, 9_230_731.0]).rounded(), "4650945.1,9230702.9,44.1,28.1");
+        for given in [[0.0, 0.0, 1e-9, 1e-9], [-4e14, 0.0, 4e14, 5.0], [123.456, -9.87, 124.0, -9.5]] {
+            let parsed = Extents::parse(&extents(given).rounded()).expect("a view");
+            assert!(parsed.least.x <= given[0] && parsed.greatest.x >= given[2] - 1e-12 * given[2].abs(), "{given:?} {parsed:?}");
+        }
     }
 
     #[test]

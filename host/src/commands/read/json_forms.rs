@@ -8,6 +8,7 @@ use dwg_hatch::{
 use crate::commands::input::{Entry, Item};
 use crate::protocol::request::Strings;
 use super::json::{array, double, object, or_null, string};
+use super::measures::{self, Measures};
 
 /// A field of an object.
 type Field = (&'static str, String);
@@ -163,7 +164,13 @@ fn path(path: &HatchPath<u64>) -> String {
         }
         HatchPathSegments::Edges(edges) => ("edges", array(edges.iter().map(edge))),
     };
-    object([("flags", path.flags.to_string()), segments, ("num_boundary_handles", path.num_boundary_handles.to_string())])
+    let handles = ("num_boundary_handles", path.num_boundary_handles.to_string());
+    object([("flags", path.flags.to_string()), segments, handles, ("computed", or_null(measures::measures(path).map(computed)))])
+}
+
+/// What the body does not have: the host computes it.
+fn computed(measures: Measures) -> String {
+    object([("area", double(measures.area.to_bits())), ("length", double(measures.length.to_bits()))])
 }
 
 fn edge(edge: &HatchEdge<u64>) -> String {

@@ -2,16 +2,17 @@
 
 mod json;
 mod json_forms;
+mod measures;
 mod summary;
 
 use std::io::{BufWriter, Write};
 
 use dwg_hatch::{read_common_entity_bits, CommonEntityBits, Reading, Refusal, TypedHatch};
 
-use crate::commands::each::Problem;
+use crate::commands::each::{Done, Problem};
 use crate::commands::failure::Failure;
 use crate::commands::input::{Entry, Input, Item, Kind};
-use crate::commands::options::{Command, Options};
+use crate::commands::options::{Command, Options, JOBS};
 use crate::commands::warnings::warning;
 use crate::protocol::lists::lists;
 use crate::protocol::payload::Zeros;
@@ -19,35 +20,35 @@ use crate::protocol::request::{HatchRequest, PrefixRequest};
 use crate::protocol::OUTSIDE;
 
 /// The command that reads hatches and prefixes.
-pub const READ: Command = Command { name: "read", kind: Kind::Hatch, switches: &["--json", "--quiet"], values: &[] };
+pub const READ: Command = Command { name: "read", kind: Kind::Hatch, switches: &["--json", "--quiet"], values: &[JOBS] };
 
 /// The command that reads prefixes alone.
-pub const PREFIX: Command = Command { name: "prefix", kind: Kind::Prefix, switches: &["--json"], values: &[] };
+pub const PREFIX: Command = Command { name: "prefix", kind: Kind::Prefix, switches: &["--json"], ..READ };
 
 /// Reads each item of the input and writes it to `output`: a summary, or with `--json` one object a line. What is refused, each line that is no
-/// request and, without `--quiet`, each hatch that may have been read wrongly is a line on `errors`. Gives the tool's status: 0 if all was read, 1 if something was refused or a file could not be
-/// read, 2 if a line was no request.
+/// request and, without `--quiet`, each hatch that may have been read wrongly is a line on `errors`. Gives the tool's status: 0 if all was read, 1 if
+/// something was refused or a file could not be read, 2 if a line was no request. The work is done by as many jobs as `--jobs` says, and what is written
+/// is the same for any number.
 pub fn run(command: &Command, options: &Options, input: &Input, output: impl Write, errors: impl Write) -> Result<u8, Failure> {
-    let mut output = BufWriter::with_capacity(1 << 16, output);
-    let mut zeros = Zeros::default();
-    let json = options.has("--json");
-    let quiet = options.has("--quiet");
-    input.each(errors, |item| {
-        taken(command, item)?;
-        let read = if json { json_text(item, &mut zeros) } else { summary_text(item, &mut zeros) };
-        if let (true, Err(refusal)) = (json, &read) {
-            writeln!(output, "{}", json_forms::refusal(item, refusal))?;
-        }
-        if let Ok(read) = &read {
-            writeln!(output, "{}", read.text)?;
-        }
-        // Written out at once, so that both streams are in order on a terminal, and no one waits for what is read.
-        output.flush()?;
-        match (read?.warning, quiet) {
-            (Some(warning), false) => Err(Problem::Doubted(warning)),
-            _ => Ok(()),
-        }
+    let (jobs, command) = (command.jobs(options)?, *command);
+    let (json, quiet) = (options.has("--json"), options.has("--quiet"));
+    input.each_by_jobs(jobs, BufWriter::with_capacity(1 << 16, output), errors, move || {
+        let mut zeros = Zeros::default();
+        move |item| read(&command, json, quiet, item, &mut zeros)
     })
+}
+
+fn read(command: &Command, json: bool, quiet: bool, item: &Item, zeros: &mut Zeros) -> Done {
+    if let Err(failure) = taken(command, item) {
+        return Done { text: String::new(), problem: Some(failure.into()) };
+    }
+    match if json { json_text(item, zeros) } else { summary_text(item, zeros) } {
+        Ok(Read { text, warning }) => Done { text: text + "\n", problem: warning.filter(|_| !quiet).map(Problem::Doubted) },
+        Err(refusal) => {
+            let text = if json { json_forms::refusal(item, &refusal) + "\n" } else { String::new() };
+            Done { text, problem: Some(refusal.into()) }
+        }
+    }
 }
 
 /// Whether the command reads the item.
@@ -110,7 +111,7 @@ mod tests {
 
     #[test]
     fn a_file_that_is_missing_is_status_1() {
-        let missing = Input::Requests("no such file".into());
+        let missing = Input::Requests("no such file".into(), Kind::Hatch);
         assert_eq!(run(&READ, &Options::default(), &missing, Vec::new(), Vec::new()).unwrap_err().status(), 1);
     }
 }

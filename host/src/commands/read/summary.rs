@@ -4,6 +4,7 @@ use dwg_hatch::{
     CommonEntityBits, GradientFill, Hatch, HatchEdge, HatchPath, HatchPathSegments, Name, PatternLine, Point2D, Release, Source, Text, TypedHatch,
 };
 
+use super::measures::{self, Measures};
 use crate::commands::failure::{counted, grouped};
 use crate::commands::input::Item;
 use crate::protocol::payload::Payload;
@@ -36,7 +37,9 @@ pub fn hatch(item: &Item, request: &HatchRequest, typed: &TypedHatch<u64>) -> St
         lines.push(line("pixel", format!("size {}", double(hatch.pixel_size))));
     }
     let numbered = |name: &str, at: usize| format!("{name} {}", at + 1);
-    lines.extend(typed.paths.iter().enumerate().flat_map(|(at, path)| [line(&numbered("path", at), path_text(path)), extents(path)]));
+    lines.extend(typed.paths.iter().enumerate().flat_map(|(at, path)| {
+        [Some(line(&numbered("path", at), path_text(path))), Some(extents(path)), measures::measures(path).map(computed)].into_iter().flatten()
+    }));
     lines.extend(typed.pattern_lines.iter().enumerate().map(|(at, text)| line(&numbered("line", at), pattern_line(text))));
     lines.extend(typed.seed_points.iter().enumerate().map(|(at, seed)| line(&numbered("seed", at), point(seed))));
     lines.join("\n")
@@ -172,6 +175,12 @@ fn extents(path: &HatchPath<u64>) -> String {
         0 => line("", "no points".to_string()),
         count => line("", format!("{}, x {}, y {}", counted(count, "point"), along(0), along(1))),
     }
+}
+
+/// What the body does not have: the host computes it.
+fn computed(measures: Measures) -> String {
+    let [area, length] = [measures.area, measures.length].map(|value| double(value.to_bits()));
+    line("", format!("area {area}, length {length} (computed by the host, not proved)"))
 }
 
 fn pattern_line(text: &PatternLine<u64>) -> String {

@@ -1,11 +1,12 @@
-//! Tests of the picture's text: known arcs with their flags, areas, numbers and titles.
+//! Tests of path data: known arcs with their flags, areas, numbers and titles.
 
 use std::f64::consts::{FRAC_PI_2, PI, TAU};
 
 use dwg_hatch::Vertex;
 
-use crate::commands::draw::arcs;
 use super::*;
+use crate::commands::draw::arcs;
+use crate::commands::draw::view::Extents;
 
 fn point(x: f64, y: f64) -> Point2D {
     Point2D { x, y }
@@ -91,12 +92,4 @@ fn numbers_are_short_and_finite() {
 #[test]
 fn titles_are_escaped() {
     assert_eq!(escaped("a<b> & \"c\"\u{0}\u{1b}\n\u{ffff}\u{85}\u{e9}\u{1f600}"), "a&lt;b&gt; &amp; &quot;c&quot;\u{e9}\u{1f600}");
-}
-
-#[test]
-fn what_is_out_of_view_is_not_written() {
-    let figure = |x: f64| Figure { title: format!("at {x}"), is_solid: true, paths: Vec::new(), seeds: vec![point(x, 5.0)] };
-    let svg = picture("name", "double", &[figure(5.0), figure(50.0)], &view());
-    assert!(svg.contains("<title>at 5</title>") && !svg.contains("<title>at 50</title>"), "{svg}");
-    assert!(svg.contains("d=\"M46 50L54 50M50 46L50 54\""), "{svg}");
 }
