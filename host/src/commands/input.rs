@@ -15,6 +15,7 @@ use crate::commands::cut::Drawing;
 use crate::commands::failure::{shown, Failure};
 use crate::commands::{lines, streams};
 use crate::jobs::Batch;
+use crate::progress::Counted;
 use crate::protocol::payload::{Payload, LIMIT};
 use crate::protocol::request::{HatchRequest, PrefixRequest, Request, Strings};
 
@@ -125,6 +126,12 @@ impl Input {
         };
         let (Input::Requests(file, _) | Input::Binary(Binary { file, .. })) = self;
         [Some(file), strings].into_iter().flatten().all(|file| file != "-" && fs::metadata(file).is_ok_and(|file| file.is_file()))
+    }
+
+    /// How many bytes all its files have, if it can be read again.
+    pub fn length(&self) -> Option<u64> {
+        let lengths = self.files().into_iter().map(|file| fs::metadata(file).map(|file| file.len()).ok());
+        if self.can_be_read_again() { lengths.sum() } else { None }
     }
 
     /// The files that are read; standard input is none.
@@ -347,10 +354,10 @@ fn opened(file: &OsStr) -> Result<Opened, Failure> {
 
 fn open(file: &OsStr) -> Result<Box<dyn Read + Send>, Failure> {
     if file == "-" {
-        return Ok(Box::new(streams::input()));
+        return Ok(Box::new(Counted(streams::input())));
     }
     let open = File::open(file).map_err(|error| unreadable(&name(file), &error))?;
-    Ok(Box::new(open))
+    Ok(Box::new(Counted(open)))
 }
 
 /// A file's name for messages.
