@@ -9,7 +9,7 @@
 //! assert_eq!((value, place), (-1, 18));
 //!
 //! let refusal = dwg_hatch::read_rl(&payload, 0).unwrap_err();
-//! assert_eq!((refusal.number, refusal.place), (1, 24));
+//! assert_eq!((refusal.reason, refusal.place), (dwg_hatch::Reason::TooFewBits, 24));
 //! # Ok::<(), dwg_hatch::Refusal>(())
 //! ```
 //!
@@ -30,6 +30,7 @@ pub use calls::outlines::{
     FLAG_POLYLINE, FLAG_TEXTBOX,
 };
 pub use calls::prefixes::{read_common_entity_bits, read_common_entity_data, read_prefix, CommonEntityBits, CommonEntityData, EntityMode};
-pub use calls::refusal::Refusal;
+pub use calls::refusal::{Reason, Refusal};
+pub use calls::release::{Release, UnknownRelease};
 pub use calls::texts::{read_string_tv, read_tv, Source, Text};
 pub use calls::typed::{read_hatch, read_hatch_with_strings, Name, TypedHatch};

@@ -14,7 +14,8 @@ use std::process::ExitCode;
 use commands::failure::{shown, Failure};
 use commands::help::TRY_HELP;
 use commands::options::{counted_jobs, Asked, Command};
-use commands::{draw, help, read};
+use commands::streams::{self, NamedInput};
+use commands::{cut, draw, help, read};
 use progress::{Counted, Progress};
 
 fn main() -> ExitCode {
@@ -37,10 +38,27 @@ fn run(words: &[OsString]) -> Result<u8, Failure> {
         Some("read") => reads(&read::READ, help::READ_HELP, words),
         Some("prefix") => reads(&read::PREFIX, help::PREFIX_HELP, words),
         Some("draw") => draws(words),
+        Some("cut") => cuts(words),
         Some("answer") => answer(words),
-        Some("--help" | "-h" | "help") if words.is_empty() => print(help::HELP),
-        Some(word @ ("--help" | "-h" | "help")) => Err(Failure::Usage(format!("{word} takes nothing after it; {TRY_HELP}"))),
+        Some("help") => print(help_about(words)?),
+        Some("--help" | "-h") if words.is_empty() => print(help::HELP),
+        Some("--version" | "-V") if words.is_empty() => print(help::VERSION),
+        Some(word @ ("--help" | "-h" | "--version" | "-V")) => Err(Failure::Usage(format!("{word} takes nothing after it; {TRY_HELP}"))),
         _ => Err(Failure::Usage(format!("there is no command \"{}\"; {TRY_HELP}", shown(command.as_encoded_bytes())))),
+    }
+}
+
+/// What `help` and the words behind it ask for.
+fn help_about(words: &[OsString]) -> Result<&'static str, Failure> {
+    match words {
+        [] => Ok(help::HELP),
+        [command] => match command.to_str().and_then(help::of) {
+            Some(text) => Ok(text),
+            None => Err(Failure::Usage(format!("there is no command \"{}\"; {TRY_HELP}", shown(command.as_encoded_bytes())))),
+        },
+        [_, second, ..] => {
+            Err(Failure::Usage(format!("help is for one command at a time, and \"{}\" is a second; {TRY_HELP}", shown(second.as_encoded_bytes()))))
+        }
     }
 }
 
@@ -49,7 +67,7 @@ fn reads(command: &Command, help: &str, words: &[OsString]) -> Result<u8, Failur
         Asked::Help => print(help),
         Asked::Run { options, input } => {
             let _progress = Progress::start(input.length(), true);
-            read::run(command, &options, &input, io::stdout().lock(), io::stderr())
+            read::run(command, &options, &input, streams::output(), io::stderr())
         }
     }
 }
@@ -60,8 +78,15 @@ fn draws(words: &[OsString]) -> Result<u8, Failure> {
         Asked::Run { options, input } => {
             // A file is read twice, and a picture may have a file of its own.
             let _progress = Progress::start(input.length().map(|length| 2 * length), draw::writes_to_stdout(&options));
-            draw::run(&options, &input, io::stdout().lock(), io::stderr())
+            draw::run(&options, &input, streams::output(), io::stderr())
         }
+    }
+}
+
+fn cuts(words: &[OsString]) -> Result<u8, Failure> {
+    match cut::CUT.parse(words)? {
+        Asked::Help => print(help::CUT_HELP),
+        Asked::Run { options, input } => cut::run(&options, &input, streams::output(), io::stderr().lock()),
     }
 }
 
@@ -82,12 +107,12 @@ fn answer(words: &[OsString]) -> Result<u8, Failure> {
         }
     }
     let _progress = Progress::start(progress::length_of_stdin(), true);
-    protocol::answer::run(Counted(io::stdin()), io::stdout().lock(), f64_entries, jobs)?;
+    protocol::answer::run(Counted(NamedInput(streams::input())), streams::output(), f64_entries, jobs)?;
     Ok(0)
 }
 
 fn print(text: &str) -> Result<u8, Failure> {
-    let mut out = io::stdout().lock();
+    let mut out = streams::output();
     out.write_all(text.as_bytes())?;
     out.flush()?;
     Ok(0)

@@ -119,7 +119,7 @@ fn a_full_disk_is_one_line_and_status_1() {
     for words in [["answer", "--jobs=2"], ["read", "--jobs=2"]] {
         let full = OpenOptions::new().write(true).open("/dev/full").expect("the full device");
         let output = tool().args(words).stdin(File::open(&input).expect("a file")).stdout(full).output().expect("the tool starts");
-        assert!(refuses(&output, 1).contains("failed"), "{words:?}");
+        assert!(refuses(&output, 1).contains("cannot be written"), "{words:?}");
     }
 }
 

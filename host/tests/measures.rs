@@ -10,7 +10,7 @@ use json_text::{parse, Value};
 
 /// What is computed of the first path: area and length.
 fn computed(line: &str) -> Option<[f64; 2]> {
-    let value = parse(answers(&["read", "--json"], line.as_bytes()).trim_end());
+    let value = parse(answers(&["read", "--quiet", "--json"], line.as_bytes()).trim_end());
     match value.at("paths").items()[0].at("computed") {
         Value::Null => None,
         measures => Some(["area", "length"].map(|name| f64::from_bits(measures.at(name).bits()))),
@@ -26,7 +26,7 @@ fn a_rectangle_measures_the_same_near_and_far() {
     let [near, far] = [rectangle(0.0, 0.0), rectangle(4_650_000.0, 9_230_000.0)];
     assert_eq!([computed(&near), computed(&far)], [Some([104.125, 41.5]); 2]);
     for line in [near, far] {
-        let summary = answers(&["read"], line.as_bytes());
+        let summary = answers(&["read", "--quiet"], line.as_bytes());
         assert!(summary.contains("\n            area 104.125, length 41.5 (computed by the host, not proved)\n"), "{summary}");
     }
 }
@@ -41,5 +41,5 @@ fn two_bulges_of_1_are_a_circle() {
 fn what_is_not_finite_has_no_measures() {
     let nan = polyline(&[(0.0, 0.0), (f64::NAN, 0.0), (0.0, 1.0)], None);
     assert_eq!(computed(&nan), None);
-    assert!(!answers(&["read"], nan.as_bytes()).contains("computed"));
+    assert!(!answers(&["read", "--quiet"], nan.as_bytes()).contains("computed"));
 }

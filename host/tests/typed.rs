@@ -3,7 +3,7 @@
 mod layouts;
 mod requests;
 
-use dwg_hatch::{HatchBody, HatchEdge, HatchPathSegments, ReadHatch, StringReader};
+use dwg_hatch::{HatchBody, HatchEdge, HatchPathSegments, ReadHatch, Release, StringReader};
 use layouts::{Numbers, Plan};
 use requests::Request;
 
@@ -58,7 +58,7 @@ fn laid_out_hatches_are_read_as_they_were_laid_out() {
         // Handle counts must not be above the bits after them.
         let (payload, text) = (main.bytes(200), strings.bytes(0));
         let strings = reader.then_some(StringReader { payload: &text, start: 0, end: strings.0.len() });
-        let body = HatchBody { payload: &payload, start: 0, release, strings };
+        let body = HatchBody { payload: &payload, start: 0, release_number: release, strings };
         let read = nothing_is_lost(&body);
         let typed = body.typed(read).expect("the lists fit");
         assert_eq!((&typed.paths, &typed.pattern_lines, &typed.seed_points), (&plan.paths, &plan.lines, &plan.seeds));
@@ -92,7 +92,7 @@ fn lists_that_do_not_fit_are_no_tree() {
     for _ in 0..200 {
         let plan = Plan::new(&mut n, 7, false);
         let payload = plan.lay_out(&mut n, false)[0].bytes(200);
-        let body = HatchBody { payload: &payload, start: 0, release: 7, strings: None };
+        let body = HatchBody::new(&payload, 0, Release::R2018);
         let read = body.decode_bits().expect("the body is read");
         let altered = |alter: &dyn Fn(&mut ReadHatch<u64>)| {
             let mut other = read.clone();

@@ -1,10 +1,11 @@
 //! One code at a time: the payload's bytes and a start bit in, the value and the place after it out.
 //!
-//! Every function refuses a payload above the limit (10) and then a start past the payload (1), as document 01's calls do. The value
+//! Every function refuses a payload above the limit ([`Reason::PayloadTooLong`]) and then a start past the payload ([`Reason::TooFewBits`]), as
+//! document 01's calls do. The value
 //! and the place, or the refusal, are what the function's contract in crates/dwg_hatch states.
 
 use crate::boundary::ffi::{self, CodeAnswer, DoubleAnswer, SignedAnswer};
-use super::refusal::Refusal;
+use super::refusal::{Reason, Refusal};
 
 /// A value and the place after it, or why there is none.
 pub type Reading<T> = Result<(T, usize), Refusal>;
@@ -143,7 +144,7 @@ pub fn read_bll(payload: &[u8], start: usize) -> Reading<u64> {
 ///
 /// ```
 /// assert_eq!(dwg_hatch::read_bd(&[0x40], 0), Ok((1.0, 2)));
-/// assert_eq!(dwg_hatch::read_bd(&[0xc0], 0).map_err(|refusal| refusal.number), Err(2));
+/// assert_eq!(dwg_hatch::read_bd(&[0xc0], 0).unwrap_err().reason, dwg_hatch::Reason::ReservedTag);
 /// ```
 pub fn read_bd(payload: &[u8], start: usize) -> Reading<f64> {
     double(ffi::dwg_read_bd, payload, start)
@@ -228,7 +229,7 @@ fn double(entry: unsafe extern "C" fn(*const u8, usize, usize) -> DoubleAnswer, 
 pub(crate) fn reading<T>(refusal: u64, place: usize, value: T) -> Reading<T> {
     match refusal {
         0 => Ok((value, place)),
-        number => Err(Refusal { number, place, second_place: 0 }),
+        number => Err(Refusal { reason: Reason::of(number), place, second_place: 0 }),
     }
 }
 

@@ -106,6 +106,13 @@ pub struct ReadHatch<Double = f64> {
     pub numbers: Vec<Double>,
 }
 
+impl<Double: Copy> ReadHatch<Double> {
+    /// A record with copies of its lists.
+    pub(crate) fn of(hatch: Hatch<Double>, words: &[u32], numbers: &[Double]) -> ReadHatch<Double> {
+        ReadHatch { hatch, words: words.to_vec(), numbers: numbers.to_vec() }
+    }
+}
+
 pub(crate) fn color<Double>(unknown_double: Double, unknown_short: i16, rgb: u32, ignored_color_byte: u8) -> GradientColor<Double> {
     GradientColor { unknown_double, unknown_short, rgb, ignored_color_byte }
 }

@@ -6,6 +6,7 @@
 
 use crate::boundary::ffi::{self, PrefixFields};
 use super::codes::{reading, Reading, OUTSIDE};
+use super::release::Release;
 
 /// How an entity's owner is found.
 #[derive(Clone, Copy, Debug, PartialEq, Eq)]
@@ -74,26 +75,23 @@ pub struct CommonEntityData<Scale = f64> {
 /// The same with the scale as its 64 bits, a NaN's too.
 pub type CommonEntityBits = CommonEntityData<u64>;
 
-/// The prefix of an entity of a release, and the place after it: [`read_common_entity_data`] by the name that goes with
-/// [`read_hatch`](crate::read_hatch).
+/// The prefix of an entity of a release, and the place after it.
 ///
 /// ```
 /// // The hatch body of the same payload starts where the prefix ends.
-/// let (data, place) = dwg_hatch::read_prefix(&[0x85, 0xd0, 0x87, 0x40], 0, 2)?;
+/// let (data, place) = dwg_hatch::read_prefix(&[0x85, 0xd0, 0x87, 0x40], 0, dwg_hatch::Release::R2000)?;
 /// assert_eq!((data.color_raw, data.lineweight, place), (256, 29, 26));
-///
-/// let refusal = dwg_hatch::read_prefix(&[0x85], 0, 8).unwrap_err();
-/// assert_eq!(refusal.to_string(), "refusal 9 at bit 0: the release is not 1 to 7; name a release from 1 (R14) to 7 (R2018)");
 /// # Ok::<(), dwg_hatch::Refusal>(())
 /// ```
-pub fn read_prefix(payload: &[u8], start: usize, release: u64) -> Reading<CommonEntityData> {
-    read_common_entity_data(payload, start, release)
+pub fn read_prefix(payload: &[u8], start: usize, release: Release) -> Reading<CommonEntityData> {
+    read_common_entity_data(payload, start, release.number())
 }
 
-/// The prefix of an entity of a release. A NaN as scale comes as one NaN whatever its pattern; [`read_common_entity_bits`] gives the
-/// pattern.
+/// The same by a release's number, which may be any. A NaN as scale comes as one NaN whatever its pattern; [`read_common_entity_bits`] gives
+/// the pattern.
 ///
-/// Refuses a release that is not 1 to 7 (9), then a payload above the limit (10), then as the fields do, in their order (1, 2, 5, 7, 8).
+/// Refuses a release that is not 1 to 7 ([`Reason::UnknownRelease`](crate::Reason)), then a payload above the limit (`PayloadTooLong`), then as the
+/// fields do, in their order (`TooFewBits`, `ReservedTag`, `HandleCounter`, `NotUtf16`, `TooManyXdataBlocks`).
 ///
 /// ```
 /// let (data, place) = dwg_hatch::read_common_entity_data(&[0x85, 0xd0, 0x87, 0x40], 0, 2)?;
@@ -102,13 +100,16 @@ pub fn read_prefix(payload: &[u8], start: usize, release: u64) -> Reading<Common
 ///
 /// // An XDATA block whose handle has the counter 9.
 /// let refusal = dwg_hatch::read_common_entity_data(&[0x40, 0x42, 0x40], 0, 2).unwrap_err();
-/// assert_eq!((refusal.number, refusal.place), (5, 18));
+/// assert_eq!((refusal.reason, refusal.place), (dwg_hatch::Reason::HandleCounter, 18));
+///
+/// let refusal = dwg_hatch::read_common_entity_data(&[0x85], 0, 8).unwrap_err();
+/// assert_eq!(refusal.to_string(), "refusal 9 at bit 0: the release is not 1 to 7; name a release from 1 (R14) to 7 (R2018)");
 /// # Ok::<(), dwg_hatch::Refusal>(())
 /// ```
-pub fn read_common_entity_data(payload: &[u8], start: usize, release: u64) -> Reading<CommonEntityData> {
+pub fn read_common_entity_data(payload: &[u8], start: usize, release_number: u64) -> Reading<CommonEntityData> {
     // SAFETY: the function of ffi.rs takes a slice as its pointer and length, reads no byte outside it whatever the numbers are, writes
     // nothing but its answer and keeps nothing. A slice's pointer is not null, also where the slice is empty.
-    let answer = unsafe { ffi::dwg_read_common_entity_data(payload.as_ptr(), payload.len(), start, release) };
+    let answer = unsafe { ffi::dwg_read_common_entity_data(payload.as_ptr(), payload.len(), start, release_number) };
     reading(answer.refusal, answer.place, data(answer.fields, answer.ltype_scale))
 }
 
@@ -119,9 +120,9 @@ pub fn read_common_entity_data(payload: &[u8], start: usize, release: u64) -> Re
 /// assert_eq!((data.ltype_scale, place), (1f64.to_bits(), 26));
 /// # Ok::<(), dwg_hatch::Refusal>(())
 /// ```
-pub fn read_common_entity_bits(payload: &[u8], start: usize, release: u64) -> Reading<CommonEntityBits> {
+pub fn read_common_entity_bits(payload: &[u8], start: usize, release_number: u64) -> Reading<CommonEntityBits> {
     // SAFETY: see `read_common_entity_data`.
-    let answer = unsafe { ffi::dwg_read_common_entity_bits(payload.as_ptr(), payload.len(), start, release) };
+    let answer = unsafe { ffi::dwg_read_common_entity_bits(payload.as_ptr(), payload.len(), start, release_number) };
     reading(answer.refusal, answer.place, data(answer.fields, answer.ltype_scale))
 }
 
@@ -194,7 +195,7 @@ mod tests {
     fn both_entries_refuse_alike() {
         let cases = [(&[0x85][..], 0, 8, 9, 0), (&[], 0, 2, 1, 0), (&[0x86], 0, 2, 2, 7), (&[], 3, 2, 1, 3)];
         for (payload, start, release, number, place) in cases {
-            let refusal = crate::Refusal { number, place, second_place: 0 };
+            let refusal = crate::Refusal { reason: crate::Reason::of(number), place, second_place: 0 };
             assert_eq!(read_common_entity_data(payload, start, release), Err(refusal));
             assert_eq!(read_common_entity_bits(payload, start, release), Err(refusal));
         }

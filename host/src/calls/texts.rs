@@ -6,6 +6,7 @@
 
 use crate::boundary::ffi::{self, TextAnswer};
 use super::codes::{reading, Reading, OUTSIDE};
+use super::release::Release;
 
 /// Which payload a text lies in.
 #[derive(Clone, Copy, Debug, PartialEq, Eq)]
@@ -39,7 +40,7 @@ impl Text {
     ///
     /// ```
     /// let payload = [0x40, 0x90, 0x50, 0x80];
-    /// let (text, _) = dwg_hatch::read_tv(&payload, 0, 2)?;
+    /// let (text, _) = dwg_hatch::read_tv(&payload, 0, dwg_hatch::Release::R2000)?;
     /// assert_eq!(text.units(&payload), Some(vec![0x41, 0x42]));
     /// assert_eq!(text.units(&payload[..3]), None);
     /// # Ok::<(), dwg_hatch::Refusal>(())
@@ -57,18 +58,19 @@ impl Text {
         (0..self.count).map(unit).collect()
     }
 
-    /// The characters of a text of 16-bit units. Nothing is lost or replaced, since a text whose units are not UTF-16 is refused (7).
+    /// The characters of a text of 16-bit units. Nothing is lost or replaced, since a text whose units are not UTF-16 is refused.
     ///
     /// `None` if the text's units are not 16 bits wide, or if `payload` is another than the text was read from and holds no such text.
     ///
     /// ```
+    /// use dwg_hatch::Release;
     /// let payload = [0x40, 0x8f, 0x76, 0x00, 0x37, 0x80];
-    /// let (text, place) = dwg_hatch::read_tv(&payload, 0, 4)?;
+    /// let (text, place) = dwg_hatch::read_tv(&payload, 0, Release::R2007)?;
     /// assert_eq!((text.width, text.count, place), (16, 2, 42));
     /// assert_eq!(text.characters(&payload).as_deref(), Some("\u{1f600}"));
     ///
-    /// // The same bytes before release 4: their two units are bytes, and their characters are a code page's.
-    /// let (text, place) = dwg_hatch::read_tv(&payload, 0, 3)?;
+    /// // The same bytes before R2007: their two units are bytes, and their characters are a code page's.
+    /// let (text, place) = dwg_hatch::read_tv(&payload, 0, Release::R2004)?;
     /// assert_eq!((text.units(&payload), place), (Some(vec![0x3d, 0xd8]), 26));
     /// assert_eq!(text.characters(&payload), None);
     /// # Ok::<(), dwg_hatch::Refusal>(())
@@ -81,43 +83,48 @@ impl Text {
     }
 }
 
-/// Inline text (TV) of a release: a BS length, then that many units of 8 bits before release 4, of 16 bits from it.
+/// Inline text (TV) of a release: a BS length, then that many units of 8 bits before R2007, of 16 bits from it.
 ///
-/// Refuses a release that is not 1 to 7 (9), then a payload above the limit (10), then as the length code and the units do (1, and 7 after
-/// all units).
+/// Refuses a payload above the limit ([`Reason::PayloadTooLong`](crate::Reason)), then a length or units that are cut short (`TooFewBits`), then
+/// 16-bit units that are not UTF-16 (`NotUtf16`).
 ///
 /// ```
-/// use dwg_hatch::{Source, Text};
+/// use dwg_hatch::{Reason, Release, Source, Text};
 /// let payload = [0x40, 0x90, 0x50, 0x80];
-/// assert_eq!(dwg_hatch::read_tv(&payload, 0, 2), Ok((Text { source: Source::Main, width: 8, position: 10, count: 2 }, 26)));
+/// assert_eq!(dwg_hatch::read_tv(&payload, 0, Release::R2000), Ok((Text { source: Source::Main, width: 8, position: 10, count: 2 }, 26)));
 ///
-/// let refusal = dwg_hatch::read_tv(&payload, 0, 8).unwrap_err();
-/// assert_eq!((refusal.number, refusal.place), (9, 0));
+/// let refusal = dwg_hatch::read_tv(&payload[..3], 0, Release::R2000).unwrap_err();
+/// assert_eq!((refusal.reason, refusal.place), (Reason::TooFewBits, 18));
 /// ```
-pub fn read_tv(payload: &[u8], place: usize, release: u64) -> Reading<Text> {
+pub fn read_tv(payload: &[u8], place: usize, release: Release) -> Reading<Text> {
+    tv(payload, place, release.number())
+}
+
+/// The same by any number, as the boundary takes it.
+fn tv(payload: &[u8], place: usize, release_number: u64) -> Reading<Text> {
     // SAFETY: the function of ffi.rs takes a slice as its pointer and length, reads no byte outside it whatever the numbers are, writes
     // nothing and keeps nothing. A slice's pointer is not null, also where the slice is empty.
-    text(unsafe { ffi::dwg_read_tv(payload.as_ptr(), payload.len(), place, release) })
+    text(unsafe { ffi::dwg_read_tv(payload.as_ptr(), payload.len(), place, release_number) })
 }
 
 /// Text from a string reader that stands at `place` of its payload and ends at `end_bit`: 16-bit units at every release.
 ///
 /// At or past the end bit it is empty and the place is not moved, also where the place is past the payload. Else a BS length, and the
-/// units must end by the end bit (6), but for length 0. A refusal's one place is the string payload's.
+/// units must end by the end bit (else `TextPastEnd`), but for length 0. A refusal's one place is the string payload's.
 ///
 /// ```
-/// use dwg_hatch::{Source, Text};
+/// use dwg_hatch::{Reason, Source, Text};
 /// let payload = [0x40, 0x50, 0x40, 0x00];
 /// let (text, place) = dwg_hatch::read_string_tv(&payload, 0, 26)?;
 /// assert_eq!((text, place), (Text { source: Source::String, width: 16, position: 10, count: 1 }, 26));
 /// assert_eq!(text.characters(&payload).as_deref(), Some("A"));
 ///
 /// let refusal = dwg_hatch::read_string_tv(&payload, 0, 25).unwrap_err();
-/// assert_eq!((refusal.number, refusal.place), (6, 10));
+/// assert_eq!((refusal.reason, refusal.place), (Reason::TextPastEnd, 10));
 /// # Ok::<(), dwg_hatch::Refusal>(())
 /// ```
 pub fn read_string_tv(payload: &[u8], place: usize, end_bit: usize) -> Reading<Text> {
-    // SAFETY: see `read_tv`.
+    // SAFETY: see `tv`.
     text(unsafe { ffi::dwg_read_string_tv(payload.as_ptr(), payload.len(), place, end_bit) })
 }
 
@@ -156,7 +163,7 @@ mod tests {
     /// What a call gives, as numbers: the text's width, position and count and the place after it, or the refusal's number and place.
     fn numbers(reading: Reading<Text>) -> Result<(u8, usize, usize, usize), (u64, usize)> {
         let found = reading.map(|(text, place)| (text.width, text.position, text.count, place));
-        found.map_err(|refusal| (refusal.number, refusal.place))
+        found.map_err(|refusal| (refusal.number(), refusal.place))
     }
 
     /// The bytes of a string of bits, with zeros up to the last byte's end.
@@ -169,7 +176,7 @@ mod tests {
     fn units_are_taken_at_every_bit_offset() {
         for offset in 0..=16 {
             let payload = packed(&format!("{} 01 00000010 00110100 00010010 11111111 11010111", "1".repeat(offset)));
-            let (narrow, wide) = (read_tv(&payload, offset, 3).unwrap().0, read_tv(&payload, offset, 4).unwrap().0);
+            let (narrow, wide) = (tv(&payload, offset, 3).unwrap().0, tv(&payload, offset, 4).unwrap().0);
             assert_eq!((narrow.position, narrow.units(&payload)), (offset + 10, Some(vec![0x34, 0x12])));
             assert_eq!((wide.position, wide.units(&payload)), (offset + 10, Some(vec![0x1234, 0xd7ff])));
             assert_eq!(wide.characters(&payload).as_deref(), Some("\u{1234}\u{d7ff}"));
@@ -177,11 +184,16 @@ mod tests {
     }
 
     #[test]
+    fn a_number_that_is_no_release_is_refused() {
+        assert_eq!(numbers(tv(&[0x40, 0x90, 0x50, 0x80], 0, 8)), Err((9, 0)));
+    }
+
+    #[test]
     fn length_256_has_a_tag_of_its_own() {
         let payload = [&[0xc0][..], &[0; 256]].concat();
-        assert_eq!(numbers(read_tv(&payload, 0, 1)), Ok((8, 2, 255, 2050)));
-        assert_eq!(read_tv(&payload, 0, 1).unwrap().0.units(&payload), Some(vec![0; 255]));
-        assert_eq!(numbers(read_tv(&payload, 0, 4)), Err((1, 2050)));
+        assert_eq!(numbers(tv(&payload, 0, 1)), Ok((8, 2, 255, 2050)));
+        assert_eq!(tv(&payload, 0, 1).unwrap().0.units(&payload), Some(vec![0; 255]));
+        assert_eq!(numbers(tv(&payload, 0, 4)), Err((1, 2050)));
     }
 
     #[test]

@@ -4,9 +4,11 @@
 
 use super::codes::OUTSIDE;
 use super::hatches::{Hatch, HatchBody, ReadHatch, StringReader};
+use super::kept;
 use super::outline_lists::{Filled, Rest};
 use super::outlines::{HatchPath, PatternLine, Point2D};
 use super::refusal::Refusal;
+use super::release::Release;
 use super::texts::{Source, Text};
 
 /// A text taken out of its payload. Where it lies is in the record.
@@ -58,7 +60,7 @@ impl<Double: Copy> TypedHatch<Double> {
     ///
     /// ```
     /// let payload = [&[0xa9, 0xaa, 0x90, 0x10][..], &[0; 16]].concat();
-    /// let typed = dwg_hatch::read_hatch(&payload, 0, 2)?;
+    /// let typed = dwg_hatch::read_hatch(&payload, 0, dwg_hatch::Release::R2000)?;
     /// assert_eq!(typed.seed_points, [dwg_hatch::Point2D { x: 0.0, y: 0.0 }]);
     /// assert_eq!(typed.lists(), (vec![], vec![0.0, 0.0]));
     /// # Ok::<(), dwg_hatch::Refusal>(())
@@ -75,14 +77,14 @@ impl<Double: Copy> TypedHatch<Double> {
 /// The hatch body of a release, its texts inline.
 ///
 /// ```
-/// use dwg_hatch::{HatchPathSegments, Point2D};
+/// use dwg_hatch::{HatchPathSegments, Point2D, Release};
 /// # let bytes = |digits: &str| (0..digits.len()).step_by(2).map(|at| u8::from_str_radix(&digits[at..at + 2], 16).unwrap()).collect::<Vec<u8>>();
-/// // A solid hatch of release 2 with one path: the corners (0, 0), (2.5, 0), (0, 1.5), closed.
+/// // A solid hatch of R2000 with one path: the corners (0, 0), (2.5, 0), (0, 1.5), closed.
 /// let payload = bytes(concat!(
 ///     "a94154d3d31251240503503000000000000000000000000000000000000000000000",
 ///     "44000000000000000000000000000000000000000000000f83fa4060",
 /// ));
-/// let typed = dwg_hatch::read_hatch(&payload, 0, 2)?;
+/// let typed = dwg_hatch::read_hatch(&payload, 0, Release::R2000)?;
 /// assert_eq!(typed.pattern_name.as_str(), Some("SOLID"));
 /// assert_eq!((typed.hatch.solid_fill, typed.hatch.extrusion, typed.hatch.places.main), (true, [0.0, 0.0, 1.0], 492));
 ///
@@ -90,38 +92,38 @@ impl<Double: Copy> TypedHatch<Double> {
 /// let corners: Vec<Point2D> = vertices.iter().map(|vertex| vertex.point).collect();
 /// assert_eq!(corners, [Point2D { x: 0.0, y: 0.0 }, Point2D { x: 2.5, y: 0.0 }, Point2D { x: 0.0, y: 1.5 }]);
 ///
-/// let refusal = dwg_hatch::read_hatch(&payload[..60], 0, 2).unwrap_err();
+/// let refusal = dwg_hatch::read_hatch(&payload[..60], 0, Release::R2000).unwrap_err();
 /// assert_eq!(
 ///     refusal.to_string(),
 ///     "refusal 1 at bit 480: too few bits are left for the next read; check that the payload is whole, the release and the start bit"
 /// );
 /// # Ok::<(), dwg_hatch::Refusal>(())
 /// ```
-pub fn read_hatch(payload: &[u8], start: usize, release: u64) -> Result<TypedHatch, Refusal> {
-    HatchBody { payload, start, release, strings: None }.read()
+pub fn read_hatch(payload: &[u8], start: usize, release: Release) -> Result<TypedHatch, Refusal> {
+    HatchBody::new(payload, start, release).read()
 }
 
 /// The same with a string reader, which all texts come from.
 ///
 /// ```
-/// use dwg_hatch::{Name, StringReader};
+/// use dwg_hatch::{Name, Reason, Release, StringReader};
 /// let strings = StringReader { payload: &[0x40, 0x50, 0x40, 0x00], start: 0, end: 26 };
-/// let typed = dwg_hatch::read_hatch_with_strings(&[0xa9, 0xaa, 0xa0], 0, 2, strings)?;
+/// let typed = dwg_hatch::read_hatch_with_strings(&[0xa9, 0xaa, 0xa0], 0, Release::R2000, strings)?;
 /// assert_eq!((typed.pattern_name, typed.hatch.places.string), (Name::Characters("A".to_string()), 26));
 ///
 /// let cut = StringReader { end: 25, ..strings };
-/// let refusal = dwg_hatch::read_hatch_with_strings(&[0xa9, 0xaa, 0xa0], 0, 2, cut).unwrap_err();
-/// assert_eq!((refusal.number, refusal.place, refusal.second_place), (6, 8, 10));
+/// let refusal = dwg_hatch::read_hatch_with_strings(&[0xa9, 0xaa, 0xa0], 0, Release::R2000, cut).unwrap_err();
+/// assert_eq!((refusal.reason, refusal.place, refusal.second_place), (Reason::TextPastEnd, 8, 10));
 /// # Ok::<(), dwg_hatch::Refusal>(())
 /// ```
-pub fn read_hatch_with_strings(payload: &[u8], start: usize, release: u64, strings: StringReader) -> Result<TypedHatch, Refusal> {
-    HatchBody { payload, start, release, strings: Some(strings) }.read()
+pub fn read_hatch_with_strings(payload: &[u8], start: usize, release: Release, strings: StringReader) -> Result<TypedHatch, Refusal> {
+    HatchBody::new(payload, start, release).with_strings(strings).read()
 }
 
 impl HatchBody<'_> {
     /// The body as a tree.
     pub fn read(&self) -> Result<TypedHatch, Refusal> {
-        Ok(self.read_as(self.decode()?))
+        kept::read(self, |hatch, words, numbers| self.tree(hatch, words, numbers).expect(OUTSIDE))
     }
 
     /// The same with each double as its 64 bits, a NaN's too.
@@ -129,19 +131,19 @@ impl HatchBody<'_> {
     /// ```
     /// // A seed point whose x is a NaN with a pattern of its own, and whose y is minus zero.
     /// let payload = [0xa9, 0xaa, 0x90, 0x10, 0x10, 0, 0, 0, 0, 0x0f, 0x07, 0xf0, 0, 0, 0, 0, 0, 0, 0x08, 0];
-    /// let seeds = dwg_hatch::HatchBody { payload: &payload, start: 0, release: 2, strings: None }.read_bits()?.seed_points;
+    /// let seeds = dwg_hatch::HatchBody::new(&payload, 0, dwg_hatch::Release::R2000).read_bits()?.seed_points;
     /// assert_eq!(seeds, [dwg_hatch::Point2D { x: 0x7ff0_0000_0000_0001, y: 1 << 63 }]);
     /// # Ok::<(), dwg_hatch::Refusal>(())
     /// ```
     pub fn read_bits(&self) -> Result<TypedHatch<u64>, Refusal> {
-        Ok(self.read_as(self.decode_bits()?))
+        kept::read(self, |hatch, words, numbers| self.tree(hatch, words, numbers).expect(OUTSIDE))
     }
 
     /// What was read from this body, as a tree. `None` if the lists do not fit the record, or a text does not lie in its payload: what
     /// another body gave, or what was altered since.
     ///
     /// ```
-    /// let body = dwg_hatch::HatchBody { payload: &[0xa9, 0xaa, 0xa0], start: 0, release: 2, strings: None };
+    /// let body = dwg_hatch::HatchBody::new(&[0xa9, 0xaa, 0xa0], 0, dwg_hatch::Release::R2000);
     /// let mut read = body.decode()?;
     /// assert!(body.typed(read.clone()).is_some());
     /// read.words.push(0);
@@ -149,8 +151,13 @@ impl HatchBody<'_> {
     /// # Ok::<(), dwg_hatch::Refusal>(())
     /// ```
     pub fn typed<Double: Copy>(&self, read: ReadHatch<Double>) -> Option<TypedHatch<Double>> {
-        let ReadHatch { hatch, words, numbers } = read;
-        let mut rest = Rest { words: &words, numbers: &numbers };
+        self.tree(read.hatch, &read.words, &read.numbers)
+    }
+
+    /// The same of lists that lie elsewhere. What a call over this body gave fits by the library's contract; if it does not, no answer is better than
+    /// a wrong one.
+    fn tree<Double: Copy>(&self, hatch: Hatch<Double>, words: &[u32], numbers: &[Double]) -> Option<TypedHatch<Double>> {
+        let mut rest = Rest { words, numbers };
         let paths = rest.many(hatch.num_paths, Rest::path)?;
         let pattern_lines = rest.many(hatch.num_pattern_lines, Rest::pattern_line)?;
         let seed_points = rest.many(hatch.num_seed_points, Rest::point)?;
@@ -163,11 +170,6 @@ impl HatchBody<'_> {
             None => None,
         };
         Some(TypedHatch { hatch, pattern_name, gradient_name, paths, pattern_lines, seed_points })
-    }
-
-    /// What a call over this body gave fits by the library's contract; if it does not, no answer is better than a wrong one.
-    pub(crate) fn read_as<Double: Copy>(&self, read: ReadHatch<Double>) -> TypedHatch<Double> {
-        self.typed(read).unwrap_or_else(|| panic!("{OUTSIDE}"))
     }
 
     /// The payload that a text of this body lies in; `None` for a text of a string reader that the body does not have.

@@ -8,13 +8,15 @@ use crate::commands::failure::Failure;
 use crate::commands::input::{Input, Item, ItemBatch, Items};
 use crate::jobs;
 
-/// Why an item is not done.
+/// Why an item is not done, or may be done wrongly.
 #[derive(Debug)]
 pub enum Problem {
     /// The library refuses it.
     Refused(Refusal),
     /// Something else is wrong.
     Failed(Failure),
+    /// It is done, but may not be what was meant.
+    Doubted(String),
 }
 
 impl From<Refusal> for Problem {
@@ -35,7 +37,7 @@ impl From<io::Error> for Problem {
     }
 }
 
-/// What came of an item: what is written of it, and why it is not done.
+/// What came of an item: what is written of it, and why it is not done or may be done wrongly.
 pub struct Done {
     /// The text for standard output, with its line ends.
     pub text: String,
@@ -105,6 +107,7 @@ fn told(failure: Failure) -> Result<Said, Failure> {
 /// The line about an item's problem. A stream that fails ends the work.
 fn said(item: &Item, problem: Problem) -> Result<Said, Failure> {
     match problem {
+        Problem::Doubted(line) => Ok((0, format!("{}: warning: {line}", item.origin))),
         Problem::Refused(refusal) => Ok((1, format!("{}: {refusal}", item.origin))),
         Problem::Failed(failure @ Failure::Io(_)) => Err(failure),
         Problem::Failed(failure) => Ok((failure.status(), format!("{}: {failure}", item.origin))),
@@ -113,8 +116,8 @@ fn said(item: &Item, problem: Problem) -> Result<Said, Failure> {
 
 impl Items {
     /// Does the work for each item, in order. Each problem is one line on `errors`, with the item's origin, and the next item's turn comes; but
-    /// a file or a stream that fails ends the work, and is the failure. Gives the tool's status: 0 if all was done, 1 if something was refused,
-    /// 2 if a line was wrong.
+    /// a file or a stream that fails ends the work, and is the failure. Gives the tool's status: 0 if all was done, with warnings too, 1 if something
+    /// was refused, 2 if a line was wrong.
     pub fn each(self, mut errors: impl Write, mut work: impl FnMut(&Item) -> Result<(), Problem>) -> Result<u8, Failure> {
         let mut status = 0;
         for item in self {
@@ -135,11 +138,12 @@ impl Items {
 #[cfg(test)]
 mod tests {
     use super::*;
+    use crate::commands::input::Kind;
 
     #[test]
     fn nothing_to_do_is_status_0() {
         let mut done = 0;
-        let status = Input::Requests("/dev/null".into()).items().unwrap().each(Vec::new(), |_| {
+        let status = Input::Requests("/dev/null".into(), Kind::Hatch).items().unwrap().each(Vec::new(), |_| {
             done += 1;
             Ok(())
         });

@@ -12,7 +12,11 @@ pub enum Failure {
     Read(String),
     /// Something cannot be drawn, or a picture cannot be written: status 1.
     Draw(String),
-    /// Reading or writing a stream failed: status 1.
+    /// A whole drawing, or an object in it, is not as it should be: status 1.
+    Drawing(String),
+    /// All is well, and there is nothing to read: status 0.
+    Nothing(String),
+    /// Standard input cannot be read or standard output not be written, which the error says: status 1.
     Io(io::Error),
 }
 
@@ -20,8 +24,9 @@ impl Failure {
     /// The tool's status.
     pub fn status(&self) -> u8 {
         match self {
+            Failure::Nothing(_) => 0,
             Failure::Usage(_) => 2,
-            Failure::Read(_) | Failure::Draw(_) | Failure::Io(_) => 1,
+            Failure::Read(_) | Failure::Draw(_) | Failure::Drawing(_) | Failure::Io(_) => 1,
         }
     }
 
@@ -34,8 +39,8 @@ impl Failure {
 impl fmt::Display for Failure {
     fn fmt(&self, f: &mut fmt::Formatter<'_>) -> fmt::Result {
         match self {
-            Failure::Usage(line) | Failure::Read(line) | Failure::Draw(line) => f.write_str(line),
-            Failure::Io(error) => write!(f, "reading or writing failed: {error}"),
+            Failure::Usage(line) | Failure::Read(line) | Failure::Draw(line) | Failure::Drawing(line) | Failure::Nothing(line) => f.write_str(line),
+            Failure::Io(error) => write!(f, "{error}"),
         }
     }
 }
@@ -62,6 +67,13 @@ pub fn shown(word: &[u8]) -> String {
     line
 }
 
+/// A number as a person reads it, with a comma before each three digits.
+pub fn grouped(number: u128) -> String {
+    let digits = number.to_string();
+    let comma = |at: usize| at > 0 && (digits.len() - at) % 3 == 0;
+    digits.char_indices().flat_map(|(at, digit)| comma(at).then_some(',').into_iter().chain([digit])).collect()
+}
+
 /// A count and what is counted, in its plural unless there is one.
 pub fn counted(count: usize, what: &str) -> String {
     format!("{count} {what}{}", if count == 1 { "" } else { "s" })
@@ -81,6 +93,11 @@ mod tests {
         assert_eq!(shown(b"a file.txt"), "a file.txt");
         assert_eq!(shown(b"two\nlines\xff"), "two\\nlines\\xff");
         assert_eq!(shown(&[b'0'; 1000]).len(), 203);
+    }
+
+    #[test]
+    fn numbers_are_grouped_by_three_digits() {
+        assert_eq!([0, 999, 1_000, 12_345, 1_234_567].map(grouped), ["0", "999", "1,000", "12,345", "1,234,567"]);
     }
 
     #[test]

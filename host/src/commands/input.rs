@@ -1,16 +1,19 @@
-//! What the commands for people read: request lines of a file, or a payload that is a binary file. One [`Item`] at a time, with its origin
-//! for messages.
+//! What the commands for people read: request lines of a file, a payload that is a binary file, or a whole drawing. One [`Item`] at a time, with its
+//! origin for messages.
 //!
 //! A file is read and never written. Of a file not more is taken than document 01's limit allows and one byte, since what is longer is
 //! refused unread.
 
 use std::ffi::{OsStr, OsString};
 use std::fs::{self, File};
-use std::io::{self, BufRead, BufReader, Read};
+use std::io::{self, BufRead, BufReader, Cursor, Read};
 use std::os::unix::ffi::OsStrExt;
 
+use crate::commands::cut::items::{self, DrawingItems};
+use crate::commands::cut::letters::{self, Letters};
+use crate::commands::cut::Drawing;
 use crate::commands::failure::{shown, Failure};
-use crate::commands::lines;
+use crate::commands::{lines, streams};
 use crate::jobs::Batch;
 use crate::progress::Counted;
 use crate::protocol::payload::{Payload, LIMIT};
@@ -34,7 +37,7 @@ pub enum Entry {
 /// One thing to read, and where it was asked for.
 #[derive(Clone, Debug, PartialEq, Eq)]
 pub struct Item {
-    /// `FILE:LINE`, or `FILE` of a binary file.
+    /// `FILE:LINE`, `FILE` of a binary file, or `FILE: handle H` of an object in a drawing.
     pub origin: String,
     /// The line's number, from 1; a binary file has none.
     pub line: Option<u64>,
@@ -42,7 +45,7 @@ pub struct Item {
     pub entry: Entry,
 }
 
-/// What a binary file holds.
+/// What a binary file holds, or what is read of a drawing.
 #[derive(Clone, Copy, Debug, PartialEq, Eq)]
 pub enum Kind {
     /// A hatch body.
@@ -54,8 +57,8 @@ pub enum Kind {
 /// Where a command's input is. A file is a name, or `-` for standard input.
 #[derive(Clone, Debug, PartialEq, Eq)]
 pub enum Input {
-    /// A file of request lines.
-    Requests(OsString),
+    /// A file of request lines, or a whole drawing, of which this kind is read.
+    Requests(OsString, Kind),
     /// A binary file.
     Binary(Binary),
 }
@@ -91,15 +94,27 @@ impl Input {
     /// or a line is no text, there is no item after the failure.
     pub fn items(&self) -> Result<Items, Failure> {
         match self {
-            Input::Requests(file) => Ok(Items::of_lines(name(file), open(file)?)),
-            Input::Binary(binary) => Ok(Items { left: Left::One(Some(binary.item()?)), only: None }),
+            Input::Requests(file, kind) => match opened(file)? {
+                Opened::Drawing(drawing) => Ok(Items { left: Left::Drawing(DrawingItems::new(name(file), drawing, *kind)), only: None }),
+                Opened::Lines(lines) => Ok(Items::of_lines(name(file), lines)),
+            },
+            Input::Binary(binary) => Ok(Items { left: Left::One(Some(Ok(binary.item()?))), only: None }),
+        }
+    }
+
+    /// The drawing, where the input is one.
+    pub fn drawing(&self) -> Result<Option<Drawing>, Failure> {
+        let Input::Requests(file, _) = self else { return Ok(None) };
+        match opened(file)? {
+            Opened::Drawing(drawing) => Ok(Some(drawing)),
+            Opened::Lines(_) => Ok(None),
         }
     }
 
     /// The name of the file that has the requests or the main payload, for messages.
     pub fn name(&self) -> String {
         match self {
-            Input::Requests(file) | Input::Binary(Binary { file, .. }) => name(file),
+            Input::Requests(file, _) | Input::Binary(Binary { file, .. }) => name(file),
         }
     }
 
@@ -109,7 +124,7 @@ impl Input {
             Input::Binary(Binary { strings: Some(strings), .. }) => Some(&strings.file),
             _ => None,
         };
-        let (Input::Requests(file) | Input::Binary(Binary { file, .. })) = self;
+        let (Input::Requests(file, _) | Input::Binary(Binary { file, .. })) = self;
         [Some(file), strings].into_iter().flatten().all(|file| file != "-" && fs::metadata(file).is_ok_and(|file| file.is_file()))
     }
 
@@ -122,7 +137,7 @@ impl Input {
     /// The files that are read; standard input is none.
     pub fn files(&self) -> Vec<&OsStr> {
         let files = match self {
-            Input::Requests(file) => [Some(file), None],
+            Input::Requests(file, _) => [Some(file), None],
             Input::Binary(binary) => [Some(&binary.file), binary.strings.as_ref().map(|strings| &strings.file)],
         };
         files.into_iter().flatten().map(OsString::as_os_str).filter(|file| *file != "-").collect()
@@ -161,7 +176,8 @@ pub struct Items {
 /// What is left of an input.
 enum Left {
     Lines { name: String, number: u64, lines: BufReader<Box<dyn Read + Send>> },
-    One(Option<Item>),
+    Drawing(DrawingItems),
+    One(Option<Result<Item, Failure>>),
 }
 
 impl Items {
@@ -193,9 +209,15 @@ impl Items {
         matches!(&self.left, Left::Lines { lines, .. } if !lines.buffer().contains(&b'\n'))
     }
 
-    /// Only the item of this line; the others are passed over unread.
+    /// Only the item of this line; the others are passed over unread. A drawing has no lines.
     pub fn only(self, line: Option<u64>) -> Items {
-        Items { only: line, ..self }
+        match (&self.left, line) {
+            (Left::Drawing(_), Some(_)) => {
+                let wrong = "--only names a line, and a drawing has none; dwg-hatch cut writes its hatches as lines".to_string();
+                Items { left: Left::One(Some(Err(Failure::Usage(wrong)))), only: None }
+            }
+            _ => Items { only: line, ..self },
+        }
     }
 }
 
@@ -237,7 +259,7 @@ impl Iterator for Items {
     }
 }
 
-/// What one line of an input holds, or all of a binary file.
+/// What one line of an input holds, the next item of a drawing, or all of a binary file.
 enum Step {
     PassedOver,
     Found(Result<Item, Failure>),
@@ -246,9 +268,10 @@ enum Step {
 
 impl Items {
     fn step(&mut self) -> Step {
-        let Left::Lines { name, number, lines } = &mut self.left else {
-            let Left::One(item) = &mut self.left else { return Step::End };
-            return item.take().map_or(Step::End, |item| Step::Found(Ok(item)));
+        let (name, number, lines) = match &mut self.left {
+            Left::Lines { name, number, lines } => (name, number, lines),
+            Left::Drawing(items) => return items.next().map_or(Step::End, Step::Found),
+            Left::One(item) => return item.take().map_or(Step::End, Step::Found),
         };
         *number += 1;
         let last = match next_line(name, *number, lines) {
@@ -304,16 +327,34 @@ fn item(name: &str, number: u64, line: &[u8]) -> Result<Item, Failure> {
     }
 }
 
-/// A binary file's bytes, but not more than one above the limit.
+/// A binary file's bytes, but not more than one above the limit. A whole drawing is no payload.
 fn payload(file: &OsStr) -> Result<Vec<u8>, Failure> {
     let mut bytes = Vec::new();
     open(file)?.take(LIMIT as u64 + 1).read_to_end(&mut bytes).map_err(|error| unreadable(&name(file), &error))?;
-    Ok(bytes)
+    Letters::of(&bytes).map_or(Ok(bytes), |letters| Err(letters.no_payload(&name(file))))
+}
+
+/// A file that is no payload, by its first letters.
+enum Opened {
+    Drawing(Drawing),
+    Lines(Box<dyn Read + Send>),
+}
+
+fn opened(file: &OsStr) -> Result<Opened, Failure> {
+    let mut rest = open(file)?;
+    let mut first = Vec::new();
+    rest.by_ref().take(letters::COUNT as u64).read_to_end(&mut first).map_err(|error| unreadable(&name(file), &error))?;
+    let letters = Letters::of(&first);
+    let whole = Cursor::new(first).chain(rest);
+    Ok(match letters {
+        Some(letters) => Opened::Drawing(items::drawing(&name(file), letters, whole)?),
+        None => Opened::Lines(Box::new(whole)),
+    })
 }
 
 fn open(file: &OsStr) -> Result<Box<dyn Read + Send>, Failure> {
     if file == "-" {
-        return Ok(Box::new(Counted(io::stdin())));
+        return Ok(Box::new(Counted(streams::input())));
     }
     let open = File::open(file).map_err(|error| unreadable(&name(file), &error))?;
     Ok(Box::new(Counted(open)))
@@ -324,7 +365,7 @@ fn name(file: &OsStr) -> String {
     if file == "-" { "standard input".to_string() } else { shown(file.as_bytes()) }
 }
 
-fn unreadable(name: &str, error: &io::Error) -> Failure {
+pub fn unreadable(name: &str, error: &io::Error) -> Failure {
     Failure::Read(format!("{name} cannot be read: {error}; name a file that can be read, or - for standard input"))
 }
 

@@ -1,6 +1,7 @@
 //! The commands: what they take, where their input is, and what they write. Reading and drawing stand apart; both know the protocol's requests.
 
 pub mod angles;
+pub mod cut;
 pub mod draw;
 pub mod each;
 pub mod failure;
@@ -10,3 +11,5 @@ pub mod lines;
 pub mod options;
 pub mod out_file;
 pub mod read;
+pub mod streams;
+pub mod warnings;

@@ -3,6 +3,8 @@
 use std::ffi::{OsStr, OsString};
 use std::os::unix::ffi::OsStrExt;
 
+use dwg_hatch::Release;
+
 use crate::commands::failure::{shown, Failure};
 use crate::commands::input::{Binary, BinaryStrings, Input, Kind};
 use crate::jobs::{self, MOST_JOBS};
@@ -113,10 +115,10 @@ impl Command {
 
     fn input(&self, options: &Options, file: &OsStr) -> Result<Input, Failure> {
         let file = file.to_os_string();
-        let Some(release) = self.number(options, "--release")? else {
+        let Some(release) = self.release(options)? else {
             return match BINARY.iter().find(|name| options.has(name)) {
                 Some(name) => Err(self.usage(format!("{name} goes with --release N, which says that the file is binary"))),
-                None => Ok(Input::Requests(file)),
+                None => Ok(Input::Requests(file, self.kind)),
             };
         };
         let start = self.place(options, "--start")?.unwrap_or(0);
@@ -134,6 +136,17 @@ impl Command {
             None if start.or(end).is_some() => Err(self.usage("--string-start and --string-end go with --strings FILE".to_string())),
             None => Ok(None),
         }
+    }
+
+    /// The release's number: any, so that what the library says of an unknown one is seen, or that of a release by its name.
+    fn release(&self, options: &Options) -> Result<Option<u64>, Failure> {
+        let Some(value) = options.value("--release") else { return Ok(None) };
+        let named = || value.to_str()?.parse().ok().map(Release::number);
+        let wrong = || {
+            let names = Release::ALL.map(Release::name).join(", ");
+            self.usage(format!("--release is \"{}\", which is none of {names}, nor a number", shown(value.as_bytes())))
+        };
+        number(value.as_bytes()).or_else(named).map(Some).ok_or_else(wrong)
     }
 
     fn place(&self, options: &Options, name: &str) -> Result<Option<usize>, Failure> {
@@ -175,7 +188,7 @@ mod tests {
         let read = Command { name: "read", kind: Kind::Hatch, switches: &["--json"], values: &[] };
         let words = |line: &str| line.split(' ').map(Into::into).collect::<Vec<OsString>>();
         let Ok(Asked::Run { options, input }) = read.parse(&words("--json requests.txt")) else { panic!("no work") };
-        assert!(options.has("--json") && input == Input::Requests("requests.txt".into()));
+        assert!(options.has("--json") && input == Input::Requests("requests.txt".into(), Kind::Hatch));
         let failure = read.parse(&words("--start 3 body.bin")).unwrap_err();
         assert_eq!(failure.to_string(), "--start goes with --release N, which says that the file is binary; dwg-hatch read --help says more");
     }

@@ -32,6 +32,13 @@ pub fn write<T>(file: &OsStr, put: impl FnOnce(&mut BufWriter<&File>) -> Result<
     if old.as_ref().is_some_and(|old| !old.is_file()) {
         return Err(unwritable(io::Error::other("it is there and is no file")));
     }
+    // The folder's rights alone would let a file be replaced that may not be written to.
+    if old.as_ref().is_some_and(|old| old.permissions().readonly()) {
+        return Err(unwritable(io::Error::other("its rights do not let it be written to")));
+    }
+    if old.is_some() {
+        OpenOptions::new().append(true).open(&path).map_err(unwritable)?;
+    }
     let (beside, new) = beside(&path).map_err(unwritable)?;
     let mut writer = BufWriter::with_capacity(1 << 16, &new);
     let written = put(&mut writer).and_then(|given| {

@@ -1,6 +1,6 @@
 //! Answers to request lines, as the protocol fixes them.
 
-use std::fmt::Display;
+use std::fmt::{Display, Write as _};
 use std::io::{self, Read, Write};
 
 use dwg_hatch::{CommonEntityData, Reading, Refusal, Source, Text};
@@ -18,12 +18,14 @@ const BAD_REQUEST: &str = "bad request";
 pub struct Answerer {
     doubles: Doubles,
     zeros: Zeros,
+    lists: hatch_form::Lists,
 }
 
 impl Answerer {
     /// With `f64_entries` doubles are read by the f64 entries and a NaN is written as 7ff8000000000000, else as their 64 bits.
     pub fn new(f64_entries: bool) -> Answerer {
-        Answerer { doubles: if f64_entries { Doubles::F64 } else { Doubles::Bits }, zeros: Zeros::default() }
+        let doubles = if f64_entries { Doubles::F64 } else { Doubles::Bits };
+        Answerer { doubles, zeros: Zeros::default(), lists: hatch_form::Lists::default() }
     }
 
     /// The answer to one line, without a line end.
@@ -72,7 +74,12 @@ impl Answerer {
         self.zeros.reserve(&request.payload);
         let payload = self.zeros.lend(&request.payload);
         let reading = dwg_hatch::read_tv(payload, request.start, request.release);
-        written(reading.map(|(text, place)| (text_form(&text, payload), place)))
+        let form = |text: &Text| {
+            let mut form = String::new();
+            put_text(&mut form, text, payload);
+            form
+        };
+        written(reading.map(|(text, place)| (form(&text), place)))
     }
 
     fn prefix(&mut self, request: &PrefixRequest) -> String {
@@ -84,29 +91,27 @@ impl Answerer {
     fn hatch(&mut self, request: &HatchRequest) -> String {
         let body = request.body(&mut self.zeros);
         let line = match self.doubles {
-            Doubles::Bits => hatch_form::bits_line(&body, request.lent),
-            Doubles::F64 => hatch_form::f64_line(&body, request.lent),
+            Doubles::Bits => self.lists.bits_line(&body, request.lent),
+            Doubles::F64 => self.lists.f64_line(&body, request.lent),
         };
         line.unwrap_or_else(|refusal| refused(&refusal))
     }
 }
 
-/// The protocol's T, SOURCE:WIDTH:POSITION:COUNT:UNITS, of a text in its payload. A text that a reading gave lies in that reading's
+/// Adds the protocol's T, SOURCE:WIDTH:POSITION:COUNT:UNITS, of a text in its payload. A text that a reading gave lies in that reading's
 /// payload; if it does not, no answer is better than a wrong one.
-pub fn text_form(text: &Text, payload: &[u8]) -> String {
+pub fn put_text(line: &mut String, text: &Text, payload: &[u8]) {
     let source = match text.source {
         Source::None => '-',
         Source::Main => 'm',
         Source::String => 's',
     };
-    let digits = usize::from(text.width / 4);
-    let units = text.units(payload).unwrap_or_else(|| panic!("{}", OUTSIDE));
-    let mut form = format!("{source}:{}:{}:{}:", text.width, text.position, text.count);
+    let units = text.units(payload).expect(OUTSIDE);
+    write!(line, "{source}:{}:{}:{}:", text.width, text.position, text.count).expect("a String takes every text");
     if units.is_empty() {
-        form.push('-');
+        line.push('-');
     }
-    form.extend(units.iter().map(|unit| format!("{unit:0digits$x}")));
-    form
+    units.iter().for_each(|unit| put_digits(line, u64::from(*unit), usize::from(text.width / 4)));
 }
 
 /// The fields of a prefix's answer after its first place, the second place among them: there is no reader, so it is 0.
@@ -187,7 +192,15 @@ fn double(reading: Reading<f64>) -> Reading<String> {
 
 /// The protocol's D, of a double's 64 bits.
 pub fn digits(bits: u64) -> String {
-    format!("{bits:016x}")
+    let mut text = String::new();
+    put_digits(&mut text, bits, 16);
+    text
+}
+
+/// Adds the last so many hexadecimal digits of a number, 16 at most.
+pub fn put_digits(line: &mut String, number: u64, count: usize) {
+    let digits: [u8; 16] = std::array::from_fn(|at| b"0123456789abcdef"[(number >> (60 - 4 * at) & 15) as usize]);
+    line.push_str(std::str::from_utf8(&digits[16 - count..]).expect("digits are ASCII"));
 }
 
 /// Every NaN is written as one, since an f64 entry promises no NaN's pattern.
@@ -204,7 +217,7 @@ fn written<T: Display>(reading: Reading<T>) -> String {
 }
 
 fn refused(refusal: &Refusal) -> String {
-    format!("err {} {} {}", refusal.number, refusal.place, refusal.second_place)
+    format!("err {} {} {}", refusal.number(), refusal.place, refusal.second_place)
 }
 
 /// Answers every line of `input` on `output`, in order, by so many jobs.

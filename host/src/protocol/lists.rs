@@ -12,7 +12,7 @@ pub fn lengths(body: &HatchBody, lent: Option<Lent>) -> Result<Lent, Refusal> {
     Ok(Lent { words: lent.words.min(needed.words + 1), numbers: lent.numbers.min(needed.numbers + 1) })
 }
 
-/// The body's record and lists, by the call that is given. Lists of the lengths that a request lends may be too short, which is refused (11).
+/// The body's record and lists, by the call that is given. Lists of the lengths that a request lends may be too short, which is refused.
 pub fn lists<Double: Clone + Default>(
     body: &HatchBody,
     lent: Option<Lent>,

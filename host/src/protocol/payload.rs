@@ -13,6 +13,14 @@ pub enum Payload {
 }
 
 impl Payload {
+    /// Its length in bits.
+    pub fn bits(&self) -> u128 {
+        8 * match self {
+            Payload::Bytes(bytes) => bytes.len() as u128,
+            Payload::Zeros(count) => u128::from(*count),
+        }
+    }
+
     /// The payload that a request's field names: `-`, `zN`, or bytes in hexadecimal.
     pub fn parse(field: &[u8]) -> Option<Payload> {
         match field {
@@ -28,12 +36,28 @@ fn bytes(field: &[u8]) -> Option<Vec<u8>> {
     if field.is_empty() || field.len() % 2 != 0 {
         return None;
     }
-    field.chunks_exact(2).map(|pair| Some(digit(pair[0])? << 4 | digit(pair[1])?)).collect()
+    // Above 15 where one of the digits is none, so that there is one test for all bytes.
+    let mut wrong = 0;
+    let mut byte = |pair: &[u8]| {
+        let [high, low] = [DIGITS[usize::from(pair[0])], DIGITS[usize::from(pair[1])]];
+        wrong |= high | low;
+        high << 4 | low
+    };
+    let bytes = field.chunks_exact(2).map(&mut byte).collect();
+    (wrong < 16).then_some(bytes)
 }
 
-fn digit(byte: u8) -> Option<u8> {
-    char::from(byte).to_digit(16).map(|value| value as u8)
-}
+/// The value of each byte as a hexadecimal digit, and 16 for a byte that is none.
+const DIGITS: [u8; 256] = {
+    let mut values = [16; 256];
+    let mut value = 0;
+    while value < 16 {
+        values[b"0123456789abcdef"[value as usize] as usize] = value;
+        values[b"0123456789ABCDEF"[value as usize] as usize] = value;
+        value += 1;
+    }
+    values
+};
 
 /// Zero bytes to lend, kept from one request to the next, so that a payload at the limit costs one allocation for all of them. The
 /// allocation is asked for as zeros, and so no memory is touched before it is read.
@@ -79,6 +103,7 @@ mod tests {
         assert_eq!(Payload::parse(b"-"), Some(Payload::Bytes(vec![])));
         assert_eq!(Payload::parse(b"z12"), Some(Payload::Zeros(12)));
         assert_eq!(Payload::parse(b"3Ff"), None);
+        assert_eq!([Payload::Bytes(vec![0; 3]).bits(), Payload::Zeros(u64::MAX).bits()], [24, 8 * u128::from(u64::MAX)]);
         let (mut zeros, payload) = (Zeros::default(), Payload::Zeros(3));
         zeros.reserve(&payload);
         assert_eq!(zeros.lend(&payload), [0, 0, 0]);

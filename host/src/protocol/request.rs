@@ -1,6 +1,6 @@
 //! A line of the protocol as a request.
 
-use dwg_hatch::{HatchBody, StringReader};
+use dwg_hatch::{HatchBody, Release, StringReader};
 
 use crate::protocol::payload::{Payload, Zeros};
 
@@ -53,8 +53,8 @@ pub enum Code {
 /// An inline text.
 #[derive(Clone, Debug, PartialEq, Eq)]
 pub struct TextRequest {
-    /// The release, 1 to 7.
-    pub release: u64,
+    /// The release.
+    pub release: Release,
     /// The start bit.
     pub start: usize,
     /// The payload.
@@ -95,7 +95,7 @@ impl HatchRequest {
         let lend = |payload| zeros.lend(payload);
         let reader = |strings: &'a Strings| StringReader { payload: lend(&strings.payload), start: strings.start, end: strings.end };
         let strings = self.strings.as_ref().map(reader);
-        HatchBody { payload: lend(&self.payload), start: self.start, release: self.release, strings }
+        HatchBody { payload: lend(&self.payload), start: self.start, release_number: self.release, strings }
     }
 }
 
@@ -182,9 +182,9 @@ fn named(name: &[u8]) -> Option<Code> {
     })
 }
 
-/// A release that a single code takes: 1 to 7.
-fn known(field: &[u8]) -> Option<u64> {
-    number(field).filter(|release| (1..=7).contains(release))
+/// A release that a single code or text takes: 1 to 7.
+fn known(field: &[u8]) -> Option<Release> {
+    Release::try_from(number(field)?).ok()
 }
 
 /// A bit offset or a length.

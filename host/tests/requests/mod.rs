@@ -27,7 +27,7 @@ impl Request {
     /// The body that it names.
     pub fn body(&self) -> HatchBody<'_> {
         let strings = self.strings.as_ref().map(|(payload, start, end)| StringReader { payload, start: *start, end: *end });
-        HatchBody { payload: &self.payload, start: self.start, release: self.release, strings }
+        HatchBody { payload: &self.payload, start: self.start, release_number: self.release, strings }
     }
 }
 

@@ -107,7 +107,7 @@ impl<'a> Wanted<'a> {
         file.map_or(Ok(()), |file| out_file::is_no_input(file, input))?;
         let width = whole(options, "--width", "pixels from 1 to 100000", 1..=u64::from(View::TALLEST))?.map_or(WIDTH, |width| width as u32);
         let only = whole(options, "--only", "a request line, from 1", 1..=u64::MAX)?;
-        if only.is_some() && !matches!(input, Input::Requests(_)) {
+        if only.is_some() && !matches!(input, Input::Requests(..)) {
             return Err(DRAW.usage("--only names a line, and a binary file has none".to_string()));
         }
         let most = whole(options, "--max-lines", "strokes from 0 to 10000000", 0..=10_000_000)?;
@@ -234,7 +234,7 @@ mod tests {
 
     #[test]
     fn a_file_that_is_missing_is_status_1() {
-        let missing = Input::Requests("no such file".into());
+        let missing = Input::Requests("no such file".into(), Kind::Hatch);
         assert_eq!(run(&Options::default(), &missing, Vec::new(), Vec::new()).unwrap_err().status(), 1);
     }
 }

@@ -15,18 +15,22 @@ type Field = (&'static str, String);
 
 /// What was asked for, the fields that all objects start with.
 fn asked(item: &Item) -> Vec<Field> {
-    let (request, release, start) = match &item.entry {
-        Entry::Hatch(hatch) => (if hatch.strings.is_some() { "hatchs" } else { "hatch" }, hatch.release, hatch.start),
-        Entry::Prefix(prefix) => ("prefix", prefix.release, prefix.start),
+    let (request, release, start, payload) = match &item.entry {
+        Entry::Hatch(hatch) => (if hatch.strings.is_some() { "hatchs" } else { "hatch" }, hatch.release, hatch.start, &hatch.payload),
+        Entry::Prefix(prefix) => ("prefix", prefix.release, prefix.start, &prefix.payload),
     };
     let mut fields = vec![
         ("origin", string(&item.origin)),
         ("request", string(request)),
         ("release", release.to_string()),
         ("start", start.to_string()),
+        ("payload_bits", payload.bits().to_string()),
     ];
     if let Entry::Hatch(hatch) = &item.entry {
-        let reader = |strings: &Strings| object([("start", strings.start.to_string()), ("end", strings.end.to_string())]);
+        let reader = |strings: &Strings| {
+            let bits = strings.payload.bits().to_string();
+            object([("start", strings.start.to_string()), ("end", strings.end.to_string()), ("payload_bits", bits)])
+        };
         fields.push(("strings", or_null(hatch.strings.as_ref().map(reader))));
     }
     fields
@@ -35,9 +39,9 @@ fn asked(item: &Item) -> Vec<Field> {
 /// A refusal.
 pub fn refusal(item: &Item, refusal: &Refusal) -> String {
     let parts = object([
-        ("number", refusal.number.to_string()),
-        ("meaning", string(refusal.meaning())),
-        ("advice", string(refusal.advice())),
+        ("number", refusal.number().to_string()),
+        ("meaning", string(refusal.reason.meaning())),
+        ("advice", string(refusal.reason.advice())),
         ("place", refusal.place.to_string()),
         ("second_place", refusal.second_place.to_string()),
     ]);

@@ -1,14 +1,15 @@
 //! Hatches and prefixes as a person reads them: a line for each thing that they hold. Each double has all its digits.
 
-use dwg_hatch::{CommonEntityBits, GradientFill, Hatch, HatchEdge, HatchPath, HatchPathSegments, Name, PatternLine, Point2D, Source, Text, TypedHatch};
+use dwg_hatch::{
+    CommonEntityBits, GradientFill, Hatch, HatchEdge, HatchPath, HatchPathSegments, Name, PatternLine, Point2D, Release, Source, Text, TypedHatch,
+};
 
 use super::measures::{self, Measures};
-use crate::commands::failure::counted;
+use crate::commands::failure::{counted, grouped};
 use crate::commands::input::Item;
+use crate::protocol::payload::Payload;
 use crate::protocol::request::{HatchRequest, PrefixRequest};
 
-/// The releases, from 1.
-const RELEASES: [&str; 7] = ["R14", "R2000", "R2004", "R2007", "R2010", "R2013", "R2018"];
 const STYLES: [&str; 3] = ["odd parity", "outermost", "whole area"];
 const TYPES: [&str; 3] = ["user-defined", "predefined", "custom"];
 const LINETYPES: [&str; 4] = ["the layer's", "the block's", "continuous", "by its handle"];
@@ -23,10 +24,10 @@ const FLAGS: [(u32, &str); 5] = [
 /// A hatch, without a last line end.
 pub fn hatch(item: &Item, request: &HatchRequest, typed: &TypedHatch<u64>) -> String {
     let hatch = &typed.hatch;
-    let mut lines = vec![title(item, "hatch", request.release, request.start, hatch.places.main)];
+    let mut lines = vec![title(item, "hatch", request.release, [request.start, hatch.places.main], &request.payload)];
     if let Some(strings) = &request.strings {
-        let (start, end) = (strings.start, strings.end);
-        lines.push(line("strings", format!("bits {start} to {}, of bits {start} to {end}", hatch.places.string)));
+        let (start, end, length) = (strings.start, strings.end, grouped(strings.payload.bits()));
+        lines.push(line("strings", format!("bits {start} to {}, of bits {start} to {end}, of {length}", hatch.places.string)));
     }
     if let Some((fill, name)) = hatch.gradient.as_ref().zip(typed.gradient_name.as_ref()) {
         lines.extend(gradient(fill, name));
@@ -50,7 +51,7 @@ pub fn prefix(item: &Item, request: &PrefixRequest, data: &CommonEntityBits, pla
     let [full, face, edge] = data.visual_style_flags.map(yes);
     let linetype = LINETYPES[usize::from(data.ltype_flags & 3)];
     let lines = [
-        title(item, "prefix", request.release, request.start, place),
+        title(item, "prefix", request.release, [request.start, place], &request.payload),
         line("mode", format!("{} ({:?}); reactors: {}", data.raw_mode, data.mode, data.num_reactors)),
         line("color", format!("{}; rgb {}, alpha {}", data.color_raw, hexadecimal(data.color_rgb), hexadecimal(data.color_alpha))),
         line("linetype", format!("{} ({linetype}), scale {}", data.ltype_flags, double(data.ltype_scale))),
@@ -66,9 +67,10 @@ pub fn prefix(item: &Item, request: &PrefixRequest, data: &CommonEntityBits, pla
     lines.join("\n")
 }
 
-fn title(item: &Item, kind: &str, release: u64, start: usize, end: usize) -> String {
-    let known = usize::try_from(release).ok().and_then(|release| RELEASES.get(release.wrapping_sub(1)));
-    format!("{}: {kind}, release {release} ({}), bits {start} to {end}", item.origin, known.unwrap_or(&"unknown"))
+/// The first line. The ends are written as an option takes them.
+fn title(item: &Item, kind: &str, release: u64, [start, end]: [usize; 2], payload: &Payload) -> String {
+    let name = Release::try_from(release).map_or("unknown", Release::name);
+    format!("{}: {kind}, release {release} ({name}), bits {start} to {end} of {}", item.origin, grouped(payload.bits()))
 }
 
 /// A line with what it is about in front.
