@@ -2,7 +2,8 @@
 use mathlib.Core.Path.{_≡_, refl, sym, ap, ap₂, subst, _∙_}
 use mathlib.Core.List.{List}
 use Prim.Native.Nat.{ℕ, zero, suc, _+_, _-_, _*_, _/_, _%_, _^_, _≤_, _<_}
-use native.Mathlib.Nat.{add-zero, mul-assoc, mul-comm, mul-add-div-right, mul-add-mod-self-right, mod-eq-of-lt, div-eq-of-lt, lt-of-lt-of-le, zero-add, suc-add, mul-one}
+use native.Mathlib.Nat.{add-zero, mul-assoc, mul-add-div-right, mul-add-mod-self-right, mod-eq-of-lt, div-eq-of-lt}
+use native.Mathlib.Nat.{lt-of-lt-of-le, zero-add, suc-add, mul-one}
 use native.Mathlib.Omega.{arith}
 use lib.ListN.{length}
 use lib.Pow.{pow-add, pow-pos, pow-mono, high, shl-shr}

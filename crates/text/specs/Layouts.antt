@@ -55,12 +55,12 @@ module _ (xs : List ℕ) (p : ℕ) where
       judge n r l t f g false h k = never k
 
       from-units : (n r : ℕ) → BS .read xs p ≡ got n r → (o : Out ℕ (List ℕ)) → (units 2 n) .read xs r ≡ o
-          → andThen o (λ l t. (checked (lawful wide (unclosed l)) (give (written (r - p) (unclosed l))) (refuse NotUtf16)) .read xs t) ≡ got u s → Parts xs p u s
+          → andThen o (λ l t. (judged wide (r - p) l) .read xs t) ≡ got u s → Parts xs p u s
       from-units n r f (got l t) g k = judge n r l t f g (lawful wide (unclosed l)) refl k
       from-units n r f (refused a t) g k = never k
 
       from-length : (o : Out ℕ ℕ) → BS .read xs p ≡ o
-          → andThen (measured-out BS p o) (λ m r. andThen ((units 2 (m .1)) .read xs r) (λ l t. (checked (lawful wide (unclosed l)) (give (written (m .0) (unclosed l))) (refuse NotUtf16)) .read xs t)) ≡ got u s
+          → andThen (measured-out BS p o) (λ m r. andThen ((units 2 (m .1)) .read xs r) (λ l t. (judged wide (m .0) l) .read xs t)) ≡ got u s
           → Parts xs p u s
       from-length (got n r) f k = from-units n r f ((units 2 n) .read xs r) refl k
       from-length (refused a r) f k = never k
@@ -110,7 +110,8 @@ module _ (xs : List ℕ) (p : ℕ) where
           → unitsText String wide r (got l s) ≡ got (textOf String wide p u) s
       shown r l s u e f on =
           let m : p + (r - p) ≡ r = omega arith in
-          rw (e, unitsText) (ap (λ (k : ℕ). got (textAt String wide k (length (unclosed l))) s) (sym m) ∙ ap (λ (v : Written). got (textOf String wide p v) s) (sym f))
+          rw (e, unitsText)
+          (ap (λ (k : ℕ). got (textAt String wide k (length (unclosed l))) s) (sym m) ∙ ap (λ (v : Written). got (textOf String wide p v) s) (sym f))
 
 -- ---- the rule's readings are these layouts
 module _ (γ : Payloads) (t : Text) (p q : Places) where
@@ -148,8 +149,9 @@ module _ (γ : Payloads) (t : Text) (p q : Places) where
       ⊎-elim
       (λ (z : n ≤ 0).
       let y : n ≡ 0 = omega arith in
-      finish n r f h (inl y)
-      (sym (ap (lifted string p) (reader-empty (γ .end) (γ .string) (p .string) h f on y ∙ ap (λ (m : ℕ). unitsText String wide r ((units 2 m) .read (γ .string) r)) (sym y))) ∙ e))
+      let read = reader-empty (γ .end) (γ .string) (p .string) h f on y
+      ∙ ap (λ (m : ℕ). unitsText String wide r ((units 2 m) .read (γ .string) r)) (sym y) in
+      finish n r f h (inl y) (sym (ap (lifted string p) read) ∙ e))
       (λ (z : 0 < n).
       let y : n ≡ 0 → ⊥ = λ x. omega arith in
       ⊎-elim
@@ -175,10 +177,10 @@ module _ (γ : Payloads) (t : Text) (p q : Places) where
   reader-from (laid u h l f e) =
       let r = (TV wide) .complete (γ .string) u (p .string) (l .end) (l .laid) in
       let m : q .string ≡ l .end = ap (λ (s : Places). s .string) (l .moved) in
-      from-reader .sound γ t p q
-      (reader-reads γ p
-      ∙ ap (lifted string p) (ruled (γ .string) (p .string) (γ .end) (parts (γ .string) (p .string) u (l .end) r) h (⊎-elim (λ (w : q .string ≤ γ .end). inl (omega arith)) (λ (w : q .string ≡ p .string + u .lead). inr (omega arith)) f))
-      ∙ ap₂ got (sym e) (sym (l .moved)))
+      let ends : (l .end ≤ γ .end) ⊎ (l .end ≡ p .string + u .lead) =
+      ⊎-elim (λ (w : q .string ≤ γ .end). inl (omega arith)) (λ (w : q .string ≡ p .string + u .lead). inr (omega arith)) f in
+      let read = ruled (γ .string) (p .string) (γ .end) (parts (γ .string) (p .string) u (l .end) r) h ends in
+      from-reader .sound γ t p q (reader-reads γ p ∙ ap (lifted string p) read ∙ ap₂ got (sym e) (sym (l .moved)))
 
 -- text from the lent reader, with its layouts said so
 unfoldable pub reader-text : Format both Text

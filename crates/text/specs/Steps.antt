@@ -44,7 +44,8 @@ module _ (source : Source) (w : UnitWidth) (xs : List ℕ) (at p : ℕ) (on : at
 
 -- ---- inline text, by its length code
 module _ (w : UnitWidth) (xs : List ℕ) (at : ℕ) where
-  pub inline-got : {n p : ℕ} → BS .read xs at ≡ got n p → at ≤ p → placed Main w at ((TV w) .read xs at) ≡ unitsText Main w p ((units (unitBytes w) n) .read xs p)
+  pub inline-got : {n p : ℕ} → BS .read xs at ≡ got n p → at ≤ p
+      → placed Main w at ((TV w) .read xs at) ≡ unitsText Main w p ((units (unitBytes w) n) .read xs p)
   unfolding TV tabled TV-read _>>=_ measured
   inline-got {n} {p} e on = rw e (inline-rest Main w xs at p on ((units (unitBytes w) n) .read xs p))
 

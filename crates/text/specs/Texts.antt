@@ -119,7 +119,8 @@ TV-to w t cs l = go (lawful w (unclosed laid)) refl (l .4 .4)
         → (checked b (give (written (l .0 .0) (unclosed laid))) (refuse NotUtf16)) .codes t (l .4 .2) → TV-codes w t cs
     go true e m =
         let h : BS-codes (length laid) (l .1) = subst⁻¹ (λ (n : ℕ). BS-codes n (l .1)) (l .4 .3 .0) (l .3 .0) in
-        let f : cs ≡ l .1 ++ unitBits (unitBytes w) laid = l .5 ∙ ap (λ (es : List Bool). l .1 ++ es) (l .4 .5 ∙ ap₂ _++_ (l .4 .3 .2) (m .1) ∙ append-nil (unitBits (unitBytes w) laid)) in
+        let bs = unitBits (unitBytes w) laid in
+        let f : cs ≡ l .1 ++ bs = l .5 ∙ ap (λ (es : List Bool). l .1 ++ es) (l .4 .5 ∙ ap₂ _++_ (l .4 .3 .2) (m .1) ∙ append-nil bs) in
         let g : t ≡ written (length (l .1)) (unclosed laid) = m .0 ∙ ap (λ (n : ℕ). written n (unclosed laid)) (l .3 .1) in
         subst₂ (TV-codes w) (sym g) (sym f) (TV-of h (l .4 .3 .1) (closed-unclosed laid) (lawful-to w (unclosed laid) e))
     go false e m = absurd m

@@ -4,12 +4,10 @@ use Prim.Native.Nat.{ℕ, _+_, _-_, _*_, _≤_, _<_}
 use native.Mathlib.Omega.{arith}
 use denote.Ref.{now}
 use mathlib.Core.Bool.{Bool, true, false}
-use Rattle.bitcursor.specs.Codes.{BS}
-use Rattle.bitcursor.specs.Ranges.{read-below, BS-below}
-use Rattle.bitcursor.specs.Stops.{ends-inside, BS-past}
-use Rattle.bitcursor.proofs.Steps.{read-value, read-refused}
+use Rattle.bitcursor.proofs.Steps.{read-refused}
 use Rattle.text.specs.Answers.{asText}
 use Rattle.text.specs.Steps.{reader-over, reader-refused, reader-past, reader-empty, reader-units}
+use Rattle.text.proofs.TextLaws.{length-code}
 use borrow.Author.Needs.{needs}
 use Rattle.text.proofs.within.read_string_tv.Statement.{statement}
 use Rattle.text.proofs.within.read_string_tv.Tie as tie
@@ -33,11 +31,8 @@ returns-2 c =
     let after-read-bs-u = after-n .before .before in
     let entry = after-read-bs-u .before .before .before in
     let a = entry .args in
-    let m = after-n .n .given in
-    let o = read-value _ (after-read-bs-u .read-bs-u .ensures) (m .1) in
-    let i = ends-inside BS BS-past (now (a .s)) (a .at) o in
-    let b = read-below BS BS-below (now (a .s)) (a .at) o in
-    c .wide-units .ensures ∙ sym (ap asText (reader-empty (a .end) (now (a .s)) (a .at) (omega arith) o (i .0) (then2 .if2 .taken)))
+    let code = length-code (now (a .s)) (a .at) (after-read-bs-u .read-bs-u .ensures) (after-n .n .given .1) in
+    c .wide-units .ensures ∙ sym (ap asText (reader-empty (a .end) (now (a .s)) (a .at) (omega arith) (code .read) (code .on) (then2 .if2 .taken)))
 
 mul-if3 : tie.Need-mul-if3
 mul-if3 c =
@@ -45,10 +40,7 @@ mul-if3 c =
     let after-read-bs-u = after-n .before .before in
     let entry = after-read-bs-u .before .before .before in
     let a = entry .args in
-    let m = after-n .n .given in
-    let o = read-value _ (after-read-bs-u .read-bs-u .ensures) (m .1) in
-    let i = ends-inside BS BS-past (now (a .s)) (a .at) o in
-    let b = read-below BS BS-below (now (a .s)) (a .at) o in
+    let code = length-code (now (a .s)) (a .at) (after-read-bs-u .read-bs-u .ensures) (after-n .n .given .1) in
     omega arith
 
 add-if3 : tie.Need-add-if3
@@ -57,10 +49,7 @@ add-if3 c =
     let after-read-bs-u = after-n .before .before in
     let entry = after-read-bs-u .before .before .before in
     let a = entry .args in
-    let m = after-n .n .given in
-    let o = read-value _ (after-read-bs-u .read-bs-u .ensures) (m .1) in
-    let i = ends-inside BS BS-past (now (a .s)) (a .at) o in
-    let b = read-below BS BS-below (now (a .s)) (a .at) o in
+    let code = length-code (now (a .s)) (a .at) (after-read-bs-u .read-bs-u .ensures) (after-n .n .given .1) in
     omega arith
 
 returns-3 : tie.Need-returns-3
@@ -70,11 +59,8 @@ returns-3 c =
     let after-read-bs-u = after-n .before .before in
     let entry = after-read-bs-u .before .before .before in
     let a = entry .args in
-    let m = after-n .n .given in
-    let o = read-value _ (after-read-bs-u .read-bs-u .ensures) (m .1) in
-    let i = ends-inside BS BS-past (now (a .s)) (a .at) o in
-    let b = read-below BS BS-below (now (a .s)) (a .at) o in
-    sym (ap asText (reader-past (a .end) (now (a .s)) (a .at) (omega arith) o (i .0) (else2 .if2 .left) (c .if3 .taken)))
+    let code = length-code (now (a .s)) (a .at) (after-read-bs-u .read-bs-u .ensures) (after-n .n .given .1) in
+    sym (ap asText (reader-past (a .end) (now (a .s)) (a .at) (omega arith) (code .read) (code .on) (else2 .if2 .left) (c .if3 .taken)))
 
 wide-units-requires-2 : tie.Need-wide-units-requires-2
 wide-units-requires-2 c κs =
@@ -82,11 +68,8 @@ wide-units-requires-2 c κs =
     let after-read-bs-u = after-n .before .before in
     let entry = after-read-bs-u .before .before .before in
     let a = entry .args in
-    let m = after-n .n .given in
-    let o = read-value _ (after-read-bs-u .read-bs-u .ensures) (m .1) in
-    let i = ends-inside BS BS-past (now (a .s)) (a .at) o in
-    let b = read-below BS BS-below (now (a .s)) (a .at) o in
-    (omega arith, b)
+    let code = length-code (now (a .s)) (a .at) (after-read-bs-u .read-bs-u .ensures) (after-n .n .given .1) in
+    (omega arith, code .small)
 
 enum-known-k : tie.Need-enum-known-k
 enum-known-k c = search needs
@@ -99,11 +82,8 @@ returns-4 c =
     let after-read-bs-u = after-n .before .before in
     let entry = after-read-bs-u .before .before .before in
     let a = entry .args in
-    let m = after-n .n .given in
-    let o = read-value _ (after-read-bs-u .read-bs-u .ensures) (m .1) in
-    let i = ends-inside BS BS-past (now (a .s)) (a .at) o in
-    let b = read-below BS BS-below (now (a .s)) (a .at) o in
-    c .wide-units2 .ensures ∙ sym (ap asText (reader-units (a .end) (now (a .s)) (a .at) (omega arith) o (i .0) (else2 .if2 .left)
+    let code = length-code (now (a .s)) (a .at) (after-read-bs-u .read-bs-u .ensures) (after-n .n .given .1) in
+    c .wide-units2 .ensures ∙ sym (ap asText (reader-units (a .end) (now (a .s)) (a .at) (omega arith) (code .read) (code .on) (else2 .if2 .left)
     (else3 .if3 .left)))
 
 returns-5 : tie.Need-returns-5

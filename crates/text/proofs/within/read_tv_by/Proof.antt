@@ -4,15 +4,13 @@ use Prim.Native.Nat.{ℕ, _+_, _-_, _*_, _≤_, _<_}
 use native.Mathlib.Omega.{arith}
 use denote.Ref.{now}
 use mathlib.Core.Bool.{Bool, true, false}
-use Rattle.bitcursor.specs.Codes.{BS}
-use Rattle.bitcursor.specs.Ranges.{read-below, BS-below}
-use Rattle.bitcursor.specs.Stops.{ends-inside, BS-past}
-use Rattle.bitcursor.proofs.Steps.{read-value, read-refused}
+use Rattle.bitcursor.proofs.Steps.{read-refused}
 use Rattle.text.specs.declared.Source.the-variants.{Main}
 use Rattle.text.specs.Texts.{UnitWidth, narrow, wide, TV}
 use Rattle.text.specs.Fields.{widthBy}
 use Rattle.text.specs.Answers.{asText, placed}
 use Rattle.text.specs.Steps.{inline-got, inline-refused}
+use Rattle.text.proofs.TextLaws.{length-code}
 use borrow.Author.Needs.{needs}
 use Rattle.text.proofs.within.read_tv_by.Statement.{statement}
 use Rattle.text.proofs.within.read_tv_by.Tie as tie
@@ -29,11 +27,8 @@ wide-units-requires c κs =
     let after-read-bs-u = after-n .before .before in
     let entry = after-read-bs-u .before .before in
     let a = entry .args in
-    let m = after-n .n .given in
-    let o = read-value _ (after-read-bs-u .read-bs-u .ensures) (m .1) in
-    let i = ends-inside BS BS-past (now (a .s)) (a .at) o in
-    let b = read-below BS BS-below (now (a .s)) (a .at) o in
-    (omega arith, b)
+    let code = length-code (now (a .s)) (a .at) (after-read-bs-u .read-bs-u .ensures) (after-n .n .given .1) in
+    (omega arith, code .small)
 
 returns : tie.Need-returns
 returns c =
@@ -42,12 +37,9 @@ returns c =
     let after-read-bs-u = after-n .before .before in
     let entry = after-read-bs-u .before .before in
     let a = entry .args in
-    let m = after-n .n .given in
-    let o = read-value _ (after-read-bs-u .read-bs-u .ensures) (m .1) in
-    let i = ends-inside BS BS-past (now (a .s)) (a .at) o in
-    let b = read-below BS BS-below (now (a .s)) (a .at) o in
+    let code = length-code (now (a .s)) (a .at) (after-read-bs-u .read-bs-u .ensures) (after-n .n .given .1) in
     c .wide-units .ensures ∙ sym (ap asText (ap (λ (t : Bool). placed Main (widthBy t) (a .at) ((TV (widthBy t)) .read (now (a .s)) (a .at)))
-    (then1 .if1 .taken) ∙ inline-got wide (now (a .s)) (a .at) o (i .0)))
+    (then1 .if1 .taken) ∙ inline-got wide (now (a .s)) (a .at) (code .read) (code .on)))
 
 narrow-units-requires : tie.Need-narrow-units-requires
 narrow-units-requires c κs =
@@ -55,11 +47,8 @@ narrow-units-requires c κs =
     let after-read-bs-u = after-n .before .before in
     let entry = after-read-bs-u .before .before in
     let a = entry .args in
-    let m = after-n .n .given in
-    let o = read-value _ (after-read-bs-u .read-bs-u .ensures) (m .1) in
-    let i = ends-inside BS BS-past (now (a .s)) (a .at) o in
-    let b = read-below BS BS-below (now (a .s)) (a .at) o in
-    (omega arith, b)
+    let code = length-code (now (a .s)) (a .at) (after-read-bs-u .read-bs-u .ensures) (after-n .n .given .1) in
+    (omega arith, code .small)
 
 enum-known-k : tie.Need-enum-known-k
 enum-known-k c = search needs
@@ -71,12 +60,9 @@ returns-2 c =
     let after-read-bs-u = after-n .before .before in
     let entry = after-read-bs-u .before .before in
     let a = entry .args in
-    let m = after-n .n .given in
-    let o = read-value _ (after-read-bs-u .read-bs-u .ensures) (m .1) in
-    let i = ends-inside BS BS-past (now (a .s)) (a .at) o in
-    let b = read-below BS BS-below (now (a .s)) (a .at) o in
+    let code = length-code (now (a .s)) (a .at) (after-read-bs-u .read-bs-u .ensures) (after-n .n .given .1) in
     c .narrow-units .ensures ∙ sym (ap asText (ap (λ (t : Bool). placed Main (widthBy t) (a .at) ((TV (widthBy t)) .read (now (a .s)) (a .at)))
-    (else1 .if1 .left) ∙ inline-got narrow (now (a .s)) (a .at) o (i .0)))
+    (else1 .if1 .left) ∙ inline-got narrow (now (a .s)) (a .at) (code .read) (code .on)))
 
 returns-3 : tie.Need-returns-3
 returns-3 c =

@@ -1,15 +1,12 @@
 -- The units are passed by one comparison, the last one says how many are left, and one pass over those judges them.
-use mathlib.Core.Path.{_≡_, refl, sym, ap, subst, _∙_}
-use Prim.Native.Nat.{ℕ, _+_, _-_, _*_, _≤_, _<_}
+use mathlib.Core.Path.{sym, _∙_}
+use Prim.Native.Nat.{_*_}
 use native.Mathlib.Omega.{arith}
 use denote.Ref.{now}
-use mathlib.Core.Bool.{Bool, true, false}
 use Rattle.bitcursor.proofs.Steps.{passed-there, passed-short}
-use Rattle.text.specs.Units.{unitsAt}
-use Rattle.text.specs.Utf16.{pairedFrom}
 use Rattle.text.specs.Texts.{wide}
-use Rattle.text.proofs.UnitLaws.{count-most, unclosed-units}
-use Rattle.text.proofs.TextLaws.{units-found, units-bad, units-cut}
+use Rattle.text.proofs.UnitLaws.{count-most}
+use Rattle.text.proofs.TextLaws.{all-judged, units-found, units-bad, units-cut}
 use borrow.Author.Needs.{needs}
 use Rattle.text.proofs.within.wide_units.Statement.{statement}
 use Rattle.text.proofs.within.wide_units.Tie as tie
@@ -51,10 +48,10 @@ returns c =
     let entry = after-skip-bytes .before .before in
     let a = entry .args in
     let t = passed-there (now (a .s)) (2 * a .n) (a .at) (after-skip-bytes .skip-bytes .ensures) (after-p .p .given .1) in
-    let l = after-is-utf16 .is-utf16 .ensures ∙ ap (λ (m : ℕ). pairedFrom false (unitsAt (now (a .s)) (a .at) 2 m))
-    (after-count-units .count-units .ensures) ∙ ap (pairedFrom false) (sym (unclosed-units (now (a .s)) (a .at) 2 (a .n))) in
+    let counted = after-count-units .count-units in
+    let valid = all-judged (now (a .s)) (a .at) (a .n) (counted .result) (after-is-utf16 .is-utf16 .ensures) (counted .ensures) in
     units-found (a .source) wide (now (a .s)) (a .at) (a .n) (after-p .p .given .0 .0) (omega arith) (omega arith)
-    (after-count-units .count-units .result) (after-count-units .count-units .ensures) (sym l ∙ c .if1 .taken)
+    (counted .result) (counted .ensures) (sym valid ∙ c .if1 .taken)
 
 enum-known-k : tie.Need-enum-known-k
 enum-known-k c = search needs
@@ -68,9 +65,9 @@ returns-2 c =
     let entry = after-skip-bytes .before .before in
     let a = entry .args in
     let t = passed-there (now (a .s)) (2 * a .n) (a .at) (after-skip-bytes .skip-bytes .ensures) (after-p .p .given .1) in
-    let l = after-is-utf16 .is-utf16 .ensures ∙ ap (λ (m : ℕ). pairedFrom false (unitsAt (now (a .s)) (a .at) 2 m))
-    (after-count-units .count-units .ensures) ∙ ap (pairedFrom false) (sym (unclosed-units (now (a .s)) (a .at) 2 (a .n))) in
-    units-bad (a .source) wide (now (a .s)) (a .at) (a .n) (after-p .p .given .0 .0) (omega arith) (omega arith) (sym l ∙ c .if1 .left)
+    let counted = after-count-units .count-units in
+    let valid = all-judged (now (a .s)) (a .at) (a .n) (counted .result) (after-is-utf16 .is-utf16 .ensures) (counted .ensures) in
+    units-bad (a .source) wide (now (a .s)) (a .at) (a .n) (after-p .p .given .0 .0) (omega arith) (omega arith) (sym valid ∙ c .if1 .left)
 
 returns-3 : tie.Need-returns-3
 returns-3 c =
