@@ -20,7 +20,7 @@ use Rattle.text.specs.declared.Source.{Source}
 use Rattle.text.specs.declared.ReadText.the-variants.{Found, Refused}
 use Rattle.text.specs.Units.{units, unitsAt, units-there, units-short}
 use Rattle.text.specs.Utf16.{pairedFrom}
-use Rattle.text.specs.Texts.{UnitWidth, wide, unitBytes, unclosed, lawful}
+use Rattle.text.specs.Texts.{UnitWidth, wide, unitBytes, unclosed, valid}
 use Rattle.text.specs.Fields.{textAt}
 use Rattle.text.specs.Answers.{asText, unitsText}
 use Rattle.text.proofs.UnitLaws.{unclosed-units}
@@ -39,9 +39,9 @@ length-code xs at e h =
     record { read = o; on = i .0; inside = i .1; small = read-below BS BS-below xs at o }
 
 -- one pass over the units that are left judges them all
-pub all-judged : (xs : List ℕ) (at n count : ℕ) {b : Bool} → b ≡ pairedFrom false (unitsAt xs at 2 count)
-    → count ≡ length (unclosed (unitsAt xs at 2 n)) → b ≡ lawful wide (unclosed (unitsAt xs at 2 n))
-all-judged xs at n count e f =
+pub all-valid : (xs : List ℕ) (at n count : ℕ) {b : Bool} → b ≡ pairedFrom false (unitsAt xs at 2 count)
+    → count ≡ length (unclosed (unitsAt xs at 2 n)) → b ≡ valid wide (unclosed (unitsAt xs at 2 n))
+all-valid xs at n count e f =
     e ∙ ap (λ (m : ℕ). pairedFrom false (unitsAt xs at 2 m)) f ∙ ap (pairedFrom false) (sym (unclosed-units xs at 2 n))
 
 module _ (source : Source) (w : UnitWidth) (xs : List ℕ) (at n p : ℕ) where
@@ -49,13 +49,13 @@ module _ (source : Source) (w : UnitWidth) (xs : List ℕ) (at n p : ℕ) where
     there : (units (unitBytes w) n) .read xs at ≡ got (unitsAt xs at (unitBytes w) n) p
     there = units-there (unitBytes w) n xs at fits ∙ ap (got (unitsAt xs at (unitBytes w) n)) (sym next)
 
-    pub units-found : (count : ℕ) → count ≡ length (unclosed (unitsAt xs at (unitBytes w) n)) → lawful w (unclosed (unitsAt xs at (unitBytes w) n)) ≡ true
+    pub units-found : (count : ℕ) → count ≡ length (unclosed (unitsAt xs at (unitBytes w) n)) → valid w (unclosed (unitsAt xs at (unitBytes w) n)) ≡ true
         → Found (textAt source w at count) p ≡ asText (unitsText source w at ((units (unitBytes w) n) .read xs at))
     units-found count e l =
         ap (λ (m : ℕ). Found (textAt source w at m) p) e
         ∙ sym (ap (λ (o : Out ℕ (List ℕ)). asText (unitsText source w at o)) there ∙ rw (l, unitsText))
 
-    pub units-bad : lawful w (unclosed (unitsAt xs at (unitBytes w) n)) ≡ false
+    pub units-bad : valid w (unclosed (unitsAt xs at (unitBytes w) n)) ≡ false
         → Refused NotUtf16 p ≡ asText (unitsText source w at ((units (unitBytes w) n) .read xs at))
     units-bad l = sym (ap (λ (o : Out ℕ (List ℕ)). asText (unitsText source w at o)) there ∙ rw (l, unitsText))
 

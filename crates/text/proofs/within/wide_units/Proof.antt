@@ -6,7 +6,7 @@ use denote.Ref.{now}
 use Rattle.bitcursor.proofs.Steps.{passed-there, passed-short}
 use Rattle.text.specs.Texts.{wide}
 use Rattle.text.proofs.UnitLaws.{count-most}
-use Rattle.text.proofs.TextLaws.{all-judged, units-found, units-bad, units-cut}
+use Rattle.text.proofs.TextLaws.{all-valid, units-found, units-bad, units-cut}
 use borrow.Author.Needs.{needs}
 use Rattle.text.proofs.within.wide_units.Statement.{statement}
 use Rattle.text.proofs.within.wide_units.Tie as tie
@@ -49,7 +49,7 @@ returns c =
     let a = entry .args in
     let t = passed-there (now (a .s)) (2 * a .n) (a .at) (after-skip-bytes .skip-bytes .ensures) (after-p .p .given .1) in
     let counted = after-count-units .count-units in
-    let valid = all-judged (now (a .s)) (a .at) (a .n) (counted .result) (after-is-utf16 .is-utf16 .ensures) (counted .ensures) in
+    let valid = all-valid (now (a .s)) (a .at) (a .n) (counted .result) (after-is-utf16 .is-utf16 .ensures) (counted .ensures) in
     units-found (a .source) wide (now (a .s)) (a .at) (a .n) (after-p .p .given .0 .0) (omega arith) (omega arith)
     (counted .result) (counted .ensures) (sym valid ∙ c .if1 .taken)
 
@@ -66,7 +66,7 @@ returns-2 c =
     let a = entry .args in
     let t = passed-there (now (a .s)) (2 * a .n) (a .at) (after-skip-bytes .skip-bytes .ensures) (after-p .p .given .1) in
     let counted = after-count-units .count-units in
-    let valid = all-judged (now (a .s)) (a .at) (a .n) (counted .result) (after-is-utf16 .is-utf16 .ensures) (counted .ensures) in
+    let valid = all-valid (now (a .s)) (a .at) (a .n) (counted .result) (after-is-utf16 .is-utf16 .ensures) (counted .ensures) in
     units-bad (a .source) wide (now (a .s)) (a .at) (a .n) (after-p .p .given .0 .0) (omega arith) (omega arith) (sym valid ∙ c .if1 .left)
 
 returns-3 : tie.Need-returns-3
