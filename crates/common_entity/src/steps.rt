@@ -1,6 +1,7 @@
 // The prefix's fields that are more than one code: the XDATA chain, graphics, and a colour's name.
 ghost use mathlib.Core.Path.{_≡_};
-ghost use Prim.Native.Nat.{_≤_};
+ghost use mathlib.Core.Bool.{true};
+ghost use Prim.Native.Nat.{_^_, _≤_};
 ghost use lib.ListN.{length};
 ghost use Rattle.bitcursor.specs.Answers.{limit, asRead};
 ghost use Rattle.bitcursor.specs.Codes.{RL};
@@ -8,12 +9,21 @@ ghost use Rattle.bitcursor.specs.Handles.{BLL, checked};
 ghost use Rattle.bitcursor.specs.Sequence.{held, thenRead};
 ghost use Rattle.common_entity.specs.Prefix.{graphics, name, drawing};
 ghost use Rattle.common_entity.specs.Blocks.{block, chainFrom};
+ghost use Rattle.common_entity.specs.Threes.{threeOf};
 use bitcursor::Passed;
 use bitcursor::Read;
 use bitcursor::ReadHandle;
 use bitcursor::Refusal;
 use bitcursor::sequence;
 use text::ReadText;
+
+// Three fields of one width, and the last answer.
+pub struct Three {
+    pub first: u64,
+    pub second: u64,
+    pub third: u64,
+    pub last: Read,
+}
 
 // One XDATA block: 0 where its size is 0, and 1 after a handle and that many bytes.
 fn read_block(s: &[u8], at: usize) -> Read
@@ -124,4 +134,49 @@ pub fn then_name(s: &[u8], prior: Read, has: bool, two_bytes: bool) -> Read
         }
         Read::Refused(k, p) => Read::Refused(k, p),
     }
+}
+
+// Three fields of n bits each, one by one; the first two and the third may be lacking.
+fn read_each(s: &[u8], prior: Read, n: usize, two: bool, third: bool) -> Three
+    requires { ⌜ (length (now s) ≤ limit) × ((1 ≤ n) × (n ≤ 2)) ⌝ }
+    ensures { λ r. ⌜ r ≡ threeOf n two third (now (s .entry)) prior ⌝ }
+{
+    let a = sequence::then_bits(s, prior, n, two, 0);
+    let b = sequence::then_bits(s, a, n, two, 0);
+    let c = sequence::then_bits(s, b, n, third, 0);
+    Three {
+        first: sequence::value_of(a),
+        second: sequence::value_of(b),
+        third: sequence::value_of(c),
+        last: c,
+    }
+}
+
+// The same where none is lacking: by one read if their bits are there. `base` is 2 to the n.
+fn read_at_once(s: &[u8], prior: Read, n: usize, base: u64) -> Three
+    requires { ⌜ (length (now s) ≤ limit) × ((1 ≤ n) × ((n ≤ 2) × ((1 ≤ base) × (base ≡ 2 ^ n)))) ⌝ }
+    ensures { λ r. ⌜ r ≡ threeOf n true true (now (s .entry)) prior ⌝ }
+{
+    match prior {
+        Read::Value(before, p) => match bitcursor::within::read_bits(s, p, 3 * n) {
+            Read::Value(v, q) => Three {
+                first: v / base / base,
+                second: v / base % base,
+                third: v % base,
+                last: Read::Value(v % base, q),
+            },
+            Read::Refused(_, _) => read_each(s, Read::Value(before, p), n, true, true),
+        },
+        Read::Refused(k, p) => read_each(s, Read::Refused(k, p), n, true, true),
+    }
+}
+
+pub fn then_three(s: &[u8], prior: Read, n: usize, base: u64, two: bool, third: bool) -> Three
+    requires { ⌜ (length (now s) ≤ limit) × ((1 ≤ n) × ((n ≤ 2) × ((1 ≤ base) × (base ≡ 2 ^ n)))) ⌝ }
+    ensures { λ r. ⌜ r ≡ threeOf n two third (now (s .entry)) prior ⌝ }
+{
+    if two & third {
+        return read_at_once(s, prior, n, base);
+    }
+    read_each(s, prior, n, two, third)
 }

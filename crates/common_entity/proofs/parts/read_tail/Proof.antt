@@ -1,19 +1,14 @@
 -- Each step goes on from the one before it.
 use mathlib.Core.Path.{_≡_, refl, sym, ap, _∙_}
 use Rattle.bitcursor.specs.Codes.{RC}
+use Rattle.common_entity.specs.Threes.{threeOf}
 use Rattle.common_entity.specs.Parts.{tailOf}
 use borrow.Author.Needs.{needs}
 use Rattle.common_entity.proofs.parts.read_tail.Statement.{statement}
 use Rattle.common_entity.proofs.parts.read_tail.Tie as tie
 
-then-bits-requires : tie.Need-then-bits-requires
-then-bits-requires c κs = search needs
-
-then-bits-requires-2 : tie.Need-then-bits-requires-2
-then-bits-requires-2 c κs = search needs
-
-then-bits-requires-3 : tie.Need-then-bits-requires-3
-then-bits-requires-3 c κs = search needs
+then-three-requires : tie.Need-then-three-requires
+then-three-requires c κs = search needs
 
 then-bs-requires : tie.Need-then-bs-requires
 then-bs-requires c κs = search needs
@@ -27,31 +22,21 @@ value-of-requires c κs = search needs
 value-of-requires-2 : tie.Need-value-of-requires-2
 value-of-requires-2 c κs = search needs
 
-value-of-requires-3 : tie.Need-value-of-requires-3
-value-of-requires-3 c κs = search needs
-
-value-of-requires-4 : tie.Need-value-of-requires-4
-value-of-requires-4 c κs = search needs
-
-value-of-requires-5 : tie.Need-value-of-requires-5
-value-of-requires-5 c κs = search needs
-
 returns : tie.Need-returns
-unfolding tailOf RC
-returns c = rw (c .value-of5 .ensures, c .before .value-of4 .ensures, c .before .before .value-of3 .ensures, c .before .before .before .value-of2 .ensures, c .before .before .before .before .value-of .ensures, c .before .before .before .before .before .then-low .ensures, c .before .before .before .before .before .before .then-bs .ensures, c .before .before .before .before .before .before .before .then-bits3 .ensures, c .before .before .before .before .before .before .before .before .then-bits2 .ensures, c .before .before .before .before .before .before .before .before .before .then-bits .ensures)
+unfolding tailOf threeOf RC
+returns c =
+    let invisibles = c .before in
+    let weight = invisibles .before in
+    let invisible = weight .before in
+    rw (c .value-of2 .ensures, invisibles .value-of .ensures, weight .then-low .ensures, invisible .then-bs .ensures, invisible .before .then-three .ensures)
 
 pub read-tail-spec : {M : Type 1} → statement M
 read-tail-spec =
     tie.close
     (tie.spec
-    then-bits-requires
-    then-bits-requires-2
-    then-bits-requires-3
+    then-three-requires
     then-bs-requires
     then-low-requires
     value-of-requires
     value-of-requires-2
-    value-of-requires-3
-    value-of-requires-4
-    value-of-requires-5
     returns)
