@@ -62,9 +62,16 @@ returns c =
     (sym (ap (threeOf (a .n) true true (now (a .s))) (m .1)
     ∙ three-at-once (a .n) (now (a .s)) (m .0 .0) (m .0 .1 .0) (w .0 .0) (w .0 .1 .0) (read-value _ (read .read-bits .ensures) (w .1))))
 
+-- ---- the stages of the function, each from a later one
+abbrev after-prior-from-after-read-each : tie.After-read-each → tie.After-prior
+after-prior-from-after-read-each s =
+    let after-read-bits = s .before .before .before in
+    after-read-bits .before .before
+
 returns-2 : tie.Need-returns-2
 returns-2 c =
-    let prior = c .before .before .before .before .before in
+    let after-prior = after-prior-from-after-read-each c in
+    let prior = after-prior in
     let a = prior .before .before .before .args in
     c .read-each .ensures ∙ sym (ap (threeOf (a .n) true true (now (a .s))) (prior .prior .given .1))
 

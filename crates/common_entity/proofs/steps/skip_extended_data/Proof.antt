@@ -27,10 +27,15 @@ enum-known-more c = search needs
 
 returns : tie.Need-returns Inv-loop μ-loop
 returns c =
-    let a = c .before .before .before .before .before .before .before .before .args in
-    let l = c .before .before .before .before .before .before .loop in
-    let m = c .before .before .more .given in
-    sym (ap asRead (l .inv .1 ∙ chain-ends (l .had) (l .left) (now (a .s)) (l .p) (omega arith) (read-value _ (c .before .before .before .before .read-block .ensures) (m .1)) (c .if1 .taken)))
+    let after-more = c .before .before in
+    let after-read-block = after-more .before .before in
+    let at-loop = after-read-block .before .before in
+    let entry = at-loop .before .before in
+    let a = entry .args in
+    let l = at-loop .loop in
+    let m = after-more .more .given in
+    sym (ap asRead (l .inv .1 ∙ chain-ends (l .had) (l .left) (now (a .s)) (l .p) (omega arith)
+    (read-value _ (after-read-block .read-block .ensures) (m .1)) (c .if1 .taken)))
 
 sub-left : tie.Need-sub-left Inv-loop μ-loop
 sub-left c = search needs
@@ -40,19 +45,31 @@ loop-less c = search needs
 
 loop-again : tie.Need-loop-again Inv-loop μ-loop
 loop-again c =
-    let a = c .before .before .before .before .before .before .before .before .args in
-    let l = c .before .before .before .before .before .before .loop in
-    let m = c .before .before .more .given in
-    (omega arith, l .inv .1 ∙ chain-on (l .had) (l .left) (now (a .s)) (l .p) (omega arith) (read-value _ (c .before .before .before .before .read-block .ensures) (m .1)) (c .if1 .left))
+    let after-more = c .before .before in
+    let after-read-block = after-more .before .before in
+    let at-loop = after-read-block .before .before in
+    let entry = at-loop .before .before in
+    let a = entry .args in
+    let l = at-loop .loop in
+    let m = after-more .more .given in (
+      omega arith,
+      l .inv .1 ∙ chain-on (l .had) (l .left) (now (a .s)) (l .p) (omega arith)
+          (read-value _ (after-read-block .read-block .ensures) (m .1)) (c .if1 .left),
+    )
 
 enum-known-k : tie.Need-enum-known-k Inv-loop μ-loop
 enum-known-k c = search needs
 
 returns-2 : tie.Need-returns-2 Inv-loop μ-loop
 returns-2 c =
-    let a = c .before .before .before .before .before .before .before .args in
-    let l = c .before .before .before .before .before .loop in
-    sym (ap asRead (l .inv .1 ∙ chain-stops (l .had) (l .left) (now (a .s)) (l .p) (omega arith) (read-refused _ (c .before .before .before .read-block .ensures) (c .before .k .given .1))))
+    let after-k = c .before in
+    let after-read-block = after-k .before .before in
+    let at-loop = after-read-block .before .before in
+    let entry = at-loop .before .before in
+    let a = entry .args in
+    let l = at-loop .loop in
+    sym (ap asRead (l .inv .1 ∙ chain-stops (l .had) (l .left) (now (a .s)) (l .p) (omega arith)
+    (read-refused _ (after-read-block .read-block .ensures) (after-k .k .given .1))))
 
 returns-3 : tie.Need-returns-3 Inv-loop μ-loop
 returns-3 c =
