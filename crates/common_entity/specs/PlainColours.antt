@@ -61,4 +61,6 @@ module _ (row : Row) (xs : List ℕ) where
   pub plain-colours : (x : Read) {y : Read} → y ≡ thenRead (BS .read xs) x → valueOf y < 0x2000
       → coloursOf row xs x ≡ record { colour = valueOf y; rgb = 0; alpha = 0; named = 0; last = thenRead ((held false (raw 1) 0) .read xs) y }
   unfolding coloursOf
-  plain-colours x {y} e h = rw (← e, no-rgb row (valueOf y) h, no-alpha row (valueOf y) h, no-name row (valueOf y) h, no-book-name row (valueOf y) h) (nothing y)
+  plain-colours x {y} e h =
+      let k = valueOf y in
+      rw (← e, no-rgb row k h, no-alpha row k h, no-name row k h, no-book-name row k h) (nothing y)

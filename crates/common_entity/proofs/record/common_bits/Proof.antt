@@ -53,11 +53,14 @@ entry s =
     let known8 = s .before .before .before in
     let known5 = known8 .before .before .before in
     let known2 = known5 .before .before .before in
-    known2 .before .before .before .before
+    let has = known2 .before .before .before in
+    has .before
 
 -- where the rgb is cast, from where the lineweight is
 abbrev from-weight : tie.After-struct-known17 → tie.After-struct-known11
-from-weight s = let known14 = s .before .before .before in known14 .before .before .before
+from-weight s =
+    let known14 = s .before .before .before in
+    known14 .before .before .before
 
 cast-t19 : tie.Need-cast-t19
 cast-t19 c = record { fits = entry c .pre .colour }
@@ -75,7 +78,9 @@ cast-t29 : tie.Need-cast-t29
 cast-t29 c = let known11 = from-weight c in record { fits = entry (known11 .before) .pre .weight }
 
 cast-t32 : tie.Need-cast-t32
-cast-t32 c = let known11 = from-weight (c .before .before .before) in record { fits = entry (known11 .before) .pre .end }
+cast-t32 c =
+    let known11 = from-weight (c .before .before .before) in
+    record { fits = entry (known11 .before) .pre .end }
 
 -- the record with the mode, the signed invisibility and what the colour announces as they were made
 module _ (row : Row) (h : Head) (m : Modes) (c : Colours) (t : Styles) (e : Tail) where

@@ -9,7 +9,8 @@ use Rattle.bitcursor.specs.Bytes.{skip}
 use Rattle.bitcursor.specs.Codes.{BS}
 use Rattle.bitcursor.specs.Handles.{HANDLE, checked}
 use Rattle.bitcursor.specs.Answers.{asRead}
-use Rattle.bitcursor.proofs.Steps.{read-value, read-refused, handle-value, handle-refused, passed-got, passed-refused, then-got, then-refused, checked-yes, checked-no}
+use Rattle.bitcursor.proofs.Steps.{read-value, read-refused, handle-value, handle-refused, passed-got, passed-refused}
+use Rattle.bitcursor.proofs.Steps.{then-got, then-refused, checked-yes, checked-no}
 use Rattle.common_entity.specs.Blocks.{block}
 use borrow.Author.Needs.{needs}
 use Rattle.common_entity.proofs.steps.read_block.Statement.{statement}
