@@ -171,7 +171,7 @@ pub fn read_styles(s: &[u8], prior: Read, row: Row) -> Styles
 {
     let scale = sequence::then_bd_bits(s, prior);
     let has = row.material_and_shadow;
-    let flags = steps::then_three(s, scale, 2, 4, row.ltype_and_plotstyle, has);
+    let flags = steps::then_three(s, scale, row.ltype_and_plotstyle, has);
     let behind_flags = flags.last;
     let shadow = sequence::then_low(s, behind_flags, 1, has, 0);
     Styles {
@@ -189,14 +189,15 @@ pub fn read_tail(s: &[u8], prior: Read, row: Row) -> Tail
     requires { ⌜ length (now s) ≤ limit ⌝ }
     ensures { λ r. ⌜ r ≡ tailOf row (now (s .entry)) prior ⌝ }
 {
-    let visual = steps::then_three(s, prior, 1, 2, row.visual_styles, row.visual_styles);
-    let behind_visual = visual.last;
-    let invisible = sequence::then_bs(s, behind_visual);
+    let full = sequence::then_bits(s, prior, 1, row.visual_styles, 0);
+    let face = sequence::then_bits(s, full, 1, row.visual_styles, 0);
+    let edge = sequence::then_bits(s, face, 1, row.visual_styles, 0);
+    let invisible = sequence::then_bs(s, edge);
     let weight = sequence::then_low(s, invisible, 1, row.lineweight, 0);
     Tail {
-        full: visual.first,
-        face: visual.second,
-        edge: visual.third,
+        full: sequence::value_of(full),
+        face: sequence::value_of(face),
+        edge: sequence::value_of(edge),
         invisible: sequence::value_of(invisible),
         weight: sequence::value_of(weight),
         last: weight,
