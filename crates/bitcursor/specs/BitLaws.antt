@@ -140,7 +140,7 @@ pub alike-window : (xs ys : List ℕ) (p n : ℕ) → n ≤ size xs - p → Alik
 alike-window xs ys p n h a = same-window xs ys p n h (rw (a .lengths) h) (λ i k. a .bits (p + i) (omega arith))
 
 -- ---- a payload that begins with another
-bits-append : (xs ys : List ℕ) → bitsOf (xs ++ ys) ≡ bitsOf xs ++ bitsOf ys
+pub bits-append : (xs ys : List ℕ) → bitsOf (xs ++ ys) ≡ bitsOf xs ++ bitsOf ys
 unfolding bitsOf
 bits-append [] ys = refl
 bits-append (b ∷ xs) ys = rw (bits-append xs ys) (sym (append-assoc (digits 8 b) (bitsOf xs) (bitsOf ys)))

@@ -3,8 +3,8 @@ use native.Mathlib.Omega.{arith}
 use denote.Ref.{now}
 use Rattle.bitcursor.proofs.WordLaws.{four}
 use borrow.Author.Needs.{needs}
-use Rattle.bitcursor.proofs.words.half.Statement.{statement}
-use Rattle.bitcursor.proofs.words.half.Tie as tie
+use Rattle.bitcursor.proofs.words.four_bytes.Statement.{statement}
+use Rattle.bitcursor.proofs.words.four_bytes.Tie as tie
 
 shared-slice-read-wide : tie.Need-shared-slice-read-wide
 shared-slice-read-wide c = search needs
@@ -65,8 +65,8 @@ returns c =
       search needs,
     )
 
-pub half-spec : {M : Type 1} → statement M
-half-spec =
+pub four-bytes-spec : {M : Type 1} → statement M
+four-bytes-spec =
     tie.close
     (tie.spec
     shared-slice-read-wide
