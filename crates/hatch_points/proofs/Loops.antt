@@ -5,6 +5,8 @@ use Prim.Native.Nat.{ℕ, zero, suc, _+_, _-_, _*_, _≤_, _<_, max}
 use native.Mathlib.Nat.{sub-zero}
 use native.Mathlib.Omega.{arith}
 use Rattle.bitcursor.specs.declared.Refusal.{Refusal}
+use Rattle.bitcursor.specs.declared.Passed.{Passed}
+use Rattle.bitcursor.specs.declared.Passed.the-variants.{To, Refused as RefusedPassed}
 use Rattle.bitcursor.specs.Reading.{Out, got, refused, andThen, never}
 use Rattle.bitcursor.specs.Format.{Format, pure, _>>=_}
 use Rattle.bitcursor.specs.Inputs.{one}
@@ -17,6 +19,7 @@ use Rattle.bitcursor.specs.Doubles.{BD}
 use Rattle.hatch_points.specs.Walks.{single-walk}
 use Rattle.hatch_points.specs.declared.lists.Walk.{Walk}
 use Rattle.hatch_points.specs.declared.lists.Walk.the-variants.{Done, Refused}
+use Rattle.hatch_points.specs.Stores.{passedBy}
 use Rattle.hatch_points.specs.Lists.{Lists, lists, doublesOf, lay, Kept, Ready, Walks}
 use Rattle.hatch_points.proofs.Laws.{Step, no-step, _⊕_, plus-none, plus-again, kept-then, walk-told, walk-ready, walk-no, walk-kept, walks-as, walks-unstored, refuses, ends, behind, sets-out}
 
@@ -210,6 +213,15 @@ module _ (d : Format one Entries) (xs : List ℕ) (n p : ℕ) {z : Sizes} {r : W
           let room = h (omega arith) in
           λ t. lists (sym (sets-out a (z .numbers) (doublesOf (e .numbers)) (omega arith)) t) (sym (sets-out b (z .numbers) (e .numbers) (omega arith)) t)
           (sym (sets-out [] (z .words) (e .words) (omega arith)) t)
+
+-- what was read, from the place that it left
+pub passed-value : (o : Out ℕ ℕ) {x : Passed} {q : ℕ} → x ≡ passedBy o → x ≡ To q → (v : ℕ) × (o ≡ got v q)
+passed-value (got v p) {x} {q} e h = let i : p ≡ q = cc in (v, ap (got v) i)
+passed-value (refused k p) e h = let z : _≡_ {A = ℕ} 0 1 = cc in absurd (omega arith)
+
+pub passed-refused : (o : Out ℕ ℕ) {x : Passed} {k : Refusal} {q : ℕ} → x ≡ passedBy o → x ≡ RefusedPassed k q → o ≡ refused k q
+passed-refused (got v p) e h = let z : _≡_ {A = ℕ} 0 1 = cc in absurd (omega arith)
+passed-refused (refused k p) e h = cc
 
 -- one BD
 pub single-read : (xs : List ℕ) (p : ℕ) {v q : ℕ} → BD .read xs p ≡ got v q → single-walk .read xs p ≡ got (numbers (v ∷ [])) q

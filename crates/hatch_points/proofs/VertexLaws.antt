@@ -8,6 +8,7 @@ use lib.Seq.{sets}
 use Rattle.bitcursor.specs.declared.Refusal.{Refusal}
 use Rattle.bitcursor.specs.declared.Refusal.the-variants.{TooFewBits}
 use Rattle.bitcursor.specs.declared.Read.{Read}
+use Rattle.bitcursor.specs.declared.Passed.{Passed}
 use Rattle.bitcursor.specs.Answers.{asRead}
 use Rattle.bitcursor.specs.Bits.{size}
 use Rattle.bitcursor.specs.Reading.{Out, got, refused, andThen, never}
@@ -19,8 +20,8 @@ use Rattle.hatch_format.specs.Counts.{times, times-read}
 use Rattle.hatch_format.specs.Takes.{takes-BD}
 use Rattle.hatch_points.specs.Gathered.{Entries, numbers, plus}
 use Rattle.hatch_points.specs.Runs.{times-length}
-use Rattle.hatch_points.specs.Stores.{rawAt}
-use Rattle.hatch_points.specs.Vertices.{vertexAt, Extra}
+use Rattle.hatch_points.specs.Stores.{rawAt, passedBy}
+use Rattle.hatch_points.specs.Vertices.{vertexAt, Extra, ExtraPassed}
 use Rattle.hatch_points.specs.Walks.{raw-run, double-run, vertex-walk}
 use Rattle.hatch_points.proofs.Laws.{onward}
 use Rattle.hatch_points.proofs.RawRuns.{raw-there, raw-short}
@@ -59,6 +60,14 @@ module _ (xs : List ℕ) (p : ℕ) where
     -- the double is read, or the vertex is refused as the double is
     pub extra-on : {q : ℕ} {r : Read} → q ≡ p + 128 → r ≡ asRead (BD .read xs q) → Extra xs p r
     extra-on {q} {r} e d = subst (Extra xs p) (sym (d ∙ ap (λ (k : ℕ). asRead (BD .read xs k)) e)) (on-double (BD .read xs (p + 128)) refl)
+
+    passed-on : (o : Out ℕ ℕ) → BD .read xs (p + 128) ≡ o → ExtraPassed xs p (passedBy o)
+    passed-on (got v q) e = (v, on-double (got v q) e)
+    passed-on (refused k q) e = on-double (refused k q) e
+
+    pub extra-passed : {q : ℕ} {r : Passed} → q ≡ p + 128 → r ≡ passedBy (BD .read xs q) → ExtraPassed xs p r
+    extra-passed {q} {r} e d =
+        subst (ExtraPassed xs p) (sym (d ∙ ap (λ (k : ℕ). passedBy (BD .read xs k)) e)) (passed-on (BD .read xs (p + 128)) refl)
 
   -- the point is not there
   pub extra-short : size xs - p < 128 → vertex-walk .read xs p ≡ refused TooFewBits (p + (size xs - p) / 8 * 8)

@@ -20,7 +20,7 @@ use Rattle.hatch_points.proofs.runs.put_doubles.Statement.{statement}
 use Rattle.hatch_points.proofs.runs.put_doubles.Tie as tie
 use Rattle.hatch_points.proofs.runs.put_doubles.Reads as reads
 use Rattle.hatch_points.proofs.runs.put_doubles.Lts as lts
-use Rattle.bitcursor.proofs.within.read_bd_bits.Reads as read-bd-bits-reads
+use Rattle.hatch_points.proofs.runs.read_knot.Reads as read-knot-reads
 use Rattle.hatch_points.proofs.lists.put_number.Reads as put-number-reads
 
 abbrev Inv-loop : tie.InvT-loop
@@ -33,8 +33,8 @@ abbrev μ-loop : tie.MeasureT-loop
 loop-holds : tie.Need-loop-holds Inv-loop μ-loop
 loop-holds c = start single-walk (now ((c .before .before .before .args) .s)) (c .before .before .before .pre)
 
-read-bd-bits-requires : tie.Need-read-bd-bits-requires Inv-loop μ-loop
-read-bd-bits-requires c κs = (c .before .before .before .before .before .pre) .0
+read-knot-requires : tie.Need-read-knot-requires Inv-loop μ-loop
+read-knot-requires c κs = let h = c .before .loop .inv .ready in (h .0, h .1 .0)
 
 enum-known-v : tie.Need-enum-known-v Inv-loop μ-loop
 enum-known-v c = search needs
@@ -58,7 +58,7 @@ returns : tie.Need-returns Inv-loop μ-loop
 returns c =
     let s = now ((c .before .before .before .before .before .before .before .before .before .args) .s) in
     let l = (c .before .before .before .before .before .loop) in
-    let o = single-refused s (l .p) (read-refused _ ((c .before .before .before .read-bd-bits) .ensures) ((c .before .k) .given .1)) in
+    let o = single-refused s (l .p) (read-refused _ ((c .before .before .before .read-knot) .ensures) ((c .before .k) .given .1)) in
     loop-refuses single-walk s (l .inv) ((c .before .before .before .before .loop-test) .taken) o kept-same
 
 add-i : tie.Need-add-i Inv-loop μ-loop
@@ -74,7 +74,7 @@ loop-again c =
     let l = (c .before .before .before .before .before .before .before .before .before .before .before .before .loop) in
     let y : Sizes = record { numbers = l .used; words = a .z .words; derived = a .z .derived } in
     let v = (c .before .before .before .before .before .before .before .before .v) .given .0 .0 in
-    let e = read-value _ ((c .before .before .before .before .before .before .before .before .before .before .read-bd-bits) .ensures) ((c .before .before .before .before .before .before .before .before .v) .given .1) in
+    let e = read-value _ ((c .before .before .before .before .before .before .before .before .before .before .read-knot) .ensures) ((c .before .before .before .before .before .before .before .before .v) .given .1) in
     let put = (c .before .before .before .before .put-number) .ensures in
     let h = l .inv .ready in
     let on = onward (coded BD) 2 takes-BD s (l .p) e (h .1 .0) in
@@ -98,7 +98,7 @@ put-doubles-spec =
     Inv-loop
     μ-loop
     loop-holds
-    read-bd-bits-requires
+    read-knot-requires
     enum-known-v
     put-number-requires
     add-used
