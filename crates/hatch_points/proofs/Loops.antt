@@ -20,8 +20,8 @@ use Rattle.hatch_points.specs.Walks.{single-walk}
 use Rattle.hatch_points.specs.declared.lists.Walk.{Walk}
 use Rattle.hatch_points.specs.declared.lists.Walk.the-variants.{Done, Refused}
 use Rattle.hatch_points.specs.Stores.{passedBy}
-use Rattle.hatch_points.specs.Lists.{Lists, lists, doublesOf, lay, Kept, Ready, Walks}
-use Rattle.hatch_points.proofs.Laws.{Step, no-step, _⊕_, plus-none, plus-again, kept-then, walk-told, walk-ready, walk-no, walk-kept, walks-as, walks-unstored, refuses, ends, behind, sets-out}
+use Rattle.hatch_points.specs.Lists.{Lists, lists, doublesOf, store, Kept, Ready, Walks}
+use Rattle.hatch_points.proofs.Laws.{Step, no-step, _⊕_, plus-none, plus-again, kept-then, walk-finished, walk-ready, walk-refused, walk-kept, walks-as, walks-unstored, refuses, ends, behind, sets-out}
 
 -- the entries a, and then what the rest has
 abbrev pub onto : Entries → Out ℕ Entries → Out ℕ Entries
@@ -105,7 +105,7 @@ module _ (d : Format one Entries) (xs : List ℕ) where
         → {q : ℕ} {y : Sizes} → r ≡ Done q y → y .numbers ≡ z .numbers + many n k
     unfolding left
     used-after n p {z = z} h {q} e =
-        let t = walk-told h e in
+        let t = walk-finished h e in
         ap (λ (x : Sizes). x .numbers) (t .step .sizes) ∙ ap (λ (m : ℕ). z .numbers + m) (numbers-long n p (t .entries) q (t .read))
 
   -- of n turns the first m are one walk, and the others another behind it
@@ -117,14 +117,14 @@ module _ (d : Format one Entries) (xs : List ℕ) where
         → Walks xs ((repeated n d) .read xs p) l z l₂ r₂
     unfolding left _>>=_ pure
     parts-walk {q} e k =
-        let t = walk-told h e in
+        let t = walk-finished h e in
         walks-as (behind (repeated (n - m) d) (plus (t .entries)) (t .step) (λ a. refl) k)
         (sym (parts ∙ ap (λ (o : Out ℕ Entries). andThen o (λ a q. onto a (left (n - m) q))) (t .read)))
 
     pub parts-refuse : {k : Refusal} {q : ℕ} → r ≡ Refused k q → Walks xs ((repeated n d) .read xs p) l z l₁ (Refused k q)
     unfolding left
     parts-refuse e =
-        refuses (parts ∙ ap (λ (o : Out ℕ Entries). andThen o (λ a q. onto a (left (n - m) q))) (walk-no h e)) (walk-kept h e)
+        refuses (parts ∙ ap (λ (o : Out ℕ Entries). andThen o (λ a q. onto a (left (n - m) q))) (walk-refused h e)) (walk-kept h e)
 
   -- i of the n turns are done
   pub record Along (n p₀ : ℕ) (l₀ : Lists) (z₀ : Sizes) (i p : ℕ) (l : Lists) (z : Sizes) : Type 0 where
@@ -182,10 +182,10 @@ module _ (d : Format one Entries) (xs : List ℕ) where
     -- a turn that is a walk by itself
     module _ {l′ : Lists} {r : Walk} (lt : i < n) (w : Walks xs (d .read xs p) l z l′ r) where
       pub walk-next : {q : ℕ} {y : Sizes} → r ≡ Done q y → Along n p₀ l₀ z₀ (i + 1) q l′ y
-      walk-next e = let t = walk-told w e in next (t .entries) lt (t .read) (t .step) (walk-ready w e)
+      walk-next e = let t = walk-finished w e in next (t .entries) lt (t .read) (t .step) (walk-ready w e)
 
       pub walk-refuses : {k : Refusal} {q : ℕ} → r ≡ Refused k q → Walks xs ((repeated n d) .read xs p₀) l₀ z₀ l′ (Refused k q)
-      walk-refuses e = loop-refuses lt (walk-no w e) (walk-kept w e)
+      walk-refuses e = loop-refuses lt (walk-refused w e) (walk-kept w e)
 
     -- the lists are as long as they were
     pub long-doubles : length (l .doubles) ≡ length (l₀ .doubles)
@@ -204,11 +204,11 @@ module _ (d : Format one Entries) (xs : List ℕ) (n p : ℕ) {z : Sizes} {r : W
   unfolding repeated pure
   past-room h k = walks-unstored ((repeated n d) .read xs p) (λ e q i. unstored n refl e q i) k
     where
-      unstored : (m : ℕ) → n ≡ m → (e : Entries) (q : ℕ) → (repeated n d) .read xs p ≡ got e q → lists a b [] ≡ lay (lists a b []) z e
+      unstored : (m : ℕ) → n ≡ m → (e : Entries) (q : ℕ) → (repeated n d) .read xs p ≡ got e q → lists a b [] ≡ store (lists a b []) z e
       unstored zero j e q i =
           let f : got none p ≡ got e q = sym (ap (λ (m : ℕ). (repeated m d) .read xs p) j) ∙ i in
           let g : none ≡ e = cc in
-          ap (lay (lists a b []) z) g
+          ap (store (lists a b []) z) g
       unstored (suc m) j e q i =
           let room = h (omega arith) in
           λ t. lists (sym (sets-out a (z .numbers) (doublesOf (e .numbers)) (omega arith)) t) (sym (sets-out b (z .numbers) (e .numbers) (omega arith)) t)
@@ -239,4 +239,3 @@ single-long xs p e q i = go (BD .read xs p) i
 pub single-refused : (xs : List ℕ) (p : ℕ) {k : Refusal} {q : ℕ} → BD .read xs p ≡ refused k q → single-walk .read xs p ≡ refused k q
 unfolding single-walk _>>=_ pure
 single-refused xs p e = rw e
-

@@ -1,4 +1,4 @@
--- Walks that lay words too: runs of doubles lay none, and a word that is put is one entry more. Assumes nothing.
+-- Walks that store words too: runs of doubles store none, and a word that is put is one entry more. Assumes nothing.
 use mathlib.Core.Path.{_≡_}
 use mathlib.Core.List.{List, []}
 use Prim.Native.Nat.{ℕ, _+_, _≤_}
@@ -20,7 +20,7 @@ use Rattle.hatch_points.specs.Walks.{raw-run, double-run}
 use Rattle.hatch_points.specs.Lists.{lists, Ready, Walks}
 use Rattle.hatch_points.proofs.Laws.{Step, one-word, with-words, onward}
 
--- runs lay no words
+-- runs store no words
 module _ {xs : List ℕ} (n p : ℕ) {a a′ : List Float} {b b′ : List ℕ} {z : Sizes} {r : Walk} (ws : List ℕ) where
   pub double-words : Walks xs ((double-run n) .read xs p) (lists a b []) z (lists a′ b′ []) r → Walks xs ((double-run n) .read xs p) (lists a b ws) z (lists a′ b′ ws) r
   unfolding double-run _>>=_ pure

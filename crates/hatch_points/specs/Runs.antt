@@ -30,10 +30,10 @@ module _ {A : Type 0} (f : Format one A) (xs : List ℕ) where
   times-length n p {items} {q} e = (times n f) .sound xs items p q e .0
 
   -- m items and then n
-  abbrev pub rest : ℕ → List A → ℕ → Out ℕ (List A)
-  rest n items q = andThen ((times n f) .read xs q) (λ more r. got (items ++ more) r)
+  abbrev pub then-items : ℕ → List A → ℕ → Out ℕ (List A)
+  then-items n items q = andThen ((times n f) .read xs q) (λ more r. got (items ++ more) r)
 
-  pub times-add : (m n p : ℕ) → (times (m + n) f) .read xs p ≡ andThen ((times m f) .read xs p) (rest n)
+  pub times-add : (m n p : ℕ) → (times (m + n) f) .read xs p ≡ andThen ((times m f) .read xs p) (then-items n)
   unfolding times relay times-read _>>=_ pure
   times-add zero n p = ap (λ (k : ℕ). (times-read k f) .read xs p) (zero-add n) ∙ go ((times-read n f) .read xs p)
     where
@@ -90,7 +90,7 @@ module _ (xs : List ℕ) where
       second ms (refused k q) = refl
 
       go : (o : Out ℕ (List ℕ))
-          → gathered numbers (andThen o (rest (coded RD) xs n))
+          → gathered numbers (andThen o (then-items (coded RD) xs n))
           ≡ andThen (andThen o (λ ms q. got (numbers ms) q)) (λ a q. andThen (andThen ((times n (coded RD)) .read xs q) (λ ns r. got (numbers ns) r)) (λ b r. got (plus a b) r))
       go (got ms q) = second ms ((times n (coded RD)) .read xs q)
       go (refused k q) = refl

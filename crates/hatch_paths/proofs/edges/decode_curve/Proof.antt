@@ -6,8 +6,8 @@ use Rattle.bitcursor.specs.Format.{_>>=_, pure, then-got, then-refused}
 use Rattle.hatch_points.specs.Gathered.{Entries, plus}
 use Rattle.hatch_points.specs.Walks.{raw-run, double-run}
 use Rattle.hatch_paths.specs.PathWalks.{bit-walk, curve-walk}
-use Rattle.hatch_points.proofs.Laws.{Step, _⊕_, walk-told, walk-ready, walk-no, walks-as, refuses, behind, words-kept, numbers-kept, plus-again, kept-then, kept-numbers, walk-kept}
-use Rattle.hatch_points.proofs.Lacking.{raw-wordless, double-wordless}
+use Rattle.hatch_points.proofs.Laws.{Step, _⊕_, walk-finished, walk-ready, walk-refused, walks-as, refuses, behind, words-kept, numbers-kept, plus-again, kept-then, kept-numbers, walk-kept}
+use Rattle.hatch_points.proofs.NoWords.{raw-wordless, double-wordless}
 use Rattle.hatch_paths.proofs.EdgeLaws.{bit-numberless}
 use borrow.Author.Needs.{needs}
 use Rattle.hatch_paths.proofs.edges.decode_curve.Statement.{statement}
@@ -53,8 +53,8 @@ unfolding curve-walk
 returns c =
     let a = (c .before .before .before .before .before .before .before .before .before .before .before .before .before .before .before .before .before .before .before .before .before .before .before .before .before .before .before .before .args) in
     let s = now (a .s) in
-    let h = walk-told (words-kept _ (now (a .words)) (raw-wordless (a .n) s (a .at)) ((c .before .before .before .before .before .before .before .before .before .before .before .before .before .before .before .before .before .before .before .before .before .raw-run) .ensures)) ((c .before .before .before .before .before .before .before .before .before .before .before .before .before .before .before .p) .given .1) in
-    let k = walk-told (words-kept _ (now (a .words)) (double-wordless 3 s _) ((c .before .before .before .before .before .before .before .before .before .before .before .double-run) .ensures)) ((c .before .before .before .before .before .q) .given .1) in
+    let h = walk-finished (words-kept _ (now (a .words)) (raw-wordless (a .n) s (a .at)) ((c .before .before .before .before .before .before .before .before .before .before .before .before .before .before .before .before .before .before .before .before .before .raw-run) .ensures)) ((c .before .before .before .before .before .before .before .before .before .before .before .before .before .before .before .p) .given .1) in
+    let k = walk-finished (words-kept _ (now (a .words)) (double-wordless 3 s _) ((c .before .before .before .before .before .before .before .before .before .before .before .double-run) .ensures)) ((c .before .before .before .before .before .q) .given .1) in
     walks-as
     (behind bit-walk (λ e. plus (h .entries) (plus (k .entries) e)) (h .step ⊕ k .step) (λ e. plus-again (h .entries) (k .entries) e) (numbers-kept _ _ _ (bit-numberless s _) ((c .before .before .put-bit) .ensures)))
     (sym (then-got (raw-run (a .n)) _ s (h .read) ∙ then-got (double-run 3) _ s (k .read)))
@@ -70,10 +70,10 @@ unfolding curve-walk
 returns-2 c =
     let a = (c .before .before .before .before .before .before .before .before .before .before .before .before .before .before .before .before .before .before .before .before .before .before .before .before .args) in
     let s = now (a .s) in
-    let h = walk-told (words-kept _ (now (a .words)) (raw-wordless (a .n) s (a .at)) ((c .before .before .before .before .before .before .before .before .before .before .before .before .before .before .before .before .before .raw-run) .ensures)) ((c .before .before .before .before .before .before .before .before .before .before .before .p) .given .1) in
+    let h = walk-finished (words-kept _ (now (a .words)) (raw-wordless (a .n) s (a .at)) ((c .before .before .before .before .before .before .before .before .before .before .before .before .before .before .before .before .before .raw-run) .ensures)) ((c .before .before .before .before .before .before .before .before .before .before .before .p) .given .1) in
     let walk = (c .before .before .before .before .before .before .before .double-run) .ensures in
     let stop = (c .before .k) .given .1 in
-    refuses (then-got (raw-run (a .n)) _ s (h .read) ∙ then-refused (double-run 3) _ s (walk-no walk stop))
+    refuses (then-got (raw-run (a .n)) _ s (h .read) ∙ then-refused (double-run 3) _ s (walk-refused walk stop))
     (kept-then (h .step) (kept-numbers (now (a .words)) (walk-kept walk stop)))
 
 same-length-6 : tie.Need-same-length-6
@@ -88,7 +88,7 @@ returns-3 c =
     let a = (c .before .before .before .before .before .before .before .before .before .before .before .before .before .before .args) in
     let walk = (c .before .before .before .before .before .before .before .raw-run) .ensures in
     let stop = (c .before .k2) .given .1 in
-    refuses (then-refused (raw-run (a .n)) _ (now (a .s)) (walk-no walk stop)) (kept-numbers (now (a .words)) (walk-kept walk stop))
+    refuses (then-refused (raw-run (a .n)) _ (now (a .s)) (walk-refused walk stop)) (kept-numbers (now (a .words)) (walk-kept walk stop))
 
 pub decode-curve-spec : {M : Type 1} → statement M
 decode-curve-spec =

@@ -9,7 +9,7 @@ use Rattle.bitcursor.specs.Reading.{refused}
 use Rattle.hatch_points.specs.Walks.{raw-run}
 use Rattle.hatch_paths.specs.PathWalks.{curve-walk, spline-walk, edge-of-walk}
 use Rattle.hatch_points.proofs.Laws.{walks-as, refuses, words-kept, kept-same}
-use Rattle.hatch_points.proofs.Lacking.{raw-wordless}
+use Rattle.hatch_points.proofs.NoWords.{raw-wordless}
 use Rattle.hatch_paths.proofs.EdgeLaws.{other-kind}
 use borrow.Author.Needs.{needs}
 use Rattle.hatch_paths.proofs.edges.decode_edge_of.Statement.{statement}

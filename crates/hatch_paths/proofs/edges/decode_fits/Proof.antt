@@ -17,7 +17,7 @@ use Rattle.hatch_points.specs.Walks.{raw-run}
 use Rattle.hatch_paths.specs.PathWalks.{fits-walk, fitted-raw}
 use Rattle.hatch_points.proofs.Laws.{one-word, refuses, ends, word-then, walks-as, words-kept, onward, kept-same}
 use Rattle.hatch_points.specs.Heads.{count-capped}
-use Rattle.hatch_points.proofs.Lacking.{raw-wordless}
+use Rattle.hatch_points.proofs.NoWords.{raw-wordless}
 use borrow.Author.Needs.{needs}
 use Rattle.hatch_paths.proofs.edges.decode_fits.Statement.{statement}
 use Rattle.hatch_paths.proofs.edges.decode_fits.Tie as tie

@@ -11,7 +11,7 @@ use Rattle.bitcursor.specs.Bits.{bit}
 use lib.Seq.{sets}
 use Rattle.hatch_paths.specs.PathWalks.{spline-lists-walk, spline-walk}
 use Rattle.hatch_points.specs.Heads.{resumed}
-use Rattle.hatch_paths.specs.Splines.{spline-rest}
+use Rattle.hatch_paths.specs.Splines.{spline-after-counts}
 use Rattle.hatch_points.proofs.Laws.{walks-as, refuses, words-then, kept-same}
 use Rattle.hatch_paths.proofs.SplineHeads.{head-read}
 use borrow.Author.Needs.{needs}
@@ -33,7 +33,7 @@ put-spline-head-requires : tie.Need-put-spline-head-requires
 put-spline-head-requires c κs =
     let a = (c .before .before .before .before .before .before .before .before .before .args) in
     let r = head-read (now (a .s)) (a .caps) (a .at) ((c .before .before .before .before .read-spline-head) .ensures) in
-    let d = r .headed ((c .before .before .last) .given .1) ((c .before .before .before .before .before .before .before .before .before .pre) .0 .1 .0) in
+    let d = r .head-end ((c .before .before .last) .given .1) ((c .before .before .before .before .before .before .before .before .before .pre) .0 .1 .0) in
     let h = (c .before .before .before .before .before .before .before .before .before .pre) .0 in
     let m = (c .before .before .before .before .before .before .before .before .before .pre) .1 in
     (omega (arith, h .0, h .1 .0, h .1 .1 .1), (r .degree, (r .rational, (r .periodic, (omega (arith, r .knots, m .knots), omega (arith, d .controls, m .«control_points»))))))
@@ -45,7 +45,7 @@ decode-spline-lists-requires : tie.Need-decode-spline-lists-requires
 decode-spline-lists-requires c κs =
     let a = (c .before .before .before .before .before .before .before .before .before .before .before .before .before .before .before .before .args) in
     let r = head-read (now (a .s)) (a .caps) (a .at) ((c .before .before .before .before .before .before .before .before .before .before .before .read-spline-head) .ensures) in
-    let d = r .headed ((c .before .before .before .before .before .before .before .before .before .last) .given .1) ((c .before .before .before .before .before .before .before .before .before .before .before .before .before .before .before .before .pre) .0 .1 .0) in
+    let d = r .head-end ((c .before .before .before .before .before .before .before .before .before .last) .given .1) ((c .before .before .before .before .before .before .before .before .before .before .before .before .before .before .before .before .pre) .0 .1 .0) in
     let h = (c .before .before .before .before .before .before .before .before .before .before .before .before .before .before .before .before .pre) .0 in
     let m = (c .before .before .before .before .before .before .before .before .before .before .before .before .before .before .before .before .pre) .1 in
     ((h .0, (d .inside, (omega (arith, d .onward, h .1 .1 .0), omega (arith, d .onward, h .1 .1 .1)))), (omega (arith, d .onward, h .1 .1 .1), (omega (arith, d .controls, m .«control_points»), omega (arith, m .«fit_points»))))
@@ -72,7 +72,7 @@ returns c =
     walks-as
     (words-then (spline-lists-walk (a .caps) (a .fits) (eqb 1 (h .rational)) (h .knots) n) (h .degree ∷ (bit (eqb 1 (h .rational)) ∷ (bit (eqb 1 (h .periodic)) ∷ (h .knots ∷ (n ∷ []))))) 5 refl
     ((c .before .before .before .before .before .before .before .before .before .before .before .before .before .put-spline-head) .ensures ∙ ap (sets (now (a .words)) (a .z .words)) (r .stored n)) ((c .before .before .before .before .before .before .decode-spline-lists) .ensures))
-    (sym (r .reads (a .fits) ∙ ap (resumed s (spline-rest (a .caps) (a .fits) h)) ((c .before .before .before .before .before .before .before .before .before .before .before .before .before .before .before .before .last) .given .1)))
+    (sym (r .reads (a .fits) ∙ ap (resumed s (spline-after-counts (a .caps) (a .fits) h)) ((c .before .before .before .before .before .before .before .before .before .before .before .before .before .before .before .before .last) .given .1)))
 
 returns-2 : tie.Need-returns-2
 returns-2 c =
@@ -80,7 +80,7 @@ returns-2 c =
     let s = now (a .s) in
     let h = (c .before .before .before .read-spline-head) .result in
     let r = head-read s (a .caps) (a .at) ((c .before .before .before .read-spline-head) .ensures) in
-    refuses (r .reads (a .fits) ∙ ap (resumed s (spline-rest (a .caps) (a .fits) h)) ((c .before .last2) .given .1)) kept-same
+    refuses (r .reads (a .fits) ∙ ap (resumed s (spline-after-counts (a .caps) (a .fits) h)) ((c .before .last2) .given .1)) kept-same
 
 pub decode-spline-edge-spec : {M : Type 1} → statement M
 decode-spline-edge-spec =

@@ -11,8 +11,8 @@ use Rattle.hatch_points.specs.Gathered.{Entries, plus}
 use Rattle.hatch_points.specs.Walks.{double-run, vertices-walk}
 use Rattle.hatch_paths.specs.PathWalks.{fits-walk, spline-lists-walk}
 use Rattle.hatch_format.specs.Takes.{takes-none}
-use Rattle.hatch_points.proofs.Laws.{words-still, Step, _⊕_, walk-told, walk-ready, walk-no, walks-as, refuses, behind, words-kept, plus-again, onward, kept-then, kept-numbers, walk-kept}
-use Rattle.hatch_points.proofs.Lacking.{double-wordless, vertices-wordless}
+use Rattle.hatch_points.proofs.Laws.{words-still, Step, _⊕_, walk-finished, walk-ready, walk-refused, walks-as, refuses, behind, words-kept, plus-again, onward, kept-then, kept-numbers, walk-kept}
+use Rattle.hatch_points.proofs.NoWords.{double-wordless, vertices-wordless}
 use borrow.Author.Needs.{needs}
 use Rattle.hatch_paths.proofs.edges.decode_spline_lists.Statement.{statement}
 use Rattle.hatch_paths.proofs.edges.decode_spline_lists.Tie as tie
@@ -39,9 +39,9 @@ decode-fits-requires c κs =
     let a = (c .before .before .before .before .before .before .before .before .before .before .before .before .before .before .before .before .before .before .before .before .before .before .before .before .before .before .before .before .args) in
     let s = now (a .s) in
     let d = double-wordless (a .head .knots) s (a .at) in
-    let h = walk-told ((c .before .before .before .before .before .before .before .before .before .before .before .before .before .before .before .before .before .before .before .before .before .double-run) .ensures) ((c .before .before .before .before .before .before .before .before .before .before .before .before .before .before .before .p) .given .1) in
+    let h = walk-finished ((c .before .before .before .before .before .before .before .before .before .before .before .before .before .before .before .before .before .before .before .before .before .double-run) .ensures) ((c .before .before .before .before .before .before .before .before .before .before .before .before .before .before .before .p) .given .1) in
     let w = walk-ready ((c .before .before .before .before .before .before .before .before .before .before .before .before .before .before .before .before .before .before .before .before .before .double-run) .ensures) ((c .before .before .before .before .before .before .before .before .before .before .before .before .before .before .before .p) .given .1) in
-    let k = walk-told ((c .before .before .before .before .before .before .before .before .before .before .decode-points) .ensures) ((c .before .before .before .before .q) .given .1) in
+    let k = walk-finished ((c .before .before .before .before .before .before .before .before .before .before .decode-points) .ensures) ((c .before .before .before .before .q) .given .1) in
     let u = onward (double-run (a .head .knots)) 0 (takes-none (double-run (a .head .knots))) s (a .at) (h .read) ((c .before .before .before .before .before .before .before .before .before .before .before .before .before .before .before .before .before .before .before .before .before .before .before .before .before .before .before .before .pre) .0 .1 .0) in
     let v = onward (vertices-walk (eqb 1 (a .head .rational)) (a .controls)) 0 (takes-none (vertices-walk (eqb 1 (a .head .rational)) (a .controls))) s _ (k .read) (w .1 .0) in
     let x = words-still h d in
@@ -68,8 +68,8 @@ unfolding spline-lists-walk
 returns c =
     let a = (c .before .before .before .before .before .before .before .before .before .before .before .before .before .before .before .before .before .before .before .before .before .before .before .before .before .before .before .before .before .before .before .before .before .before .before .args) in
     let s = now (a .s) in
-    let h = walk-told (words-kept _ (now (a .words)) (double-wordless (a .head .knots) s (a .at)) ((c .before .before .before .before .before .before .before .before .before .before .before .before .before .before .before .before .before .before .before .before .before .before .before .before .before .before .before .before .double-run) .ensures)) ((c .before .before .before .before .before .before .before .before .before .before .before .before .before .before .before .before .before .before .before .before .before .before .p) .given .1) in
-    let k = walk-told (words-kept _ (now (a .words)) (vertices-wordless (eqb 1 (a .head .rational)) (a .controls) s _) ((c .before .before .before .before .before .before .before .before .before .before .before .before .before .before .before .before .before .decode-points) .ensures)) ((c .before .before .before .before .before .before .before .before .before .before .before .q) .given .1) in
+    let h = walk-finished (words-kept _ (now (a .words)) (double-wordless (a .head .knots) s (a .at)) ((c .before .before .before .before .before .before .before .before .before .before .before .before .before .before .before .before .before .before .before .before .before .before .before .before .before .before .before .before .double-run) .ensures)) ((c .before .before .before .before .before .before .before .before .before .before .before .before .before .before .before .before .before .before .before .before .before .before .p) .given .1) in
+    let k = walk-finished (words-kept _ (now (a .words)) (vertices-wordless (eqb 1 (a .head .rational)) (a .controls) s _) ((c .before .before .before .before .before .before .before .before .before .before .before .before .before .before .before .before .before .decode-points) .ensures)) ((c .before .before .before .before .before .before .before .before .before .before .before .q) .given .1) in
     walks-as
     (behind (fits-walk (a .caps .«fit_points») (a .fits)) (λ e. plus (h .entries) (plus (k .entries) e)) (h .step ⊕ k .step) (λ e. plus-again (h .entries) (k .entries) e) ((c .before .before .before .before .before .before .decode-fits) .ensures))
     (sym (then-got (double-run (a .head .knots)) _ s (h .read) ∙ then-got (vertices-walk (eqb 1 (a .head .rational)) (a .controls)) _ s (k .read)))
@@ -85,11 +85,11 @@ unfolding spline-lists-walk
 returns-2 c =
     let a = (c .before .before .before .before .before .before .before .before .before .before .before .before .before .before .before .before .before .before .before .before .before .before .before .before .before .args) in
     let s = now (a .s) in
-    let h = walk-told (words-kept _ (now (a .words)) (double-wordless (a .head .knots) s (a .at)) ((c .before .before .before .before .before .before .before .before .before .before .before .before .before .before .before .before .before .before .double-run) .ensures)) ((c .before .before .before .before .before .before .before .before .before .before .before .before .p) .given .1) in
+    let h = walk-finished (words-kept _ (now (a .words)) (double-wordless (a .head .knots) s (a .at)) ((c .before .before .before .before .before .before .before .before .before .before .before .before .before .before .before .before .before .before .double-run) .ensures)) ((c .before .before .before .before .before .before .before .before .before .before .before .before .p) .given .1) in
     let walk = (c .before .before .before .before .before .before .before .decode-points) .ensures in
     let stop = (c .before .k) .given .1 in
     refuses
-    (then-got (double-run (a .head .knots)) _ s (h .read) ∙ then-refused (vertices-walk (eqb 1 (a .head .rational)) (a .controls)) _ s (walk-no walk stop))
+    (then-got (double-run (a .head .knots)) _ s (h .read) ∙ then-refused (vertices-walk (eqb 1 (a .head .rational)) (a .controls)) _ s (walk-refused walk stop))
     (kept-then (h .step) (kept-numbers (now (a .words)) (walk-kept walk stop)))
 
 same-length-6 : tie.Need-same-length-6
@@ -104,7 +104,7 @@ returns-3 c =
     let a = (c .before .before .before .before .before .before .before .before .before .before .before .before .before .before .args) in
     let walk = (c .before .before .before .before .before .before .before .double-run) .ensures in
     let stop = (c .before .k2) .given .1 in
-    refuses (then-refused (double-run (a .head .knots)) _ (now (a .s)) (walk-no walk stop)) (kept-numbers (now (a .words)) (walk-kept walk stop))
+    refuses (then-refused (double-run (a .head .knots)) _ (now (a .s)) (walk-refused walk stop)) (kept-numbers (now (a .words)) (walk-kept walk stop))
 
 pub decode-spline-lists-spec : {M : Type 1} → statement M
 decode-spline-lists-spec =

@@ -15,7 +15,7 @@ use Rattle.hatch_points.specs.Gathered.{word}
 use Rattle.hatch_points.specs.Lists.{lists}
 use Rattle.hatch_points.proofs.Laws.{one-word, refuses, ends, onward, kept-same}
 use Rattle.hatch_paths.proofs.EdgeLaws.{bit-read, bit-refused}
-use Rattle.hatch_points.proofs.Lacking.{bit-of, takes-raw}
+use Rattle.hatch_points.proofs.NoWords.{bit-of, takes-raw}
 use borrow.Author.Needs.{needs}
 use Rattle.hatch_paths.proofs.edges.put_bit.Statement.{statement}
 use Rattle.hatch_paths.proofs.edges.put_bit.Tie as tie

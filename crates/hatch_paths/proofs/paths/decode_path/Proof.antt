@@ -13,7 +13,7 @@ use Rattle.bitcursor.specs.Fields.{coded}
 use Rattle.bitcursor.specs.Format.{_>>=_, pure, then-got, then-refused}
 use Rattle.bitcursor.proofs.Steps.{read-value, read-refused}
 use Rattle.hatch_format.specs.Takes.{takes-BL}
-use Rattle.hatch_paths.specs.PathWalks.{flagged-walk, path-walk}
+use Rattle.hatch_paths.specs.PathWalks.{after-flags-walk, path-walk}
 use Rattle.hatch_points.specs.Lists.{lists}
 use Rattle.hatch_points.proofs.Laws.{walks-as, refuses, flags-then, walks-by, onward, kept-same}
 use borrow.Author.Needs.{needs}
@@ -23,8 +23,8 @@ use Rattle.hatch_paths.proofs.paths.decode_path.Reads as reads
 use Rattle.hatch_paths.proofs.paths.decode_path.Lts as lts
 use Rattle.bitcursor.proofs.within.read_bl_u.Reads as read-bl-u-reads
 use Rattle.hatch_points.proofs.lists.put_word.Reads as put-word-reads
-use Rattle.hatch_paths.proofs.paths.decode_flagged.Reads as decode-flagged-reads
-use Rattle.hatch_paths.proofs.paths.flagged.Reads as flagged-reads
+use Rattle.hatch_paths.proofs.paths.decode_after_flags.Reads as decode-after-flags-reads
+use Rattle.hatch_paths.proofs.paths.has_flag.Reads as has-flag-reads
 
 read-bl-u-requires : tie.Need-read-bl-u-requires
 read-bl-u-requires c κs = search needs
@@ -38,14 +38,14 @@ put-word-requires c κs = let h = read-below BL BL-below (now ((c .before .befor
 add-t19 : tie.Need-add-t19
 add-t19 c = search needs
 
-flagged-requires : tie.Need-flagged-requires
-flagged-requires c κs = search needs
+has-flag-requires : tie.Need-has-flag-requires
+has-flag-requires c κs = search needs
 
-flagged-requires-2 : tie.Need-flagged-requires-2
-flagged-requires-2 c κs = search needs
+has-flag-requires-2 : tie.Need-has-flag-requires-2
+has-flag-requires-2 c κs = search needs
 
-decode-flagged-requires : tie.Need-decode-flagged-requires
-decode-flagged-requires c κs =
+decode-after-flags-requires : tie.Need-decode-after-flags-requires
+decode-after-flags-requires c κs =
     let a = (c .before .before .before .before .before .before .before .before .before .before .before .before .before .before .before .before .before .before .before .args) in
     let h = (c .before .before .before .before .before .before .before .before .before .before .before .before .before .before .before .before .before .before .before .pre) .0 in
     let on = onward (coded BL) 2 takes-BL (now (a .s)) (a .at) (read-value _ ((c .before .before .before .before .before .before .before .before .before .before .before .before .before .before .read-bl-u) .ensures) ((c .before .before .before .before .before .before .before .before .before .before .before .before .flags) .given .1)) (h .1 .0) in
@@ -69,7 +69,7 @@ returns c =
     let a = (c .before .before .before .before .before .before .before .before .before .before .before .before .before .before .before .before .before .before .before .before .before .before .before .before .before .before .args) in
     let s = now (a .s) in
     let f = (c .before .before .before .before .before .before .before .before .before .before .before .before .before .before .before .before .before .before .before .flags) .given .0 .0 in
-    walks-as (flags-then (flagged-walk (a .caps) (a .fits) (odd (f / 2))) f ((c .before .before .before .before .before .before .before .before .before .before .before .before .before .before .before .before .put-word) .ensures) (walks-by (flagged-walk (a .caps) (a .fits)) (a .z .derived) ((c .before .before .before .before .before .before .before .before .before .before .flagged2) .ensures) ((c .before .before .before .before .before .before .before .before .before .before .before .before .flagged) .ensures) ((c .before .before .before .before .before .before .decode-flagged) .ensures)))
+    walks-as (flags-then (after-flags-walk (a .caps) (a .fits) (odd (f / 2))) f ((c .before .before .before .before .before .before .before .before .before .before .before .before .before .before .before .before .put-word) .ensures) (walks-by (after-flags-walk (a .caps) (a .fits)) (a .z .derived) ((c .before .before .before .before .before .before .before .before .before .before .has-flag2) .ensures) ((c .before .before .before .before .before .before .before .before .before .before .before .before .has-flag) .ensures) ((c .before .before .before .before .before .before .decode-after-flags) .ensures)))
     (sym (then-got (coded BL) _ s (read-value _ ((c .before .before .before .before .before .before .before .before .before .before .before .before .before .before .before .before .before .before .before .before .before .read-bl-u) .ensures) ((c .before .before .before .before .before .before .before .before .before .before .before .before .before .before .before .before .before .before .before .flags) .given .1))))
 
 returns-2 : tie.Need-returns-2
@@ -84,9 +84,9 @@ decode-path-spec =
     enum-known-flags
     put-word-requires
     add-t19
-    flagged-requires
-    flagged-requires-2
-    decode-flagged-requires
+    has-flag-requires
+    has-flag-requires-2
+    decode-after-flags-requires
     enum-known-k
     same-length
     same-length-2

@@ -13,8 +13,8 @@ use Rattle.hatch_points.specs.Walks.{vertices-walk}
 use Rattle.hatch_paths.specs.PathWalks.{polyline-walk}
 use Rattle.hatch_points.specs.Heads.{resumed}
 use Rattle.hatch_points.proofs.Laws.{walks-as, refuses, words-then, words-kept, kept-same}
-use Rattle.hatch_points.proofs.Lacking.{vertices-wordless}
-use Rattle.hatch_paths.proofs.PolylineHeads.{polyline-rest, polyline-reads, bulge-below, closed-below, stored-words, headed}
+use Rattle.hatch_points.proofs.NoWords.{vertices-wordless}
+use Rattle.hatch_paths.proofs.PolylineHeads.{polyline-after-count, polyline-reads, bulge-below, closed-below, stored-words, head-end}
 use borrow.Author.Needs.{needs}
 use Rattle.hatch_paths.proofs.paths.decode_polyline_path.Statement.{statement}
 use Rattle.hatch_paths.proofs.paths.decode_polyline_path.Tie as tie
@@ -51,7 +51,7 @@ put-polyline-head-requires c κs =
     let s = now (a .s) in
     let h = (c .before .before .before .before .before .before .before .before .before .before .before .before .before .pre) .0 in
     let m = (c .before .before .before .before .before .before .before .before .before .before .before .before .before .pre) .1 in
-    let d = headed s (a .caps) (a .at) ((c .before .before .before .before .before .before .before .before .read-bits) .ensures) ((c .before .before .before .before .before .before .before .then-bits) .ensures) ((c .before .before .before .before .before .before .then-count) .ensures) ((c .before .before .before .before .count) .given .1) (h .1 .0) in
+    let d = head-end s (a .caps) (a .at) ((c .before .before .before .before .before .before .before .before .read-bits) .ensures) ((c .before .before .before .before .before .before .before .then-bits) .ensures) ((c .before .before .before .before .before .before .then-count) .ensures) ((c .before .before .before .before .count) .given .1) (h .1 .0) in
     let b = bulge-below s (a .caps) (a .at) ((c .before .before .before .before .before .before .before .before .read-bits) .ensures) ((c .before .before .before .before .before .before .before .then-bits) .ensures) ((c .before .before .before .before .before .before .then-count) .ensures) in
     let k = closed-below s (a .caps) (a .at) ((c .before .before .before .before .before .before .before .before .read-bits) .ensures) ((c .before .before .before .before .before .before .before .then-bits) .ensures) ((c .before .before .before .before .before .before .then-count) .ensures) in
     (omega (arith, h .0, h .1 .0, h .1 .1 .1), (omega (arith, b, (c .before .before .value-of) .ensures), (omega (arith, k, (c .value-of2) .ensures), omega (arith, d .capped, m .vertices))))
@@ -65,7 +65,7 @@ decode-points-requires c κs =
     let s = now (a .s) in
     let h = (c .before .before .before .before .before .before .before .before .before .before .before .before .before .before .before .before .before .before .before .pre) .0 in
     let m = (c .before .before .before .before .before .before .before .before .before .before .before .before .before .before .before .before .before .before .before .pre) .1 in
-    let d = headed s (a .caps) (a .at) ((c .before .before .before .before .before .before .before .before .before .before .before .before .before .before .read-bits) .ensures) ((c .before .before .before .before .before .before .before .before .before .before .before .before .before .then-bits) .ensures) ((c .before .before .before .before .before .before .before .before .before .before .before .before .then-count) .ensures) ((c .before .before .before .before .before .before .before .before .before .before .count) .given .1) (h .1 .0) in
+    let d = head-end s (a .caps) (a .at) ((c .before .before .before .before .before .before .before .before .before .before .before .before .before .before .read-bits) .ensures) ((c .before .before .before .before .before .before .before .before .before .before .before .before .before .then-bits) .ensures) ((c .before .before .before .before .before .before .before .before .before .before .before .before .then-count) .ensures) ((c .before .before .before .before .before .before .before .before .before .before .count) .given .1) (h .1 .0) in
     ((h .0, (d .inside, (omega (arith, d .onward, h .1 .1 .0), omega (arith, d .onward, h .1 .1 .1)))), omega (arith, d .capped, m .vertices))
 
 enum-known-count-2 : tie.Need-enum-known-count-2
@@ -96,14 +96,14 @@ returns c =
     ∙ ap (sets (now (a .words)) (a .z .words)) (stored-words s (a .caps) (a .at) e₁ e₂ e₃ n))
     (words-kept _ ((c .before .before .before .before .before .before .before .before .before .before .put-polyline-head) .last .0) (vertices-wordless (eqb 1 (valueOf x)) n s _)
     (walks-as ((c .before .before .before .before .decode-points) .ensures) (ap (λ (m : ℕ). (vertices-walk (eqb 1 m) n) .read s ((c .before .before .before .before .before .before .before .before .before .before .before .before .before .before .before .count) .given .0 .1 .0)) ((c .before .before .before .before .before .before .before .before .before .before .before .before .before .value-of) .ensures)))))
-    (sym (polyline-reads s (a .caps) (a .at) e₁ e₂ e₃ ∙ ap (resumed s (polyline-rest s (a .caps) (a .at) e₁ e₂ e₃)) ((c .before .before .before .before .before .before .before .before .before .before .before .before .before .before .before .count) .given .1)))
+    (sym (polyline-reads s (a .caps) (a .at) e₁ e₂ e₃ ∙ ap (resumed s (polyline-after-count s (a .caps) (a .at) e₁ e₂ e₃)) ((c .before .before .before .before .before .before .before .before .before .before .before .before .before .before .before .count) .given .1)))
 
 returns-2 : tie.Need-returns-2
 returns-2 c =
     let a = (c .before .before .before .before .before .before .before .before .before .before .args) in
     let s = now (a .s) in
     refuses (polyline-reads s (a .caps) (a .at) ((c .before .before .before .before .before .read-bits) .ensures) ((c .before .before .before .before .then-bits) .ensures) ((c .before .before .before .then-count) .ensures)
-    ∙ ap (resumed s (polyline-rest s (a .caps) (a .at) ((c .before .before .before .before .before .read-bits) .ensures) ((c .before .before .before .before .then-bits) .ensures) ((c .before .before .before .then-count) .ensures))) ((c .before .count2) .given .1)) kept-same
+    ∙ ap (resumed s (polyline-after-count s (a .caps) (a .at) ((c .before .before .before .before .before .read-bits) .ensures) ((c .before .before .before .before .then-bits) .ensures) ((c .before .before .before .then-count) .ensures))) ((c .before .count2) .given .1)) kept-same
 
 pub decode-polyline-path-spec : {M : Type 1} → statement M
 decode-polyline-path-spec =

@@ -30,10 +30,10 @@ enum-known-k c = search needs
 
 returns : tie.Need-returns
 returns c =
-    let told = c .before .before in
-    let call = told .before .before in
+    let known = c .before .before in
+    let call = known .before .before in
     let a = call .before .before .args in
-    let t = passed-there (now (a .s)) 16 (a .at) (call .skip-bytes .ensures) (told .p .given .1) in
+    let t = passed-there (now (a .s)) 16 (a .at) (call .skip-bytes .ensures) (known .p .given .1) in
     extra-passed (now (a .s)) (a .at) (omega (arith, t .fits)) (omega (arith, t .next)) (c .pass-bd .ensures)
 
 returns-2 : tie.Need-returns-2

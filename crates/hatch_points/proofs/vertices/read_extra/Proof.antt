@@ -30,10 +30,10 @@ read-bd-bits-requires c κs = search needs
 
 returns : tie.Need-returns
 returns c =
-    let told = c .before .before .before in
-    let call = told .before .before in
+    let known = c .before .before .before in
+    let call = known .before .before in
     let a = call .before .before .args in
-    let t = passed-there (now (a .s)) 16 (a .at) (call .skip-bytes .ensures) (told .p .given .1) in
+    let t = passed-there (now (a .s)) 16 (a .at) (call .skip-bytes .ensures) (known .p .given .1) in
     extra-on (now (a .s)) (a .at) (omega (arith, t .fits)) (omega (arith, t .next)) (c .read-bd-bits .ensures)
 
 read-bd-there-requires : tie.Need-read-bd-there-requires
@@ -44,10 +44,10 @@ enum-known-k c = search needs
 
 returns-2 : tie.Need-returns-2
 returns-2 c =
-    let told = c .before .before .before in
-    let call = told .before .before in
+    let known = c .before .before .before in
+    let call = known .before .before in
     let a = call .before .before .args in
-    let t = passed-there (now (a .s)) 16 (a .at) (call .skip-bytes .ensures) (told .p .given .1) in
+    let t = passed-there (now (a .s)) 16 (a .at) (call .skip-bytes .ensures) (known .p .given .1) in
     extra-on (now (a .s)) (a .at) (omega (arith, t .fits)) (omega (arith, t .next)) (c .read-bd-there .ensures)
 
 returns-3 : tie.Need-returns-3

@@ -6,14 +6,14 @@ use native.Mathlib.Omega.{arith}
 use denote.Ref.{now}
 use Rattle.bitcursor.specs.Format.{_>>=_, pure, then-got, then-refused}
 use Rattle.hatch_points.specs.Gathered.{Entries, plus}
-use Rattle.hatch_paths.specs.PathWalks.{segments-walk, handles-walk, flagged-walk}
-use Rattle.hatch_points.proofs.Laws.{walk-told, walk-ready, walk-no, walks-as, refuses, behind, numbers-kept, walk-kept}
+use Rattle.hatch_paths.specs.PathWalks.{segments-walk, handles-walk, after-flags-walk}
+use Rattle.hatch_points.proofs.Laws.{walk-finished, walk-ready, walk-refused, walks-as, refuses, behind, numbers-kept, walk-kept}
 use Rattle.hatch_paths.proofs.EdgeLaws.{handles-numberless}
 use borrow.Author.Needs.{needs}
-use Rattle.hatch_paths.proofs.paths.decode_flagged.Statement.{statement}
-use Rattle.hatch_paths.proofs.paths.decode_flagged.Tie as tie
-use Rattle.hatch_paths.proofs.paths.decode_flagged.Reads as reads
-use Rattle.hatch_paths.proofs.paths.decode_flagged.Lts as lts
+use Rattle.hatch_paths.proofs.paths.decode_after_flags.Statement.{statement}
+use Rattle.hatch_paths.proofs.paths.decode_after_flags.Tie as tie
+use Rattle.hatch_paths.proofs.paths.decode_after_flags.Reads as reads
+use Rattle.hatch_paths.proofs.paths.decode_after_flags.Lts as lts
 use Rattle.hatch_paths.proofs.paths.decode_segments.Reads as decode-segments-reads
 use Rattle.hatch_paths.proofs.paths.put_handle_count.Reads as put-handle-count-reads
 
@@ -39,11 +39,11 @@ same-length-3 : tie.Need-same-length-3
 same-length-3 c = search needs
 
 returns : tie.Need-returns
-unfolding flagged-walk
+unfolding after-flags-walk
 returns c =
     let a = (c .before .before .before .before .before .before .before .before .before .before .before .before .before .before .before .before .before .before .before .before .before .args) in
     let s = now (a .s) in
-    let t = walk-told ((c .before .before .before .before .before .before .before .before .before .before .before .before .before .decode-segments) .ensures) ((c .before .before .before .before .before .p) .given .1) in
+    let t = walk-finished ((c .before .before .before .before .before .before .before .before .before .before .before .before .before .decode-segments) .ensures) ((c .before .before .before .before .before .p) .given .1) in
     walks-as (behind (handles-walk (a .caps .«boundary_handles»)) (plus (t .entries)) (t .step) (λ e. refl) (numbers-kept _ _ _ (handles-numberless (a .caps .«boundary_handles») s _) ((c .before .before .put-handle-count) .ensures)))
     (sym (then-got (segments-walk (a .caps) (a .fits) (a .polyline)) _ s (t .read)))
 
@@ -57,15 +57,15 @@ same-length-6 : tie.Need-same-length-6
 same-length-6 c = search needs
 
 returns-2 : tie.Need-returns-2
-unfolding flagged-walk
+unfolding after-flags-walk
 returns-2 c =
     let a = (c .before .before .before .before .before .before .before .before .before .before .before .before .before .before .before .before .before .args) in
     let walk = (c .before .before .before .before .before .before .before .before .before .decode-segments) .ensures in
     let stop = (c .before .k) .given .1 in
-    refuses (then-refused (segments-walk (a .caps) (a .fits) (a .polyline)) _ (now (a .s)) (walk-no walk stop)) (walk-kept walk stop)
+    refuses (then-refused (segments-walk (a .caps) (a .fits) (a .polyline)) _ (now (a .s)) (walk-refused walk stop)) (walk-kept walk stop)
 
-pub decode-flagged-spec : {M : Type 1} → statement M
-decode-flagged-spec =
+pub decode-after-flags-spec : {M : Type 1} → statement M
+decode-after-flags-spec =
     tie.close
     (tie.spec
     decode-segments-requires
