@@ -47,10 +47,12 @@ enum-known-k c = search needs
 
 returns : tie.Need-returns Inv-loop μ-loop
 returns c =
-    let called = c .before .before .before in
+    let after-k = c .before in
+    let after-pass-bd = after-k .before .before in
+    let called = after-pass-bd in
     let l = called .before .before .loop in
     let s = now (called .before .before .before .before .args .s) in
-    let o = single-refused s (l .p) (passed-refused _ (called .pass-bd .ensures) (c .before .k .given .1)) in
+    let o = single-refused s (l .p) (passed-refused _ (called .pass-bd .ensures) (after-k .k .given .1)) in
     loop-refuses single-walk s (l .inv) (called .before .loop-test .taken) o kept-same
 
 add-i : tie.Need-add-i Inv-loop μ-loop
@@ -61,12 +63,14 @@ loop-less c = omega arith
 
 loop-again : tie.Need-loop-again Inv-loop μ-loop
 loop-again c =
-    let called = c .before .before .before in
+    let after-q = c .before in
+    let after-pass-bd = after-q .before .before in
+    let called = after-pass-bd in
     let l = called .before .before .loop in
     let a = called .before .before .before .before .args in
     let s = now (a .s) in
     let y : Sizes = record { numbers = l .used; words = a .z .words; derived = a .z .derived } in
-    let t = passed-value _ (called .pass-bd .ensures) (c .before .q .given .1) in
+    let t = passed-value _ (called .pass-bd .ensures) (after-q .q .given .1) in
     let v = t .0 in
     let e = t .1 in
     let h = l .inv .ready in
@@ -76,7 +80,10 @@ loop-again c =
     (h .0, (on .1, (omega (arith, on .0, h .1 .1 .0), omega (arith, on .0, h .1 .1 .1))))
 
 returns-2 : tie.Need-returns-2 Inv-loop μ-loop
-returns-2 c = loop-ends single-walk (now (c .before .before .before .args .s)) (c .before .loop .inv) (c .loop-test .left)
+returns-2 c =
+    let at-loop = c .before in
+    let entry = at-loop .before .before in
+    loop-ends single-walk (now (entry .args .s)) (at-loop .loop .inv) (c .loop-test .left)
 
 pub pass-doubles-spec : {M : Type 1} → statement M
 pass-doubles-spec =

@@ -45,10 +45,12 @@ enum-known-k c = search needs
 
 returns : tie.Need-returns Inv-loop μ-loop
 returns c =
-    let called = c .before .before .before in
+    let after-k = c .before in
+    let after-pass-vertex = after-k .before .before in
+    let called = after-pass-vertex in
     let l = called .before .before .loop in
     let s = now (called .before .before .before .before .args .s) in
-    let o = subst (ExtraPassed s (l .p)) (c .before .k .given .1) (called .pass-vertex .ensures) in
+    let o = subst (ExtraPassed s (l .p)) (after-k .k .given .1) (called .pass-vertex .ensures) in
     loop-refuses vertex-walk s (l .inv) (called .before .loop-test .taken) o kept-same
 
 add-i : tie.Need-add-i Inv-loop μ-loop
@@ -59,12 +61,14 @@ loop-less c = omega arith
 
 loop-again : tie.Need-loop-again Inv-loop μ-loop
 loop-again c =
-    let called = c .before .before .before in
+    let after-q = c .before in
+    let after-pass-vertex = after-q .before .before in
+    let called = after-pass-vertex in
     let l = called .before .before .loop in
     let a = called .before .before .before .before .args in
     let s = now (a .s) in
     let y : Sizes = record { numbers = l .used; words = a .z .words; derived = a .z .derived } in
-    let t = subst (ExtraPassed s (l .p)) (c .before .q .given .1) (called .pass-vertex .ensures) in
+    let t = subst (ExtraPassed s (l .p)) (after-q .q .given .1) (called .pass-vertex .ensures) in
     let v = vertexAt s (l .p) (t .0) in
     let h = l .inv .ready in
     next vertex-walk s (l .inv) (numbers v) (called .before .loop-test .taken) (t .1 .read)
@@ -72,7 +76,10 @@ loop-again c =
     (h .0, (t .1 .inside, (omega (arith, t .1 .onward, h .1 .1 .0), omega (arith, t .1 .onward, h .1 .1 .1))))
 
 returns-2 : tie.Need-returns-2 Inv-loop μ-loop
-returns-2 c = loop-ends vertex-walk (now (c .before .before .before .args .s)) (c .before .loop .inv) (c .loop-test .left)
+returns-2 c =
+    let at-loop = c .before in
+    let entry = at-loop .before .before in
+    loop-ends vertex-walk (now (entry .args .s)) (at-loop .loop .inv) (c .loop-test .left)
 
 pub pass-vertices-spec : {M : Type 1} → statement M
 pass-vertices-spec =
