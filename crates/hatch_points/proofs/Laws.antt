@@ -19,7 +19,8 @@ use Rattle.hatch_points.specs.declared.lists.Sizes.{Sizes}
 use Rattle.hatch_points.specs.declared.lists.Walk.{Walk}
 use Rattle.hatch_points.specs.declared.lists.Walk.the-variants.{Done, Refused}
 use Rattle.hatch_points.specs.Gathered.{Entries, none, word, words, numbers, flagEntries, plus, gathered}
-use Rattle.hatch_points.specs.Lists.{Lists, lists, doublesOf, doubles-append, length-doubles, store, grow, walkOf, KeptFront, Kept, Stored, Ready, ReadyAfter, Walks}
+use Rattle.hatch_points.specs.Lists.{Lists, lists, doublesOf, doubles-append, length-doubles, store, grow, walkOf, KeptFront, Kept, Stored}
+use Rattle.hatch_points.specs.Lists.{Ready, ReadyAfter, Walks}
 
 -- ---- the laws that go list by list
 pub sets-append : {A : Type 0} (l : List A) (i : ℕ) (xs ys : List A) → sets l i (xs ++ ys) ≡ sets (sets l i xs) (i + length xs) ys
@@ -43,7 +44,11 @@ or-false false = refl
 
 plus-plus : (a b c : Entries) → plus (plus a b) c ≡ plus a (plus b c)
 plus-plus a b c =
-    λ i. record { words = append-assoc (a .words) (b .words) (c .words) i; numbers = append-assoc (a .numbers) (b .numbers) (c .numbers) i; derived = or-assoc (a .derived) (b .derived) (c .derived) i }
+    λ i. record {
+      words = append-assoc (a .words) (b .words) (c .words) i;
+      numbers = append-assoc (a .numbers) (b .numbers) (c .numbers) i;
+      derived = or-assoc (a .derived) (b .derived) (c .derived) i;
+    }
 
 pub plus-none : (a : Entries) → plus a none ≡ a
 plus-none a = λ i. record { words = append-nil (a .words) i; numbers = append-nil (a .numbers) i; derived = or-false (a .derived) i }
@@ -56,7 +61,11 @@ more n xs ys = ap (λ (k : ℕ). n + k) (length-append xs ys) ∙ sym (add-assoc
 
 grow-plus : (z : Sizes) (a b : Entries) → grow z (plus a b) ≡ grow (grow z a) b
 grow-plus z a b =
-    λ i. record { numbers = more (z .numbers) (a .numbers) (b .numbers) i; words = more (z .words) (a .words) (b .words) i; derived = sym (or-assoc (z .derived) (a .derived) (b .derived)) i }
+    λ i. record {
+      numbers = more (z .numbers) (a .numbers) (b .numbers) i;
+      words = more (z .words) (a .words) (b .words) i;
+      derived = sym (or-assoc (z .derived) (a .derived) (b .derived)) i;
+    }
 
 store-doubles : (l : List Float) (n : ℕ) (a b : List ℕ) → sets l n (doublesOf (a ++ b)) ≡ sets (sets l n (doublesOf a)) (n + length a) (doublesOf b)
 store-doubles l n a b =
@@ -65,7 +74,8 @@ store-doubles l n a b =
 
 store-plus : (l : Lists) (z : Sizes) (a b : Entries) → store l z (plus a b) ≡ store (store l z a) (grow z a) b
 store-plus l z a b =
-    λ i. lists (store-doubles (l .doubles) (z .numbers) (a .numbers) (b .numbers) i) (sets-append (l .bits) (z .numbers) (a .numbers) (b .numbers) i) (sets-append (l .words) (z .words) (a .words) (b .words) i)
+    λ i. lists (store-doubles (l .doubles) (z .numbers) (a .numbers) (b .numbers) i) (sets-append (l .bits) (z .numbers) (a .numbers) (b .numbers) i)
+    (sets-append (l .words) (z .words) (a .words) (b .words) i)
 
 -- one word more, one number more
 pub one-word : (z : Sizes) (w : ℕ) → record { numbers = z .numbers; words = z .words + 1; derived = z .derived } ≡ grow z (word w)
@@ -104,7 +114,8 @@ kept-store l z e =
     }
 
 -- the words, or the numbers, of one who stores none
-pub kept-numbers : {a a′ : List Float} {b b′ : List ℕ} {z : Sizes} (ws : List ℕ) → Kept (lists a b []) z (lists a′ b′ []) → Kept (lists a b ws) z (lists a′ b′ ws)
+pub kept-numbers : {a a′ : List Float} {b b′ : List ℕ} {z : Sizes} (ws : List ℕ) → Kept (lists a b []) z (lists a′ b′ [])
+    → Kept (lists a b ws) z (lists a′ b′ ws)
 kept-numbers ws h = record { doubles = h .doubles; bits = h .bits; words = front-same }
 
 kept-words : (a : List Float) (b : List ℕ) {ws ws′ : List ℕ} {z : Sizes} → Kept (lists [] [] ws) z (lists [] [] ws′) → Kept (lists a b ws) z (lists a b ws′)
@@ -181,11 +192,13 @@ module _ {xs : List ℕ} {o : Out ℕ Entries} {l l′ : Lists} {z : Sizes} {r :
   walks-as e = subst (λ (x : Out ℕ Entries). Walks xs x l z l′ r) e h
 
 -- ---- what a walk answers
-pub refuses : {xs : List ℕ} {o : Out ℕ Entries} {l l′ : Lists} {z : Sizes} {k : Refusal} {p : ℕ} → o ≡ refused k p → Kept l z l′ → Walks xs o l z l′ (Refused k p)
+pub refuses : {xs : List ℕ} {o : Out ℕ Entries} {l l′ : Lists} {z : Sizes} {k : Refusal} {p : ℕ} → o ≡ refused k p → Kept l z l′
+    → Walks xs o l z l′ (Refused k p)
 refuses {xs} {o} {l} {l′} {z} {k} {p} e h =
     subst (λ (x : Out ℕ Entries). Walks xs x l z l′ (Refused k p)) (sym e) (record { is = refl; stored = h; ready = tt })
 
-pub ends : {xs : List ℕ} {o : Out ℕ Entries} {l l′ : Lists} {z y : Sizes} {p : ℕ} (e : Entries) → o ≡ got e p → Step l z e l′ y → Ready xs p y → Walks xs o l z l′ (Done p y)
+pub ends : {xs : List ℕ} {o : Out ℕ Entries} {l l′ : Lists} {z y : Sizes} {p : ℕ} (e : Entries) → o ≡ got e p → Step l z e l′ y → Ready xs p y
+    → Walks xs o l z l′ (Done p y)
 ends {xs} {o} {l} {l′} {z} {y} {p} e i s h =
     subst (λ (x : Out ℕ Entries). Walks xs x l z l′ (Done p y)) (sym i)
     (record { is = ap (Done p) (s .sizes); stored = s .lists; ready = h })
@@ -209,33 +222,44 @@ behind {xs} {l} {l₁} {l₂} {z} {y} {r} {p} f g s k h = go (f .read xs p) h
         record { is = h .is ∙ ap (Done q) (t .sizes); stored = t .lists; ready = h .ready }
 
 -- a walk behind one word that was stored
-pub word-then : {xs : List ℕ} {a : List Float} {b ws ws₁ : List ℕ} {l₂ : Lists} {z : Sizes} {r : Walk} {p : ℕ} (f : Format one Entries) (n : ℕ) → ws₁ ≡ set ws (z .words) n
+pub word-then : {xs : List ℕ} {a : List Float} {b ws ws₁ : List ℕ} {l₂ : Lists} {z : Sizes} {r : Walk} {p : ℕ} (f : Format one Entries) (n : ℕ)
+    → ws₁ ≡ set ws (z .words) n
     → Walks xs (f .read xs p) (lists a b ws₁) (record { numbers = z .numbers; words = z .words + 1; derived = z .derived }) l₂ r
     → Walks xs ((f >>= λ e. pure (plus (word n) e)) .read xs p) (lists a b ws) z l₂ r
 word-then {a = a} {b = b} {z = z} f n e h = behind f (plus (word n)) {w = word n} (record { lists = λ i. lists a b (e i); sizes = one-word z n }) (λ x. refl) h
 
 -- behind a path's flags
-pub flags-then : {xs : List ℕ} {a : List Float} {b ws ws₁ : List ℕ} {l₂ : Lists} {z : Sizes} {r : Walk} {p : ℕ} (f : Format one Entries) (n : ℕ) → ws₁ ≡ set ws (z .words) n
+pub flags-then : {xs : List ℕ} {a : List Float} {b ws ws₁ : List ℕ} {l₂ : Lists} {z : Sizes} {r : Walk} {p : ℕ} (f : Format one Entries) (n : ℕ)
+    → ws₁ ≡ set ws (z .words) n
     → Walks xs (f .read xs p) (lists a b ws₁) (record { numbers = z .numbers; words = z .words + 1; derived = z .derived || odd (n / 4) }) l₂ r
     → Walks xs ((f >>= λ e. pure (plus (flagEntries n) e)) .read xs p) (lists a b ws) z l₂ r
 flags-then {a = a} {b = b} {z = z} f n e h =
     behind f (plus (flagEntries n)) {w = flagEntries n}
-    (record { lists = λ i. lists a b (e i); sizes = λ i. record { numbers = sym (add-zero (z .numbers)) i; words = z .words + 1; derived = z .derived || odd (n / 4) } }) (λ x. refl) h
+    (record {
+      lists = λ i. lists a b
+          (e i);
+      sizes = λ i. record { numbers = sym (add-zero (z .numbers)) i; words = z .words + 1; derived = z .derived || odd (n / 4) };
+    }) (λ x. refl) h
 
 -- a walk by a test that is known as another
 pub walks-by : {xs : List ℕ} {l l₂ : Lists} {n w : ℕ} {r : Walk} {p : ℕ} (f : Bool → Format one Entries) (e : Bool) {b b′ d d′ : Bool} → b ≡ b′ → d ≡ d′
-    → Walks xs ((f b) .read xs p) l (record { numbers = n; words = w; derived = e || d }) l₂ r → Walks xs ((f b′) .read xs p) l (record { numbers = n; words = w; derived = e || d′ }) l₂ r
+    → Walks xs ((f b) .read xs p) l (record { numbers = n; words = w; derived = e || d }) l₂ r
+    → Walks xs ((f b′) .read xs p) l (record { numbers = n; words = w; derived = e || d′ }) l₂ r
 walks-by {xs} {l} {l₂} {n} {w} {r} {p} f e i j h =
     subst₂ (λ (b d : Bool). Walks xs ((f b) .read xs p) l (record { numbers = n; words = w; derived = e || d }) l₂ r) i j h
 
 -- or behind several
-pub words-then : {xs : List ℕ} {a : List Float} {b ws ws₁ : List ℕ} {l₂ : Lists} {z : Sizes} {r : Walk} {p : ℕ} (f : Format one Entries) (many : List ℕ) (k : ℕ) → length many ≡ k
+pub words-then : {xs : List ℕ} {a : List Float} {b ws ws₁ : List ℕ} {l₂ : Lists} {z : Sizes} {r : Walk} {p : ℕ} (f : Format one Entries) (many : List ℕ) (k : ℕ)
+    → length many ≡ k
     → ws₁ ≡ sets ws (z .words) many
     → Walks xs (f .read xs p) (lists a b ws₁) (record { numbers = z .numbers; words = z .words + k; derived = z .derived }) l₂ r
     → Walks xs ((f >>= λ e. pure (plus (words many) e)) .read xs p) (lists a b ws) z l₂ r
 words-then {a = a} {b = b} {z = z} f many k i e h =
     behind f (plus (words many)) {w = words many}
-    (record { lists = λ j. lists a b (e j); sizes = λ j. record { numbers = sym (add-zero (z .numbers)) j; words = z .words + sym i j; derived = sym (or-false (z .derived)) j } })
+    (record {
+      lists = λ j. lists a b (e j);
+      sizes = λ j. record { numbers = sym (add-zero (z .numbers)) j; words = z .words + sym i j; derived = sym (or-false (z .derived)) j };
+    })
     (λ x. refl) h
 
 -- the words of a walk that lays none
@@ -265,7 +289,11 @@ pub numbers-kept : {xs : List ℕ} (o : Out ℕ Entries) (a : List Float) (b : L
 numbers-kept (refused k p) a b w h =
     record { is = h .is; stored = kept-words a b (h .stored); ready = h .ready }
 numbers-kept (got e p) a b {z = z} w h =
-    record { is = h .is; stored = λ i. lists (sets a (z .numbers) (doublesOf (sym (w e p refl) i))) (sets b (z .numbers) (sym (w e p refl) i)) ((h .stored i) .words); ready = h .ready }
+    record {
+      is = h .is;
+      stored = λ i. lists (sets a (z .numbers) (doublesOf (sym (w e p refl) i))) (sets b (z .numbers) (sym (w e p refl) i)) ((h .stored i) .words);
+      ready = h .ready;
+    }
 
 pub words-still : {o : Out ℕ Entries} {l l′ : Lists} {z y : Sizes} {p : ℕ} (t : Finished o l z l′ p y) → Wordless o → y .words ≡ z .words
 words-still {z = z} t w =

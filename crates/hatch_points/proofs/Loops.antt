@@ -21,7 +21,8 @@ use Rattle.hatch_points.specs.declared.lists.Walk.{Walk}
 use Rattle.hatch_points.specs.declared.lists.Walk.the-variants.{Done, Refused}
 use Rattle.hatch_points.specs.Stores.{passedBy}
 use Rattle.hatch_points.specs.Lists.{Lists, lists, doublesOf, store, Kept, Ready, Walks}
-use Rattle.hatch_points.proofs.Laws.{Step, no-step, _⊕_, plus-none, plus-again, kept-then, walk-finished, walk-ready, walk-refused, walk-kept, walks-as, walks-unstored, refuses, ends, behind, sets-out}
+use Rattle.hatch_points.proofs.Laws.{Step, no-step, _⊕_, plus-none, plus-again, kept-then, walk-finished, walk-ready, walk-refused, walk-kept}
+use Rattle.hatch_points.proofs.Laws.{walks-as, walks-unstored, refuses, ends, behind, sets-out}
 
 -- the entries a, and then what the rest has
 abbrev pub onto : Entries → Out ℕ Entries → Out ℕ Entries
@@ -88,7 +89,8 @@ module _ (d : Format one Entries) (xs : List ℕ) where
         sym (ap (λ (x : Entries). length (x .numbers)) g)
     numbers-long (suc n) p e q i = go (λ r e₂ t j. numbers-long n r e₂ t j) (d .read xs p) refl (sym (left-more n p) ∙ i)
       where
-        last : ((r : ℕ) (e₂ : Entries) (t : ℕ) → left n r ≡ got e₂ t → length (e₂ .numbers) ≡ many n k) → (e₁ : Entries) → length (e₁ .numbers) ≡ k → (r : ℕ) (o : Out ℕ Entries) → left n r ≡ o → onto e₁ o ≡ got e q → length (e .numbers) ≡ many (suc n) k
+        last : ((r : ℕ) (e₂ : Entries) (t : ℕ) → left n r ≡ got e₂ t → length (e₂ .numbers) ≡ many n k) → (e₁ : Entries) → length (e₁ .numbers) ≡ k
+            → (r : ℕ) (o : Out ℕ Entries) → left n r ≡ o → onto e₁ o ≡ got e q → length (e .numbers) ≡ many (suc n) k
         last ih e₁ h r (got e₂ t) j f =
             let g : plus e₁ e₂ ≡ e = cc in
             sym (ap (λ (x : Entries). length (x .numbers)) g) ∙ length-append (e₁ .numbers) (e₂ .numbers)
@@ -154,7 +156,8 @@ module _ (d : Format one Entries) (xs : List ℕ) where
     next {q} e lt r s y =
         record {
           gathered = plus (h .gathered) e;
-          whole = turn lt ∙ ap (λ (o : Out ℕ Entries). onto (h .gathered) (andThen o (λ e q. onto e (left (n - (i + 1)) q)))) r ∙ onto-onto (h .gathered) e (left (n - (i + 1)) q);
+          whole = turn lt ∙ ap (λ (o : Out ℕ Entries). onto (h .gathered) (andThen o (λ e q. onto e (left (n - (i + 1)) q)))) r
+              ∙ onto-onto (h .gathered) e (left (n - (i + 1)) q);
           step = h .step ⊕ s;
           ready = y;
         }
@@ -167,7 +170,8 @@ module _ (d : Format one Entries) (xs : List ℕ) where
     finish : n ≤ i → left n p₀ ≡ got (h .gathered) p
     finish le =
         let e : n - i ≡ 0 = omega arith in
-        h .whole ∙ ap (λ (k : ℕ). onto (h .gathered) (left k p)) e ∙ ap (onto (h .gathered)) (left-none p) ∙ ap (λ (x : Entries). got x p) (plus-none (h .gathered))
+        h .whole ∙ ap (λ (k : ℕ). onto (h .gathered) (left k p)) e ∙ ap (onto (h .gathered)) (left-none p)
+        ∙ ap (λ (x : Entries). got x p) (plus-none (h .gathered))
 
     -- what the loop answers: a turn's refusal, or its end
     pub loop-refuses : {k : Refusal} {q : ℕ} {l′ : Lists} → i < n → d .read xs p ≡ refused k q → Kept l z l′

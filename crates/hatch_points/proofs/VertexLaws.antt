@@ -88,13 +88,16 @@ vertex-long xs p e q i = first ((times 2 (coded RD)) .read xs p) refl i
     second ns h r (refused x t) j f = never f
 
     first : (o : Out ℕ (List ℕ)) → (times 2 (coded RD)) .read xs p ≡ o
-        → andThen (andThen o (λ ns r. got (numbers ns) r)) (λ a r. andThen (andThen ((times 1 (coded BD)) .read xs r) (λ ms t. got (numbers ms) t)) (λ b t. got (plus a b) t)) ≡ got e q
+        → andThen (andThen o (λ ns r. got (numbers ns) r))
+        (λ a r. andThen (andThen ((times 1 (coded BD)) .read xs r) (λ ms t. got (numbers ms) t)) (λ b t. got (plus a b) t))
+        ≡ got e q
         → length (e .numbers) ≡ 3
     first (got ns r) j f = second ns (times-length (coded RD) xs 2 p j) r ((times 1 (coded BD)) .read xs r) refl f
     first (refused x r) j f = never f
 
 -- three stores
-pub three : {A : Type 0} (f : ℕ → A) (l : List A) (i : ℕ) {a b : ℕ} (c : ℕ) {l₁ l₂ l₃ : List A} {a′ b′ : ℕ} → l₁ ≡ set l i (f a′) → a′ ≡ a → l₂ ≡ set l₁ (i + 1) (f b′) → b′ ≡ b → l₃ ≡ set l₂ (i + 2) (f c)
+pub three : {A : Type 0} (f : ℕ → A) (l : List A) (i : ℕ) {a b : ℕ} (c : ℕ) {l₁ l₂ l₃ : List A} {a′ b′ : ℕ} → l₁ ≡ set l i (f a′) → a′ ≡ a
+    → l₂ ≡ set l₁ (i + 1) (f b′) → b′ ≡ b → l₃ ≡ set l₂ (i + 2) (f c)
     → l₃ ≡ sets l i (f a ∷ (f b ∷ (f c ∷ [])))
 three {A} f l i {a} {b} c h₁ ha h₂ hb h₃ =
     let e : i + 1 ≡ suc i = omega arith in
