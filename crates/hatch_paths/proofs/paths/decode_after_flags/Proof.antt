@@ -23,8 +23,26 @@ decode-segments-requires c κs = search needs
 enum-known-p : tie.Need-enum-known-p
 enum-known-p c = search needs
 
+-- ---- the stages of the function, each from a later one
+abbrev after-decode-segments-from-after-slice-known6 : tie.After-slice-known6 → tie.After-decode-segments
+after-decode-segments-from-after-slice-known6 s =
+    let after-bits = s .before .before .before in
+    after-bits .before .before .before
+
+abbrev entry-from-after-decode-segments : tie.After-decode-segments → tie.Start
+entry-from-after-decode-segments s =
+    let after-decode-segments-arg = s .before .before .before in
+    let after-slice-known = after-decode-segments-arg .before .before .before in
+    after-slice-known .before .before
+
 put-handle-count-requires : tie.Need-put-handle-count-requires
-put-handle-count-requires c κs = let m = (c .before .before .before .before .before .before .before .before .before .before .before .before .before .before .before .before .before .before .pre) .1 in (walk-ready ((c .before .before .before .before .before .before .before .before .before .before .decode-segments) .ensures) ((c .before .before .p) .given .1), omega (arith, m .«boundary_handles»))
+put-handle-count-requires c κs =
+    let after-p = c .before .before in
+    let after-slice-known6 = after-p .before .before in
+    let after-decode-segments = after-decode-segments-from-after-slice-known6 after-slice-known6 in
+    let entry = entry-from-after-decode-segments after-decode-segments in
+    let m = entry .pre .1 in (walk-ready (after-decode-segments .decode-segments .ensures) (after-p .p .given .1), omega
+    (arith, m .«boundary_handles»))
 
 enum-known-k : tie.Need-enum-known-k
 enum-known-k c = search needs
@@ -41,10 +59,16 @@ same-length-3 c = search needs
 returns : tie.Need-returns
 unfolding after-flags-walk
 returns c =
-    let a = (c .before .before .before .before .before .before .before .before .before .before .before .before .before .before .before .before .before .before .before .before .before .args) in
+    let after-put-handle-count = c .before .before in
+    let after-p = after-put-handle-count .before .before .before in
+    let after-slice-known6 = after-p .before .before in
+    let after-decode-segments = after-decode-segments-from-after-slice-known6 after-slice-known6 in
+    let entry = entry-from-after-decode-segments after-decode-segments in
+    let a = entry .args in
     let s = now (a .s) in
-    let t = walk-finished ((c .before .before .before .before .before .before .before .before .before .before .before .before .before .decode-segments) .ensures) ((c .before .before .before .before .before .p) .given .1) in
-    walks-as (behind (handles-walk (a .caps .«boundary_handles»)) (plus (t .entries)) (t .step) (λ e. refl) (numbers-kept _ _ _ (handles-numberless (a .caps .«boundary_handles») s _) ((c .before .before .put-handle-count) .ensures)))
+    let t = walk-finished (after-decode-segments .decode-segments .ensures) (after-p .p .given .1) in
+    walks-as (behind (handles-walk (a .caps .«boundary_handles»)) (plus (t .entries)) (t .step) (λ e. refl)
+    (numbers-kept _ _ _ (handles-numberless (a .caps .«boundary_handles») s _) (after-put-handle-count .put-handle-count .ensures)))
     (sym (then-got (segments-walk (a .caps) (a .fits) (a .polyline)) _ s (t .read)))
 
 same-length-4 : tie.Need-same-length-4
@@ -59,9 +83,13 @@ same-length-6 c = search needs
 returns-2 : tie.Need-returns-2
 unfolding after-flags-walk
 returns-2 c =
-    let a = (c .before .before .before .before .before .before .before .before .before .before .before .before .before .before .before .before .before .args) in
-    let walk = (c .before .before .before .before .before .before .before .before .before .decode-segments) .ensures in
-    let stop = (c .before .k) .given .1 in
+    let after-k = c .before in
+    let after-slice-known6 = after-k .before .before in
+    let after-decode-segments = after-decode-segments-from-after-slice-known6 after-slice-known6 in
+    let entry = entry-from-after-decode-segments after-decode-segments in
+    let a = entry .args in
+    let walk = after-decode-segments .decode-segments .ensures in
+    let stop = after-k .k .given .1 in
     refuses (then-refused (segments-walk (a .caps) (a .fits) (a .polyline)) _ (now (a .s)) (walk-refused walk stop)) (walk-kept walk stop)
 
 pub decode-after-flags-spec : {M : Type 1} → statement M
