@@ -1,21 +1,6 @@
 //! Times the Rust, unchanged, and the port on the same bytes; bench/run and bench/instructions build and run it.
 
-#[allow(dead_code)]
-mod bitcursor;
-#[allow(dead_code)]
-mod code_page;
-#[allow(dead_code)]
-mod common_entity;
-#[allow(dead_code, unused_imports)]
-mod entities;
-#[allow(dead_code)]
-mod error;
-#[allow(dead_code)]
-mod string_stream;
-#[allow(dead_code)]
-mod tables;
-#[allow(dead_code)]
-mod version;
+include!("rust_modules.rs");
 
 mod bodies;
 #[allow(dead_code)]

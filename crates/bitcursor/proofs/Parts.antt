@@ -1,6 +1,6 @@
 -- The number of some bits, from the bytes that they lie in. Assumes nothing.
 use mathlib.Core.Path.{_≡_, refl, sym, ap, subst, _∙_}
-use mathlib.Core.List.{List, [], _∷_, _++_, append-assoc}
+use mathlib.Core.List.{List, [], _∷_, _++_}
 use mathlib.Core.Bool.{Bool}
 use Prim.Native.Nat.{ℕ, zero, suc, _+_, _-_, _*_, _/_, _%_, _^_, _≤_, _<_}
 use native.Mathlib.Nat.{add-mul, mul-assoc, add-assoc, zero-add, div-add-mod, mod-eq-of-lt, le-of-suc-le-suc, not-suc-le-zero}
@@ -11,7 +11,7 @@ use lib.Seq.{drop-append-add, drop-append-le, take-append-le, drop-cons, length-
 use lib.Pow.{pow-add, high, low, shl-exact}
 use lib.Dec.{lit<}
 use Rattle.bitcursor.specs.Bits.{bitsOf, window, number, digits}
-use Rattle.bitcursor.specs.BitLaws.{length-bits, length-digits, number-append, number-lt, number-digits}
+use Rattle.bitcursor.specs.BitLaws.{length-bits, length-digits, number-append, number-lt, number-digits, bits-append}
 
 pub number-byte : (b : ℕ) → b < 256 → number (digits 8 b) ≡ b
 number-byte b h = number-digits 8 b ∙ mod-eq-of-lt h
@@ -47,11 +47,6 @@ front a b r n h =
     let l₂ : length (take n (drop r a)) ≡ n = length-take-le n (drop r a) h₂ in
     rw (drop-append-le r a b h₁, take-append-le n (drop r a) b h₂)
     (sym (middle (take r a) (take n (drop r a)) (drop n (drop r a))) ∙ cc)
-
-bits-append : (s t : List ℕ) → bitsOf (s ++ t) ≡ bitsOf s ++ bitsOf t
-unfolding bitsOf
-bits-append [] t = refl
-bits-append (b ∷ s) t = rw (bits-append s t) (sym (append-assoc (digits 8 b) (bitsOf s) (bitsOf t)))
 
 -- the number of the k bytes at q, the first on top
 abbrev pub bigAt : List ℕ → ℕ → ℕ → ℕ

@@ -1,16 +1,16 @@
 -- Laws of bits, windows and the numbers they spell: what the codes' proofs rest on. Assumes nothing.
 use mathlib.Core.Path.{_≡_, refl, sym, ap, ap₂, subst, _∙_}
 use mathlib.Core.Bool.{Bool, true, false}
-use mathlib.Core.List.{List, [], _∷_, _++_}
+use mathlib.Core.List.{List, [], _∷_, _++_, append-assoc}
 use Prim.Native.Nat.{ℕ, zero, suc, _+_, _-_, _*_, _/_, _%_, _^_, _≤_, _<_, min}
 use native.Mathlib.Nat.{add-mul, mul-assoc, add-assoc, mod-lt, pow-succ', mul-add-div-right, mul-add-mod-self-right}
 use native.Mathlib.Omega.{arith}
-use lib.ListN.{length, take, drop, getD, length-append, length-take, length-drop}
+use lib.ListN.{length, take, drop, getD, length-append, length-take, length-drop, List·getD-append}
 use lib.Seq.{take-add, drop-drop, length-take-le, take-append-seam, drop-append-seam, take-at, drop-at, getD-take, getD-drop, ext-getD}
 use lib.Arith.{digits-lt}
 use lib.Pow.{pow-add, pow-pos, high, mod-pow-add}
 use lib.Dec.{eqb, lit<}
-use Rattle.bitcursor.specs.Bits.{odd, bit, bitsOf, size, bitAt, window, number, digits, Stands, Alike}
+use Rattle.bitcursor.specs.Bits.{odd, bit, bitsOf, size, bitAt, window, number, digits, Stands, Alike, Begins}
 
 bit-of : (y : ℕ) → y < 2 → bit (eqb y 1) ≡ y
 bit-of zero h = refl
@@ -125,12 +125,37 @@ module _ (xs : List ℕ) (p : ℕ) (cs ds : List Bool) (h : Stands xs p (cs ++ d
 pub alike-down : {xs ys : List ℕ} {p q : ℕ} → p ≤ q → Alike xs ys q → Alike xs ys p
 alike-down h a = record { lengths = a .lengths; bits = λ i k. a .bits i (omega arith) }
 
-pub alike-window : (xs ys : List ℕ) (p n : ℕ) → n ≤ size xs - p → Alike xs ys (p + n) → window ys p n ≡ window xs p n
+-- n bits that are there in both, and are the same
+same-window : (xs ys : List ℕ) (p n : ℕ) → n ≤ size xs - p → n ≤ size ys - p → ((i : ℕ) → i < n → bitAt ys (p + i) ≡ bitAt xs (p + i))
+    → window ys p n ≡ window xs p n
 unfolding window bitAt
-alike-window xs ys p n h a =
-    let ly : n ≤ size ys - p = rw (a .lengths) h in
+same-window xs ys p n h ly same =
     ext-getD false (window ys p n) (window xs p n) (window-whole ys p n ly ∙ sym (window-whole xs p n h))
     (λ i k.
     let k′ : i < n = subst (λ (m : ℕ). i < m) (window-whole ys p n ly) k in
-    getD-take n (drop p (bitsOf ys)) i false k′ ∙ getD-drop p (bitsOf ys) i false ∙ a .bits (p + i) (omega arith)
+    getD-take n (drop p (bitsOf ys)) i false k′ ∙ getD-drop p (bitsOf ys) i false ∙ same i k′
     ∙ sym (getD-take n (drop p (bitsOf xs)) i false k′ ∙ getD-drop p (bitsOf xs) i false))
+
+pub alike-window : (xs ys : List ℕ) (p n : ℕ) → n ≤ size xs - p → Alike xs ys (p + n) → window ys p n ≡ window xs p n
+alike-window xs ys p n h a = same-window xs ys p n h (rw (a .lengths) h) (λ i k. a .bits (p + i) (omega arith))
+
+-- ---- a payload that begins with another
+pub bits-append : (xs ys : List ℕ) → bitsOf (xs ++ ys) ≡ bitsOf xs ++ bitsOf ys
+unfolding bitsOf
+bits-append [] ys = refl
+bits-append (b ∷ xs) ys = rw (bits-append xs ys) (sym (append-assoc (digits 8 b) (bitsOf xs) (bitsOf ys)))
+
+pub begins-size : {xs ys : List ℕ} → Begins xs ys → size xs ≤ size ys
+begins-size {xs} b = omega (arith, ap length (b .whole), length-append xs (b .rest))
+
+begins-bit : {xs ys : List ℕ} → Begins xs ys → (i : ℕ) → i < size xs → bitAt ys i ≡ bitAt xs i
+unfolding bitAt
+begins-bit {xs} {ys} b i h =
+    let inside : i < length (bitsOf xs) = rw (length-bits xs) h in
+    ap (λ (bs : List Bool). getD bs i false) (ap bitsOf (b .whole) ∙ bits-append xs (b .rest))
+    ∙ List·getD-append (bitsOf xs) (bitsOf (b .rest)) false i inside
+
+pub begins-window : {xs ys : List ℕ} (p n : ℕ) → Begins xs ys → n ≤ size xs - p → window ys p n ≡ window xs p n
+begins-window {xs} {ys} p n b h =
+    let more = begins-size b in
+    same-window xs ys p n h (omega arith) (λ i k. begins-bit b (p + i) (omega arith))

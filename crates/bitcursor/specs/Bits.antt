@@ -51,3 +51,8 @@ Stands xs p cs = window xs p (length cs) ≡ cs
 pub record Alike (xs ys : List ℕ) (q : ℕ) : Type 0 where
   pub lengths : length ys ≡ length xs
   pub bits : (i : ℕ) → i < q → bitAt ys i ≡ bitAt xs i
+
+-- the payload ys begins with the payload xs
+pub record Begins (xs ys : List ℕ) : Type 0 where
+  pub rest : List ℕ
+  pub whole : ys ≡ xs ++ rest

@@ -1,19 +1,20 @@
 -- Certified codes of one payload: how a value is read at a place, which bits are its codes, and the proofs that the two say the
--- same, that reading only goes on, and that no bit past the final place matters. Assumes nothing.
+-- same, that reading only goes on, that no bit past the final place matters, and that a longer payload reads the same unless bits were
+-- lacking. Assumes nothing.
 use mathlib.Core.Path.{_≡_, refl, sym, ap, ap₂, subst, subst⁻¹, _∙_}
-use mathlib.Core.Bool.{Bool, true, false}
+use mathlib.Core.Bool.{Bool, true, false, not}
 use mathlib.Core.List.{List, [], _∷_, _++_, append-nil}
 use Prim.Native.Nat.{ℕ, _+_, _-_, _*_, _/_, _^_, _≤_, _<_, max}
 use native.Mathlib.Nat.{add-zero, add-assoc, mod-eq-of-lt}
 use native.Mathlib.Omega.{arith}
 use lib.ListN.{length, length-append}
 use lib.Dec.{leb, leb→le}
-use borrow.Author.Tests.{le-leb}
+use borrow.Author.Tests.{le-leb, leb-true, not-false}
 use Rattle.bitcursor.specs.declared.Refusal.{Refusal}
 use Rattle.bitcursor.specs.declared.Refusal.the-variants.{TooFewBits}
-use Rattle.bitcursor.specs.Bits.{size, window, number, digits, Stands, Alike}
-use Rattle.bitcursor.specs.BitLaws.{length-digits, number-digits, digits-number, number-lt, window-whole, stands-fits, stands-window, stands-none, stands-join, stands-left, stands-right, alike-down, alike-window}
-use Rattle.bitcursor.specs.Reading.{Out, got, refused, place, andThen, never}
+use Rattle.bitcursor.specs.Bits.{size, window, number, digits, Stands, Alike, Begins}
+use Rattle.bitcursor.specs.BitLaws.{length-digits, number-digits, digits-number, number-lt, window-whole, stands-fits, stands-window, stands-none, stands-join, stands-left, stands-right, alike-down, alike-window, begins-size, begins-window}
+use Rattle.bitcursor.specs.Reading.{Out, got, refused, place, andThen, never, missing, Lacking, shortThen, then-why, then-longer, lacking-on}
 
 -- from p to q the payload is not gone back in, and is not left by a place that is in it
 pub record Moves (xs : List ℕ) (p q : ℕ) : Type 0 where
@@ -40,6 +41,14 @@ pub record Code (A : Type 0) : Type 1 where
   pub complete : (xs : List ℕ) (a : A) (p q : ℕ) → Laid codes xs a p q → read xs p ≡ got a q
   pub grows : (xs : List ℕ) (p : ℕ) → Moves xs p (place (read xs p))
   pub frame : (xs ys : List ℕ) (p : ℕ) → Alike xs ys (place (read xs p)) → read ys p ≡ read xs p
+  -- whether it was refused because the payload has too few bits; where it was not, every payload that begins with this one reads the same
+  pub short : List ℕ → ℕ → Bool
+  pub why : (xs : List ℕ) (p : ℕ) → short xs p ≡ true → Lacking (read xs p)
+  pub longer : (xs ys : List ℕ) (p : ℕ) → Begins xs ys → short xs p ≡ false → read ys p ≡ read xs p
+
+-- false is not true
+pub never-true : {X : Type 0} → false ≡ true → X
+never-true e = let z : _≡_ {A = ℕ} 0 1 = cc in absurd (omega arith)
 
 module _ {A : Type 0} where
   pub laid-none : {L : A → List Bool → Type 0} (xs : List ℕ) (a : A) (p : ℕ) → L a [] → Laid L xs a p p
@@ -59,6 +68,9 @@ module _ {A : Type 0} where
             ap₂ got (sym (l .listed .0)) (sym (l .ends ∙ ap (λ (cs : List Bool). p + length cs) (l .listed .1) ∙ add-zero p));
         grows = λ xs p. stay xs p;
         frame = λ xs ys p h. refl;
+        short = λ xs p. false;
+        why = λ xs p e. never-true e;
+        longer = λ xs ys p h e. refl;
       }
 
   -- no value: a refusal at the place
@@ -71,6 +83,9 @@ module _ {A : Type 0} where
         complete = λ xs b p q l. absurd (l .listed);
         grows = λ xs p. stay xs p;
         frame = λ xs ys p h. refl;
+        short = λ xs p. false;
+        why = λ xs p e. never-true e;
+        longer = λ xs ys p h e. refl;
       }
 
 -- a code, and then the code that its value picks
@@ -123,6 +138,12 @@ module _ {A B : Type 0} where
         complete = λ xs b p q l. join-complete f g xs b p q l;
         grows = λ xs p. join-grows f g xs p (f .read xs p) (f .grows xs p);
         frame = λ xs ys p h. join-frame f g xs ys (f .read xs p) (f .read ys p) (f .frame xs ys p) h;
+        short = λ xs p. shortThen (f .read xs p) (f .short xs p) (λ a r. (g a) .short xs r);
+        why = λ xs p e.
+            then-why (f .short xs p) (λ a r. (g a) .short xs r) (λ a r. (g a) .read xs r) (f .read xs p) (f .why xs p) (λ a r. (g a) .why xs r) e;
+        longer = λ xs ys p h e.
+            then-longer (f .short xs p) (λ a r. (g a) .short xs r) (λ a r. (g a) .read xs r) (f .read xs p) (f .read ys p)
+            (λ a r. (g a) .read ys r) (f .why xs p) (f .longer xs ys p h) (λ a r. (g a) .longer xs ys r h) e;
       }
 
 module _ {A : Type 0} where
@@ -141,6 +162,9 @@ module _ {A : Type 0} where
             f .complete xs a p q (record { code = l .code; listed = from a (l .code) (l .listed); stands = l .stands; ends = l .ends });
         grows = λ xs p. f .grows xs p;
         frame = λ xs ys p h. f .frame xs ys p h;
+        short = λ xs p. f .short xs p;
+        why = λ xs p e. f .why xs p e;
+        longer = λ xs ys p h e. f .longer xs ys p h e;
       }
 
 -- the same bits, their value said in another way
@@ -200,6 +224,9 @@ module _ {A : Type 0} (c : Code A) where
         complete = λ xs m p q l. measured-complete xs m p q l;
         grows = λ xs p. measured-grows xs p (c .read xs p) (c .grows xs p);
         frame = λ xs ys p h. measured-frame xs ys p (c .read xs p) (c .read ys p) (c .frame xs ys p) h;
+        short = λ xs p. c .short xs p;
+        why = λ xs p e. lacking-on (λ a q. got (q - p, a) q) (c .read xs p) (c .why xs p e);
+        longer = λ xs ys p h e. ap (measured-out p) (c .longer xs ys p h e);
       }
 
 -- ---- n raw bits, the number that they spell
@@ -240,6 +267,16 @@ module _ (n : ℕ) where
   raw-frame xs ys p true e h = rw (alike-window xs ys p n (leb→le _ _ (rw e tt)) h)
   raw-frame xs ys p false e h = refl
 
+  pub raw-why : (xs : List ℕ) (p : ℕ) (b : Bool) → not b ≡ true → Lacking (raw-out b xs p)
+  raw-why xs p true e = never-true e
+  raw-why xs p false e = missing
+
+  pub raw-longer : (xs ys : List ℕ) (p : ℕ) → Begins xs ys → leb n (size xs - p) ≡ true → raw-out (leb n (size ys - p)) ys p ≡ raw-out (leb n (size xs - p)) xs p
+  raw-longer xs ys p h e =
+      let fits : n ≤ size xs - p = leb-true _ _ e in
+      let more = begins-size h in
+      rw (e, le-leb n (size ys - p) (omega arith), begins-window p n h fits)
+
   unfoldable pub raw : Code ℕ
   raw =
       record {
@@ -250,4 +287,7 @@ module _ (n : ℕ) where
         grows = λ xs p. raw-grows xs p (leb n (size xs - p)) refl;
         frame = λ xs ys p h.
             ap (λ (s : ℕ). raw-out (leb n (8 * s - p)) ys p) (h .lengths) ∙ raw-frame xs ys p (leb n (size xs - p)) refl h;
+        short = λ xs p. not (leb n (size xs - p));
+        why = λ xs p e. raw-why xs p (leb n (size xs - p)) e;
+        longer = λ xs ys p h e. raw-longer xs ys p h (not-false _ e);
       }

@@ -1,13 +1,19 @@
 -- A code as a format of one payload, and a format of one payload as a part of one of both: one lift for the main and the string
 -- payload. The layouts are the code's table, or the part's layouts, at the place in that payload; the other's place stays. Assumes nothing.
 use mathlib.Core.Path.{_≡_, refl, sym, ap, ap₂, subst, _∙_}
+use mathlib.Core.Bool.{Bool, true, false, not}
 use mathlib.Core.List.{List}
-use Prim.Native.Nat.{ℕ}
-use Rattle.bitcursor.specs.Bits.{Alike}
-use Rattle.bitcursor.specs.Reading.{Out, got, refused, place, never}
-use Rattle.bitcursor.specs.Code.{Code, Laid, Moves, stay}
+use Prim.Native.Nat.{ℕ, _-_, _*_, _≤_, _<_}
+use native.Mathlib.Omega.{arith}
+use lib.Dec.{leb}
+use borrow.Author.Tests.{le-leb, lt-leb, leb-true, not-false}
+use Rattle.bitcursor.specs.declared.Refusal.the-variants.{CountTooLarge}
+use Rattle.bitcursor.specs.Bits.{size, Alike, Begins}
+use Rattle.bitcursor.specs.BitLaws.{begins-size}
+use Rattle.bitcursor.specs.Reading.{Out, got, refused, place, never, count, Lacking}
+use Rattle.bitcursor.specs.Code.{Code, Laid, Moves, stay, never-true}
 use Rattle.bitcursor.specs.Format.{Format}
-use Rattle.bitcursor.specs.Inputs.{one, both, Places, Payloads, Onward, Agree}
+use Rattle.bitcursor.specs.Inputs.{one, both, Places, Payloads, Onward, Agree, Longer}
 
 -- from p to q the payload has a code of the value
 abbrev pub coded : {A : Type 0} → Code A → Format one A
@@ -19,7 +25,56 @@ coded c =
       complete = λ xs a p q l. c .complete xs a p q l;
       grows = λ xs p. c .grows xs p;
       frame = λ xs ys p h. c .frame xs ys p h;
+      short = λ xs p. c .short xs p;
+      why = λ xs p e. c .why xs p e;
+      longer = λ xs ys p h e. c .longer xs ys p h e;
     }
+
+-- n bits at least are left of the payload, with no move; else the refusal of a count that is above them
+abbrev pub asked : Bool → ℕ → Out ℕ (Unit {0})
+asked true p = got tt p
+asked false p = refused CountTooLarge p
+
+module _ (n : ℕ) where
+  pub asked-sound : (xs : List ℕ) (u : Unit {0}) (p q : ℕ) (b : Bool) → leb n (size xs - p) ≡ b → asked b p ≡ got u q → (n ≤ size xs - p) × (q ≡ p)
+  asked-sound xs u p q true e h = (leb-true _ _ e, cc)
+  asked-sound xs u p q false e h = never h
+
+  pub asked-grows : (xs : List ℕ) (p : ℕ) (b : Bool) → Moves xs p (place (asked b p))
+  asked-grows xs p true = stay xs p
+  asked-grows xs p false = stay xs p
+
+  pub asked-why : (p : ℕ) (b : Bool) → not b ≡ true → Lacking (asked b p)
+  asked-why p true e = never-true e
+  asked-why p false e = count
+
+  pub asked-longer : (xs ys : List ℕ) (p : ℕ) → Begins xs ys → leb n (size xs - p) ≡ true → asked (leb n (size ys - p)) p ≡ asked (leb n (size xs - p)) p
+  asked-longer xs ys p h e =
+      let fits : n ≤ size xs - p = leb-true _ _ e in
+      let more = begins-size h in
+      rw (e, le-leb n (size ys - p) (omega arith))
+
+  unfoldable pub at-least : Format one (Unit {0})
+  at-least =
+      record {
+        read = λ xs p. asked (leb n (size xs - p)) p;
+        lays = λ xs u p q. (n ≤ size xs - p) × (q ≡ p);
+        sound = λ xs u p q e. asked-sound xs u p q (leb n (size xs - p)) refl e;
+        complete = λ xs u p q l. rw (le-leb n (size xs - p) (l .0)) (ap (got tt) (sym (l .1)));
+        grows = λ xs p. asked-grows xs p (leb n (size xs - p));
+        frame = λ xs ys p h. ap (λ (s : ℕ). asked (leb n (8 * s - p)) p) (h .lengths);
+        short = λ xs p. not (leb n (size xs - p));
+        why = λ xs p e. asked-why p (leb n (size xs - p)) e;
+        longer = λ xs ys p h e. asked-longer xs ys p h (not-false _ e);
+      }
+
+  pub at-least-there : (xs : List ℕ) (p : ℕ) → n ≤ size xs - p → at-least .read xs p ≡ got tt p
+  unfolding at-least
+  at-least-there xs p h = rw (le-leb n (size xs - p) h)
+
+  pub at-least-short : (xs : List ℕ) (p : ℕ) → size xs - p < n → at-least .read xs p ≡ refused CountTooLarge p
+  unfolding at-least
+  at-least-short xs p h = rw (lt-leb n (size xs - p) h)
 
 -- which payload a part lies in
 pub data Payload : Type 0 where
@@ -50,6 +105,14 @@ onward-in string γ p n h = record { main = stay (γ .main) (p .main); string = 
 pub agree-in : (w : Payload) {γ δ : Payloads} (p : Places) (n : ℕ) → Agree γ δ (movedIn w p n) → Alike (bytesIn w γ) (bytesIn w δ) n
 agree-in main p n h = h .main
 agree-in string p n h = h .string
+
+pub longer-in : (w : Payload) {γ δ : Payloads} → Longer γ δ → Begins (bytesIn w γ) (bytesIn w δ)
+longer-in main h = h .main
+longer-in string h = h .string
+
+pub lacking-in : {A : Type 0} (w : Payload) (p : Places) (o : Out ℕ A) → Lacking o → Lacking (lifted w p o)
+lacking-in w p (got a n) h = h
+lacking-in w p (refused r n) h = h
 
 -- from p to q one payload has a layout L; the other payload's place is the same
 pub record Within {A : Type 0} (w : Payload) (L : List ℕ → A → ℕ → ℕ → Type 0) (γ : Payloads) (a : A) (p q : Places) : Type 0 where
@@ -87,6 +150,9 @@ module _ {A : Type 0} (w : Payload) (f : Format one A) where
         frame = λ γ δ p h.
             within-frame γ δ p (f .read (bytesIn w γ) (placeIn w p)) (f .read (bytesIn w δ) (placeIn w p))
             (f .frame (bytesIn w γ) (bytesIn w δ) (placeIn w p)) h;
+        short = λ γ p. f .short (bytesIn w γ) (placeIn w p);
+        why = λ γ p e. lacking-in w p (f .read (bytesIn w γ) (placeIn w p)) (f .why (bytesIn w γ) (placeIn w p) e);
+        longer = λ γ δ p h e. ap (lifted w p) (f .longer (bytesIn w γ) (bytesIn w δ) (placeIn w p) (longer-in w h) e);
       }
 
   -- what a function that read the one payload knows

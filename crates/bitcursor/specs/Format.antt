@@ -1,21 +1,30 @@
--- Certified formats: a reading, its layouts, and the proofs that the two say the same, that reading only goes on, and that no bit
--- past the final places matters. What is read from is one payload or both (specs/Inputs). `pure`, `refuse`, `>>=`, `peek`, `relay` and
--- `either` here, and `coded`, `within` and `field` of specs/Fields, build every format. Assumes nothing.
+-- Certified formats: a reading, its layouts, and the proofs that the two say the same, that reading only goes on, that no bit past the
+-- final places matters, and that longer payloads read the same unless bits were lacking. What is read from is one payload or both
+-- (specs/Inputs). `pure`, `refuse`, `>>=`, `peek`, `relay` and `either` here, and `coded`, `at-least`, `within` and `field` of specs/Fields,
+-- build every format. Assumes nothing.
 use mathlib.Core.Path.{_≡_, refl, sym, ap, ap₂, subst, _∙_}
 use mathlib.Core.Bool.{Bool, true, false}
 use Rattle.bitcursor.specs.declared.Refusal.{Refusal}
-use Rattle.bitcursor.specs.Reading.{Out, got, refused, place, andThen, never}
+use Rattle.bitcursor.specs.Reading.{Out, got, refused, place, andThen, never, Lacking, shortThen, then-why, then-longer}
+use Rattle.bitcursor.specs.Code.{never-true}
 
 -- what a format reads from, and the places in it: `Onward γ p q`, no payload is gone back in from p to q, nor left by a place that is in
--- it; `Agree γ δ q`, alike in lengths, reader or none, its end bit, and every bit before q
+-- it; `Agree γ δ q`, alike in lengths, reader or none, its end bit, and every bit before q; `Longer γ δ`, each payload of δ begins with
+-- that of γ, and reader or none and its end bit are the same; `known γ`, what a test may look at that asks for no bits: reader or none, and
+-- its end bit
 pub record Input : Type 1 where
   pub Bytes : Type 0
   pub Place : Type 0
   pub Onward : Bytes → Place → Place → Type 0
   pub Agree : Bytes → Bytes → Place → Type 0
+  pub Longer : Bytes → Bytes → Type 0
+  pub Known : Type 0
+  pub known : Bytes → Known
   pub stay : (γ : Bytes) (p : Place) → Onward γ p p
   pub further : (γ : Bytes) (p q r : Place) → Onward γ p q → Onward γ q r → Onward γ p r
   pub before : (γ δ : Bytes) (p q : Place) → Onward γ p q → Agree γ δ q → Agree γ δ p
+  pub agree-known : (γ δ : Bytes) (p : Place) → Agree γ δ p → known δ ≡ known γ
+  pub longer-known : (γ δ : Bytes) → Longer γ δ → known δ ≡ known γ
 
 pub record Format (M : Input) (A : Type 0) : Type 1 where
   pub read : M .Bytes → M .Place → Out (M .Place) A
@@ -24,6 +33,10 @@ pub record Format (M : Input) (A : Type 0) : Type 1 where
   pub complete : (γ : M .Bytes) (a : A) (p q : M .Place) → lays γ a p q → read γ p ≡ got a q
   pub grows : (γ : M .Bytes) (p : M .Place) → M .Onward γ p (place (read γ p))
   pub frame : (γ δ : M .Bytes) (p : M .Place) → M .Agree γ δ (place (read γ p)) → read δ p ≡ read γ p
+  -- whether it was refused because a payload has too few bits; where it was not, longer payloads read the same
+  pub short : M .Bytes → M .Place → Bool
+  pub why : (γ : M .Bytes) (p : M .Place) → short γ p ≡ true → Lacking (read γ p)
+  pub longer : (γ δ : M .Bytes) (p : M .Place) → M .Longer γ δ → short γ p ≡ false → read δ p ≡ read γ p
 
 module _ {M : Input} {A : Type 0} where
   -- a value with no field
@@ -36,6 +49,9 @@ module _ {M : Input} {A : Type 0} where
         complete = λ γ b p q l. ap₂ got (sym (l .0)) (sym (l .1));
         grows = λ γ p. M .stay γ p;
         frame = λ γ δ p h. refl;
+        short = λ γ p. false;
+        why = λ γ p e. never-true e;
+        longer = λ γ δ p h e. refl;
       }
 
   -- no layout: a refusal at the places
@@ -48,6 +64,9 @@ module _ {M : Input} {A : Type 0} where
         complete = λ γ b p q l. absurd l;
         grows = λ γ p. M .stay γ p;
         frame = λ γ δ p h. refl;
+        short = λ γ p. false;
+        why = λ γ p e. never-true e;
+        longer = λ γ δ p h e. refl;
       }
 
 -- one format and then the one that its value picks: back to back, some place in between
@@ -79,6 +98,12 @@ module _ {M : Input} {A B : Type 0} where
         complete = λ γ b p q l. rw (f .complete γ (l .0) p (l .1) (l .2)) ((g (l .0)) .complete γ b (l .1) q (l .3));
         grows = λ γ p. bind-grows f g γ p (f .read γ p) (f .grows γ p);
         frame = λ γ δ p h. bind-frame f g γ δ (f .read γ p) (f .read δ p) (f .frame γ δ p) h;
+        short = λ γ p. shortThen (f .read γ p) (f .short γ p) (λ a r. (g a) .short γ r);
+        why = λ γ p e.
+            then-why (f .short γ p) (λ a r. (g a) .short γ r) (λ a r. (g a) .read γ r) (f .read γ p) (f .why γ p) (λ a r. (g a) .why γ r) e;
+        longer = λ γ δ p h e.
+            then-longer (f .short γ p) (λ a r. (g a) .short γ r) (λ a r. (g a) .read γ r) (f .read γ p) (f .read δ p)
+            (λ a r. (g a) .read δ r) (f .why γ p) (f .longer γ δ p h) (λ a r. (g a) .longer γ δ r h) e;
       }
 
   -- the step lemmas, by which a function's proof goes through a format
@@ -93,20 +118,19 @@ module _ {M : Input} {A B : Type 0} where
   then-refused f g γ e = rw e
 
 module _ (M : Input) where
-  -- looks at lengths, reader, end bit and places, and at no bit past the places
-  abbrev pub Steady : {X : Type 0} → (M .Bytes → M .Place → X) → Type 0
-  Steady t = (γ δ : M .Bytes) (p : M .Place) → M .Agree γ δ p → t δ p ≡ t γ p
-
-  -- what such a test says, with no move
-  unfoldable pub peek : {A : Type 0} (t : M .Bytes → M .Place → A) → Steady t → Format M A
-  peek {A} t steady =
+  -- what a test of reader, end bit and places says, with no move: it sees neither a bit nor a length
+  unfoldable pub peek : {A : Type 0} → (M .Known → M .Place → A) → Format M A
+  peek {A} t =
       record {
-        read = λ γ p. got (t γ p) p;
-        lays = λ γ a p q. (a ≡ t γ p) × (q ≡ p);
+        read = λ γ p. got (t (M .known γ) p) p;
+        lays = λ γ a p q. (a ≡ t (M .known γ) p) × (q ≡ p);
         sound = λ γ a p q e. (cc, cc);
         complete = λ γ a p q l. ap₂ got (sym (l .0)) (sym (l .1));
         grows = λ γ p. M .stay γ p;
-        frame = λ γ δ p h. ap (λ (a : A). got a p) (steady γ δ p h);
+        frame = λ γ δ p h. ap (λ (k : M .Known). got (t k p) p) (M .agree-known γ δ p h);
+        short = λ γ p. false;
+        why = λ γ p e. never-true e;
+        longer = λ γ δ p h e. ap (λ (k : M .Known). got (t k p) p) (M .longer-known γ δ h);
       }
 
 module _ {M : Input} {A : Type 0} where
@@ -122,6 +146,9 @@ module _ {M : Input} {A : Type 0} where
         complete = λ γ a p q l. f .complete γ a p q (from γ a p q l);
         grows = λ γ p. f .grows γ p;
         frame = λ γ δ p h. f .frame γ δ p h;
+        short = λ γ p. f .short γ p;
+        why = λ γ p e. f .why γ p e;
+        longer = λ γ δ p h e. f .longer γ δ p h e;
       }
 
   -- the first where the test holds, else the second

@@ -1,9 +1,9 @@
 -- What formats read from: one payload, or the main payload and the string payload of a reader where one is lent. Assumes nothing.
-use mathlib.Core.Path.{_≡_}
+use mathlib.Core.Path.{_≡_, refl, ap₂}
 use mathlib.Core.Bool.{Bool}
 use mathlib.Core.List.{List}
 use Prim.Native.Nat.{ℕ}
-use Rattle.bitcursor.specs.Bits.{Alike}
+use Rattle.bitcursor.specs.Bits.{Alike, Begins}
 use Rattle.bitcursor.specs.BitLaws.{alike-down}
 use Rattle.bitcursor.specs.Code.{Moves, stay, moves-then}
 use Rattle.bitcursor.specs.Format.{Input}
@@ -16,9 +16,14 @@ one =
       Place = ℕ;
       Onward = Moves;
       Agree = Alike;
+      Longer = Begins;
+      Known = Unit {0};
+      known = λ xs. tt;
       stay = stay;
       further = λ xs p q r h k. moves-then h k;
       before = λ xs ys p q h a. alike-down (h .onward) a;
+      agree-known = λ xs ys p h. refl;
+      longer-known = λ xs ys h. refl;
     }
 
 -- a place in each payload; without a reader the second is 0
@@ -44,6 +49,21 @@ pub record Agree (γ δ : Payloads) (q : Places) : Type 0 where
   pub reader : δ .reader ≡ γ .reader
   pub end : δ .end ≡ γ .end
 
+-- each payload begins with the other's, with the same reader or none and end bit
+pub record Longer (γ δ : Payloads) : Type 0 where
+  pub main : Begins (γ .main) (δ .main)
+  pub string : Begins (γ .string) (δ .string)
+  pub reader : δ .reader ≡ γ .reader
+  pub end : δ .end ≡ γ .end
+
+-- whether a string reader is lent, and its end bit
+pub record Reader : Type 0 where
+  pub lent : Bool
+  pub end : ℕ
+
+abbrev pub readerOf : Bool → ℕ → Reader
+readerOf lent end = record { lent = lent; end = end }
+
 pub stay-both : (γ : Payloads) (p : Places) → Onward γ p p
 stay-both γ p = record { main = stay (γ .main) (p .main); string = stay (γ .string) (p .string) }
 
@@ -67,7 +87,12 @@ both =
       Place = Places;
       Onward = Onward;
       Agree = Agree;
+      Longer = Longer;
+      Known = Reader;
+      known = λ γ. readerOf (γ .reader) (γ .end);
       stay = stay-both;
       further = λ γ p q r h k. onward-then h k;
       before = λ γ δ p q h a. agree-down h a;
+      agree-known = λ γ δ p h. ap₂ readerOf (h .reader) (h .end);
+      longer-known = λ γ δ h. ap₂ readerOf (h .reader) (h .end);
     }

@@ -1,8 +1,9 @@
 -- What holds of every format, and so of every prefix and hatch: demand 3's sentences, proved once. Assumes nothing.
 use mathlib.Core.Path.{_≡_, refl, sym, ap, subst, _∙_}
+use mathlib.Core.Bool.{Bool, true, false}
 use mathlib.Core.Logic.{_↔_}
 use Rattle.bitcursor.specs.declared.Refusal.{Refusal}
-use Rattle.bitcursor.specs.Reading.{Out, got, refused, place, never}
+use Rattle.bitcursor.specs.Reading.{Out, got, refused, place, never, ForBits, Lacking, got-enough}
 use Rattle.bitcursor.specs.Format.{Input, Format}
 
 module _ {M : Input} {A : Type 0} (f : Format M A) (γ : M .Bytes) where
@@ -48,3 +49,28 @@ module _ {M : Input} {A : Type 0} (f : Format M A) (γ : M .Bytes) where
 
   pub refused-still : (δ : M .Bytes) (p : M .Place) (n : Refusal) (q : M .Place) → M .Agree γ δ q → f .read γ p ≡ refused n q → f .read δ p ≡ refused n q
   refused-still δ p n q h e = f .frame γ δ p (rw e h) ∙ e
+
+  -- ---- longer payloads that begin with these
+  -- what is laid out here is laid out there, the same value at the same places
+  pub laid-longer : (δ : M .Bytes) (p : M .Place) (a : A) (q : M .Place) → M .Longer γ δ → f .lays γ a p q → f .lays δ a p q
+  laid-longer δ p a q h l =
+      let e = f .complete γ a p q l in
+      f .sound δ a p q (f .longer γ δ p h (got-enough (f .short γ p) (f .why γ p) e) ∙ e)
+
+  -- a refusal that was not for want of bits stays, with its places
+  pub refused-longer : (δ : M .Bytes) (p : M .Place) (n : Refusal) (q : M .Place) → M .Longer γ δ → f .short γ p ≡ false
+      → f .read γ p ≡ refused n q → f .read δ p ≡ refused n q
+  refused-longer δ p n q h s e = f .longer γ δ p h s ∙ e
+
+  -- only refusals 1 and 3 can be for want of bits
+  pub short-refusal : (p : M .Place) (n : Refusal) (q : M .Place) → f .short γ p ≡ true → f .read γ p ≡ refused n q → ForBits n
+  short-refusal p n q s e = subst Lacking e (f .why γ p s)
+
+  -- so every other refusal stays
+  pub other-refusal-longer : (δ : M .Bytes) (p : M .Place) (n : Refusal) (q : M .Place) → M .Longer γ δ → (ForBits n → ⊥)
+      → f .read γ p ≡ refused n q → f .read δ p ≡ refused n q
+  other-refusal-longer δ p n q h other e = go (f .short γ p) refl
+    where
+      go : (b : Bool) → f .short γ p ≡ b → f .read δ p ≡ refused n q
+      go false s = refused-longer δ p n q h s e
+      go true s = absurd (other (short-refusal p n q s e))

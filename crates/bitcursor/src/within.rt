@@ -1,6 +1,6 @@
 // The readers for callers that know the payload to be within document 01's limit: raw bits and bytes, and the codes over them.
 ghost use mathlib.Core.Path.{_≡_};
-ghost use Prim.Native.Nat.{_^_, _≤_, _<_};
+ghost use Prim.Native.Nat.{_+_, _/_, _^_, _≤_, _<_};
 ghost use lib.ListN.{length};
 ghost use Rattle.bitcursor.specs.Code.{raw};
 ghost use Rattle.bitcursor.specs.Bytes.{lowFirst, highFirst, skip};
@@ -122,6 +122,21 @@ pub fn read_bd_bits(s: &[u8], at: usize) -> Read
             _ => Read::Refused(Refusal::ReservedTag, p),
         },
         Read::Refused(k, p) => Read::Refused(k, p),
+    }
+}
+
+// The same where the ten bytes from the tag's on are there: no other comparison with the payload's length. For loops over many; the
+// caller makes the one comparison, so that the loop has both ways in it and no call.
+pub fn read_bd_there(s: &[u8], at: usize) -> Read
+    requires { ⌜ (length (now s) ≤ limit) × (at / 8 + 10 ≤ length (now s)) ⌝ }
+    ensures { λ r. ⌜ r ≡ asRead (BD .read (now (s .entry)) at) ⌝ }
+{
+    let top = words::top_at(s, at);
+    match top >> 62 {
+        0 => Read::Value(words::low_behind(s, at, top), at + 66),
+        1 => Read::Value(0x3ff0_0000_0000_0000, at + 2),
+        2 => Read::Value(0, at + 2),
+        _ => Read::Refused(Refusal::ReservedTag, at + 2),
     }
 }
 

@@ -1,6 +1,6 @@
 // Numbers of bits that are all there, at any bit of the bytes: eight bits from one or two bytes, 64 bits as one word.
 ghost use mathlib.Core.Path.{_≡_};
-ghost use Prim.Native.Nat.{_+_, _*_, _/_, _%_, _^_, _≤_, _<_};
+ghost use Prim.Native.Nat.{_+_, _-_, _*_, _/_, _%_, _^_, _≤_, _<_};
 ghost use lib.ListN.{length};
 ghost use Rattle.bitcursor.specs.Answers.{limit};
 ghost use Rattle.bitcursor.specs.Bits.{number, window};
@@ -27,12 +27,28 @@ pub fn bits_at(s: &[u8], at: usize, n: usize) -> u64
     ((b * 256 + d) >> (16 - e)) % (1u64 << n)
 }
 
+// The 16 bits of the two bytes at q.
+fn two_bytes(s: &[u8], q: usize) -> u64
+    requires { ⌜ q + 2 ≤ length (now s) ⌝ }
+    ensures { λ r. ⌜ (r ≡ number (window (now (s .entry)) (8 * q) 16)) × (r < 2 ^ 16) ⌝ }
+{
+    wide(s[q]) * 0x100 + wide(s[q + 1])
+}
+
 // The 32 bits of the four bytes at q.
-fn half(s: &[u8], q: usize) -> u64
+fn four_bytes(s: &[u8], q: usize) -> u64
     requires { ⌜ q + 4 ≤ length (now s) ⌝ }
     ensures { λ r. ⌜ (r ≡ number (window (now (s .entry)) (8 * q) 32)) × (r < 2 ^ 32) ⌝ }
 {
     wide(s[q]) * 0x100_0000 + wide(s[q + 1]) * 0x1_0000 + wide(s[q + 2]) * 0x100 + wide(s[q + 3])
+}
+
+// The 64 bits of the eight bytes at q.
+fn eight_bytes(s: &[u8], q: usize) -> u64
+    requires { ⌜ q + 8 ≤ length (now s) ⌝ }
+    ensures { λ r. ⌜ r ≡ number (window (now (s .entry)) (8 * q) 64) ⌝ }
+{
+    four_bytes(s, q) * 0x1_0000_0000 + four_bytes(s, q + 4)
 }
 
 // The 64 bits at `at`.
@@ -42,7 +58,7 @@ fn word_at(s: &[u8], at: usize) -> u64
 {
     let q = at / 8;
     let r = at % 8;
-    let x = half(s, q) * 0x1_0000_0000 + half(s, q + 4);
+    let x = eight_bytes(s, q);
     if r == 0 {
         return x;
     }
@@ -94,4 +110,21 @@ pub fn low_at(s: &[u8], at: usize, n: usize) -> u64
     ensures { λ r. ⌜ r ≡ lowNumber (bytesAt (now (s .entry)) at n) ⌝ }
 {
     swap(high_at(s, at, n)) >> (64 - n * 8)
+}
+
+// The bits from `at` to the end of the eighth byte, on top of the word.
+pub fn top_at(s: &[u8], at: usize) -> u64
+    requires { ⌜ at / 8 + 8 ≤ length (now s) ⌝ }
+    ensures { λ r. ⌜ r ≡ number (window (now (s .entry)) at (64 - at % 8)) * 2 ^ (at % 8) ⌝ }
+{
+    eight_bytes(s, at / 8) << (at % 8)
+}
+
+// The eight bytes behind the two bits at `at`, the low one first; `top` is what `top_at` has there.
+pub fn low_behind(s: &[u8], at: usize, top: u64) -> u64
+    requires { ⌜ (at / 8 + 10 ≤ length (now s)) × (top ≡ number (window (now s) at (64 - at % 8)) * 2 ^ (at % 8)) ⌝ }
+    ensures { λ r. ⌜ r ≡ lowNumber (bytesAt (now (s .entry)) (at + 2) 8) ⌝ }
+{
+    let last = two_bytes(s, at / 8 + 8);
+    swap((top << 2) + (last >> (14 - at % 8)))
 }

@@ -18,7 +18,8 @@ use Rattle.text.specs.Fields.{widthBy}
 use Rattle.text.specs.Answers.{asText, placed}
 use mathlib.Core.Bool.{Bool}
 use Rattle.common_entity.specs.declared.EntityMode.the-variants.{Reserved}
-use Rattle.common_entity.specs.Prefix.{name, modeOf}
+use Rattle.common_entity.specs.Values.{modeOf}
+use Rattle.common_entity.specs.Prefix.{name}
 
 module _ (b : Bool) (xs : List ℕ) (p : ℕ) {x : ReadText} (e : x ≡ asText (placed Main (widthBy b) p ((TV (widthBy b)) .read xs p))) where
   pub name-found : {t : Text} {q : ℕ} → x ≡ Found t q → (name b) .read xs p ≡ got 0 q

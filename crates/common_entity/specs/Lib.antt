@@ -1,5 +1,10 @@
 pub mod Rows
+pub mod Values
+pub mod Layouts
+pub mod Joins
 pub mod Prefix
+pub mod FieldLaws
+pub mod Format
 pub mod Blocks
 pub mod Parts
 pub mod Record

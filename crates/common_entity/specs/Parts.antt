@@ -18,7 +18,8 @@ use Rattle.common_entity.specs.declared.parts.Modes.{Modes}
 use Rattle.common_entity.specs.declared.parts.Colours.{Colours}
 use Rattle.common_entity.specs.declared.parts.Styles.{Styles}
 use Rattle.common_entity.specs.declared.parts.Tail.{Tail}
-use Rattle.common_entity.specs.Prefix.{BIT, extended, graphics, hasRgb, hasAlpha, hasName, hasBookName, name}
+use Rattle.common_entity.specs.Values.{hasRgb, hasAlpha, hasName, hasBookName}
+use Rattle.common_entity.specs.Prefix.{BIT, extended, graphics, name}
 
 abbrev pub announcedBy : Row → ℕ → Announced
 announcedBy row c = record { rgb = hasRgb row c; alpha = hasAlpha row c; name = hasName row c; «book_name» = hasBookName row c }

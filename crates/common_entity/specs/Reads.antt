@@ -24,7 +24,8 @@ use Rattle.common_entity.specs.declared.parts.Modes.{Modes}
 use Rattle.common_entity.specs.declared.parts.Colours.{Colours}
 use Rattle.common_entity.specs.declared.parts.Styles.{Styles}
 use Rattle.common_entity.specs.declared.parts.Tail.{Tail}
-use Rattle.common_entity.specs.Prefix.{prefixBy, fieldsOf, hasRgb, hasAlpha, BIT, graphics, extended}
+use Rattle.common_entity.specs.Values.{hasRgb, hasAlpha}
+use Rattle.common_entity.specs.Prefix.{prefixBy, fieldsOf, BIT, graphics, extended}
 use Rattle.common_entity.specs.Parts.{headOf, modesOf, coloursOf, stylesOf, tailOf, head-reads, modes-read, colours-read, styles-read, tail-reads}
 use Rattle.common_entity.specs.Record.{InRange, bitsOf}
 

@@ -1,7 +1,7 @@
 // The record of a prefix from its parts' numbers, and the record of a refused call, which is zero throughout.
 ghost use mathlib.Core.Path.{_≡_};
 ghost use lib.Dec.{eqb};
-ghost use Rattle.common_entity.specs.Prefix.{modeOf};
+ghost use Rattle.common_entity.specs.Values.{modeOf};
 ghost use Rattle.common_entity.specs.Record.{InRange, bitsOf, dataOf, zeroBits};
 use crate::CommonEntityBits;
 use crate::CommonEntityData;

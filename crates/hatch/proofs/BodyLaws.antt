@@ -33,23 +33,23 @@ use Rattle.hatch_format.specs.Gradients.{gradient}
 use Rattle.hatch_format.specs.Hatch.{plane, hatch}
 use Rattle.hatch_format.specs.Call.{roomFor}
 use Rattle.hatch_format.specs.Begins.{BL-begins, BD-begins}
-use Rattle.hatch_walks.specs.declared.lists.Sizes.{Sizes}
+use Rattle.hatch_points.specs.declared.lists.Sizes.{Sizes}
 use Rattle.hatch.specs.declared.fronts.Ended.{Ended}
 use Rattle.hatch.specs.declared.fronts.Ended.the-variants.{Done as DoneFront, Refused as RefusedFront}
 use Rattle.hatch.specs.declared.fronts.Front.{Front as FrontRead}
-use Rattle.hatch_walks.specs.declared.rests.Rest.{Rest}
-use Rattle.hatch_walks.specs.declared.rests.RestWalk.{RestWalk}
-use Rattle.hatch_walks.specs.declared.rests.RestWalk.the-variants.{Done, Refused}
+use Rattle.hatch_rest.specs.declared.rests.Rest.{Rest}
+use Rattle.hatch_rest.specs.declared.rests.RestWalk.{RestWalk}
+use Rattle.hatch_rest.specs.declared.rests.RestWalk.the-variants.{Done, Refused}
 use Rattle.hatch.specs.declared.HatchBitsAnswer.{HatchBitsAnswer}
 use Rattle.hatch.specs.declared.Outcome.the-variants.{Read}
 use Rattle.hatch_format.specs.declared.HatchBits.{HatchBits}
-use Rattle.hatch_walks.specs.Gathered.{Entries, all, gathered}
-use Rattle.hatch_walks.specs.Gathers.{all-both}
-use Rattle.hatch_walks.specs.PathGathers.{pathEntries, all-paths}
-use Rattle.hatch_walks.specs.Lists.{Lists, lists, doublesOf, lay, grow, Laid}
-use Rattle.hatch_walks.specs.Heads.{Modest}
-use Rattle.hatch_walks.specs.Tails.{Gives}
-use Rattle.hatch_walks.specs.Rests.{noSizes, restOf, restEntries, restWalk}
+use Rattle.hatch_points.specs.Gathered.{Entries, all, gathered}
+use Rattle.hatch_points.specs.Gathers.{all-both}
+use Rattle.hatch_paths.specs.PathGathers.{pathEntries, all-paths}
+use Rattle.hatch_points.specs.Lists.{Lists, lists, doublesOf, lay, grow, Laid}
+use Rattle.hatch_points.specs.Heads.{Modest}
+use Rattle.hatch_rest.specs.Tails.{Gives}
+use Rattle.hatch_rest.specs.Rests.{noSizes, restOf, restEntries, restWalk}
 use Rattle.hatch.specs.Fronts.{Front, front, named, whole, hatch-front, frontOf}
 use Rattle.hatch.specs.Bodies.{madeOf, placed, noneLent, Walked, roomy, madeIf, closedOf, layIf, closedLists}
 use Rattle.hatch.specs.Calls.{asBits, laidOver}

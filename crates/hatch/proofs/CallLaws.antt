@@ -31,14 +31,14 @@ use Rattle.hatch_format.specs.Gradients.{gradient}
 use Rattle.hatch_format.specs.Hatch.{plane, hatch}
 use Rattle.hatch_format.specs.Call.{roomFor}
 use Rattle.hatch_format.specs.Begins.{BL-begins, BD-begins}
-use Rattle.hatch_walks.specs.declared.lists.Sizes.{Sizes}
+use Rattle.hatch_points.specs.declared.lists.Sizes.{Sizes}
 use Rattle.hatch.specs.declared.fronts.Ended.the-variants.{Done as DoneFront, Refused as RefusedFront}
 use Rattle.hatch.specs.declared.fronts.Front.{Front as FrontRead}
 use Rattle.hatch.specs.declared.HatchBitsAnswer.{HatchBitsAnswer}
 use Rattle.hatch.specs.declared.Outcome.the-variants.{Read}
 use Rattle.hatch_format.specs.declared.HatchBits.{HatchBits}
-use Rattle.hatch_walks.specs.Lists.{Lists, grow}
-use Rattle.hatch_walks.specs.Rests.{noSizes, restOf, restEntries}
+use Rattle.hatch_points.specs.Lists.{Lists, grow}
+use Rattle.hatch_rest.specs.Rests.{noSizes, restOf, restEntries}
 use Rattle.hatch.specs.Fronts.{Front, front, named, whole, hatch-front, frontOf}
 use Rattle.hatch.specs.Bodies.{madeOf, placed, roomy, madeIf, closedOf, layIf, closedLists, openedBy, opened}
 use Rattle.hatch.specs.Calls.{asBits, laidOver}

@@ -22,8 +22,8 @@ use Rattle.hatch_format.specs.Entries.{words, numbers}
 use Rattle.hatch_format.specs.Call.{Call, payloadsOf, startsOf, callBy, hatchCall}
 use Rattle.hatch_format.specs.Demand3.{read-iff-laid}
 use Rattle.hatch.specs.declared.HatchBitsAnswer.{HatchBitsAnswer}
-use Rattle.hatch_walks.specs.Lists.{Lists, lists, doublesOf, length-doubles}
-use Rattle.hatch_walks.specs.Rests.{restEntries}
+use Rattle.hatch_points.specs.Lists.{Lists, lists, doublesOf, length-doubles}
+use Rattle.hatch_rest.specs.Rests.{restEntries}
 use Rattle.hatch.specs.Bodies.{openedBy, opened}
 use Rattle.hatch.specs.Calls.{asBits, filled, doubles, laidOver, lengthsIn, asLengths}
 use Rattle.hatch.proofs.BodyLaws.{laid-words, laid-numbers}

@@ -29,8 +29,8 @@ use Rattle.hatch_format.specs.Counts.{bounded, counted, listed-read, listed, ti
 use Rattle.hatch_format.specs.Gradients.{color-read, color, takes-color, block-read, block}
 use Rattle.hatch_format.specs.Hatch.{plane-read, plane}
 use Rattle.hatch_format.specs.Record.{zeroColor, sixteen, fillOf}
-use Rattle.hatch_walks.specs.Heads.{resumed, one-more}
-use Rattle.hatch_walks.specs.Runs.{times-length, times-add, rest}
+use Rattle.hatch_points.specs.Heads.{resumed, one-more}
+use Rattle.hatch_points.specs.Runs.{times-length, times-add, rest}
 use Rattle.hatch.specs.Rows.{blockHead}
 use Rattle.hatch.specs.declared.fills.ColorRead.{ColorRead}
 use Rattle.hatch.specs.declared.fills.ColorRead.the-variants.{Done as DoneColor, Refused as RefusedColor}

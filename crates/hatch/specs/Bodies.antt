@@ -20,15 +20,15 @@ use Rattle.hatch_format.specs.Hatch.{hatch}
 use Rattle.hatch_format.specs.Call.{roomFor}
 use Rattle.hatch.specs.declared.Outcome.the-variants.{Read, Refused}
 use Rattle.hatch.specs.declared.HatchBitsAnswer.{HatchBitsAnswer}
-use Rattle.hatch_walks.specs.Lists.{Lists, lay, grow}
-use Rattle.hatch_walks.specs.Tails.{Gives}
-use Rattle.hatch_walks.specs.Rests.{noSizes, restOf, restEntries}
+use Rattle.hatch_points.specs.Lists.{Lists, lay, grow}
+use Rattle.hatch_rest.specs.Tails.{Gives}
+use Rattle.hatch_rest.specs.Rests.{noSizes, restOf, restEntries}
 use Rattle.bitcursor.specs.Reading.{Out, got, refused}
 use Rattle.text.specs.declared.Places.{Places}
 use Rattle.hatch_format.specs.declared.HatchBits.{HatchBits}
-use Rattle.hatch_walks.specs.declared.lists.Sizes.{Sizes}
+use Rattle.hatch_points.specs.declared.lists.Sizes.{Sizes}
 use Rattle.hatch.specs.declared.fronts.Front.{Front}
-use Rattle.hatch_walks.specs.declared.rests.Rest.{Rest}
+use Rattle.hatch_rest.specs.declared.rests.Rest.{Rest}
 
 abbrev pub madeOf : Front → Rest → Sizes → Places → HatchBits
 madeOf f a z p =

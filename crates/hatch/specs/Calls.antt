@@ -19,8 +19,8 @@ use Rattle.hatch.specs.declared.Outcome.the-variants.{Read, Refused}
 use Rattle.hatch.specs.declared.HatchAnswer.{HatchAnswer}
 use Rattle.hatch.specs.declared.HatchBitsAnswer.{HatchBitsAnswer}
 use Rattle.hatch.specs.declared.Lengths.{Lengths}
-use Rattle.hatch_walks.specs.Lists.{Lists, lists, doublesOf, lay}
-use Rattle.hatch_walks.specs.Rests.{noSizes, restEntries}
+use Rattle.hatch_points.specs.Lists.{Lists, lists, doublesOf, lay}
+use Rattle.hatch_rest.specs.Rests.{noSizes, restEntries}
 
 -- ---- the record beside the outcome: zero but for the places on a refusal
 abbrev pub asBits : Out Places Body → HatchBitsAnswer

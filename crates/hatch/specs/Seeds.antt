@@ -10,7 +10,7 @@ use lib.Seq.{take-at, drop-at}
 use lib.Dec.{leb}
 use borrow.Author.Tests.{le-leb}
 use Rattle.hatch_format.specs.Values.{Point, Rest}
-use Rattle.hatch_walks.specs.Lists.{doublesOf, doubles-append, length-doubles}
+use Rattle.hatch_points.specs.Lists.{doublesOf, doubles-append, length-doubles}
 use Rattle.hatch_format.specs.Entries.{every, pointNumbers, pathNumbers, lineNumbers, numbers}
 
 module _ {A : Type 0} where

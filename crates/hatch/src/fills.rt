@@ -15,7 +15,7 @@ use bitcursor::Refusal;
 use bitcursor::sequence;
 use bitcursor::values;
 use hatch_format::GradientColorBits;
-use hatch_walks::counts;
+use hatch_points::counts;
 
 pub enum ColorRead {
     Done(GradientColorBits, usize),

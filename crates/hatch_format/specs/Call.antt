@@ -14,6 +14,7 @@ use Rattle.text.specs.declared.version.MaybeVersion.the-variants.{Known, Unknow
 use Rattle.text.specs.Releases.{versionOf}
 use Rattle.text.specs.Answers.{payloads}
 use Rattle.hatch_format.specs.declared.Caps.{Caps}
+use Rattle.hatch_format.specs.HandleRule.{Handles}
 use Rattle.hatch_format.specs.Values.{Body}
 use Rattle.hatch_format.specs.Entries.{words, numbers}
 use Rattle.hatch_format.specs.Hatch.{hatch}
@@ -29,6 +30,8 @@ pub record Call : Type 0 where
   pub main : List ℕ
   pub start : ℕ
   pub strings : Strings
+  pub caps : Caps
+  pub handles : Handles
   pub words : ℕ
   pub numbers : ℕ
 
@@ -61,16 +64,21 @@ roomFor nw nn (got a q) =
     elim (leb (length (words (a .rest))) nw && leb (length (numbers (a .rest))) nn) [ true ↦ got a q | false ↦ refused ListTooShort q ]
 roomFor nw nn (refused r q) = refused r q
 
--- the order of the refusals: 9; 10 of the main payload, 10 of the string payload; a string start past its payload, with the second place at
--- that payload's end; the fields, of which the first refuses a start past the main payload with 1 at that start; 11
-abbrev pub callBy : Caps → Call → MaybeVersion → Bool → Bool → Bool → Out Places Body
-callBy caps c Unknown main-within string-within start-within = refused UnknownRelease (startsOf c)
-callBy caps c (Known v) false string-within start-within = refused PayloadTooLong (startsOf c)
-callBy caps c (Known v) true false start-within = refused PayloadTooLong (startsOf c)
-callBy caps c (Known v) true true false = refused TooFewBits (record { main = c .start; string = size (payloadsOf c .string) })
-callBy caps c (Known v) true true true = roomFor (c .words) (c .numbers) ((hatch caps v) .read (payloadsOf c) (startsOf c))
+-- the order of the refusals, over payloads and start places: 9; 10 of the main payload, 10 of the string payload; a string start past its
+-- payload, with the second place at that payload's end; the fields, of which the first refuses a start past the main payload with 1 at that
+-- start; 11. The tests are: which release, whether each payload is within the limit, whether the string start is within its payload
+module _ (caps : Caps) (handles : Handles) (nw nn : ℕ) (γ : Payloads) (p : Places) where
+  abbrev pub callBy : MaybeVersion → Bool → Bool → Bool → Out Places Body
+  callBy Unknown main-within string-within start-within = refused UnknownRelease p
+  callBy (Known v) false string-within start-within = refused PayloadTooLong p
+  callBy (Known v) true false start-within = refused PayloadTooLong p
+  callBy (Known v) true true false = refused TooFewBits (record { main = p .main; string = size (γ .string) })
+  callBy (Known v) true true true = roomFor nw nn ((hatch caps handles v) .read γ p)
 
-unfoldable pub hatchCall : Caps → Call → Out Places Body
-hatchCall caps c =
-    callBy caps c (versionOf (c .release)) (leb (length (c .main)) limit) (leb (length (payloadsOf c .string)) limit)
-    (leb (startsOf c .string) (size (payloadsOf c .string)))
+  unfoldable pub callOn : ℕ → Out Places Body
+  callOn release =
+      callBy (versionOf release) (leb (length (γ .main)) limit) (leb (length (γ .string)) limit) (leb (p .string) (size (γ .string)))
+
+-- a whole call
+abbrev pub hatchCall : Call → Out Places Body
+hatchCall c = callOn (c .caps) (c .handles) (c .words) (c .numbers) (payloadsOf c) (startsOf c) (c .release)

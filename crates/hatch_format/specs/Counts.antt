@@ -1,6 +1,6 @@
 -- Items one behind the other, and counts of them. Assumes nothing.
 use mathlib.Core.Path.{_≡_, refl, sym, ap, subst, _∙_}
-use mathlib.Core.Bool.{Bool, true, false, _&&_}
+use mathlib.Core.Bool.{Bool, true, false}
 use mathlib.Core.List.{List, [], _∷_}
 use mathlib.Core.Logic.{⊎-elim}
 use Prim.Native.Nat.{ℕ, zero, suc, _+_, _-_, _*_, _≤_, _<_, max}
@@ -10,84 +10,131 @@ use lib.Dec.{leb, leb→le}
 use borrow.Author.Tests.{le-leb, lt-leb}
 use Rattle.bitcursor.specs.declared.Refusal.the-variants.{CountTooLarge}
 use Rattle.bitcursor.specs.Bits.{size}
-use Rattle.bitcursor.specs.Reading.{got}
+use Rattle.bitcursor.specs.Reading.{Out, got, refused, andThen}
 use Rattle.bitcursor.specs.Code.{Code, Laid}
 use Rattle.bitcursor.specs.Ranges.{Below}
-use Rattle.bitcursor.specs.Format.{Format, pure, refuse, _>>=_, peek, relay, either}
+use Rattle.bitcursor.specs.Format.{Format, pure, refuse, _>>=_, relay, either}
 use Rattle.bitcursor.specs.Inputs.{one}
-use Rattle.bitcursor.specs.Fields.{coded}
+use Rattle.bitcursor.specs.Fields.{coded, at-least}
 use Rattle.hatch_format.specs.Takes.{Takes, moved}
-use Rattle.hatch_format.specs.Layouts.{Each, Count, Bounded, Listed}
+use Rattle.hatch_format.specs.Layouts.{EachBy, Each, Count, Bounded, ListedBy, Listed}
 
--- the bits left of the payload
-unfoldable pub bits-left : Format one ℕ
-bits-left = peek one (λ xs p. size xs - p) (λ xs ys p h. rw (h .lengths))
+-- ---- n items, each read by a running sum of those before it
+module _ {A S : Type 0} (f : S → Format one A) (add : S → A → S) where
+  abbrev pub summed-read : ℕ → S → Format one (List A)
+  summed-read zero s = pure []
+  summed-read (suc n) s = f s >>= λ a. summed-read n (add s a) >>= λ items. pure (a ∷ items)
 
--- ---- n items
+  abbrev pub Summed : ℕ → S → List ℕ → List A → ℕ → ℕ → Type 0
+  Summed n s xs items p q = (length items ≡ n) × EachBy (λ t. (f t) .lays xs) add s items p q
+
+  pub summed-to : (n : ℕ) (s : S) (xs : List ℕ) (items : List A) (p q : ℕ) → (summed-read n s) .lays xs items p q → Summed n s xs items p q
+  unfolding pure _>>=_
+  summed-to zero s xs items p q l = rw (l .0) (refl, l .1)
+  summed-to (suc n) s xs items p q l =
+      let t = summed-to n (add s (l .0)) xs (l .3 .0) (l .1) (l .3 .1) (l .3 .2) in
+      rw (l .3 .3 .0, l .3 .3 .1) (ap suc (t .0), (l .1, l .2, t .1))
+
+  pub summed-from : (n : ℕ) (s : S) (xs : List ℕ) (items : List A) (p q : ℕ) → Summed n s xs items p q → (summed-read n s) .lays xs items p q
+  unfolding pure _>>=_
+  summed-from zero s xs [] p q l = (refl, l .1)
+  summed-from zero s xs (a ∷ items) p q l = absurd (omega (arith, l .0))
+  summed-from (suc n) s xs [] p q l = absurd (omega (arith, l .0))
+  summed-from (suc n) s xs (a ∷ items) p q l =
+      let c = l .1 in
+      (a, c .0, c .1, (items, q, summed-from n (add s a) xs items (c .0) q (omega (arith, l .0), c .2), (refl, refl)))
+
+  unfoldable pub summed : ℕ → S → Format one (List A)
+  summed n s = relay (summed-read n s) (Summed n s) (summed-to n s) (summed-from n s)
+
+  -- each takes a bit, so n take n
+  each-takes : ((s : S) → Takes 1 (f s)) → (s : S) (xs : List ℕ) (items : List A) (p q : ℕ)
+      → EachBy (λ t. (f t) .lays xs) add s items p q → p + length items ≤ q
+  each-takes t s xs [] p q l = omega (arith, l)
+  each-takes t s xs (a ∷ items) p q l =
+      let i = t s xs a p (l .0) (l .1) in
+      let j = each-takes t (add s a) xs items (l .0) q (l .2) in
+      omega arith
+
+  pub takes-summed : (n : ℕ) (s : S) → ((s : S) → Takes 1 (f s)) → Takes n (summed n s)
+  unfolding summed relay
+  takes-summed n s t xs items p q l = let j = each-takes t s xs items p q (l .1) in omega (arith, l .0)
+
+-- ---- n items of one format
 module _ {A : Type 0} where
   unfoldable pub times-read : ℕ → Format one A → Format one (List A)
-  times-read zero f = pure []
-  times-read (suc n) f = f >>= λ a. times-read n f >>= λ items. pure (a ∷ items)
+  times-read n f = summed-read (λ (s : Unit {0}). f) (λ s a. s) n tt
 
   -- a list of n items is laid out
   abbrev pub Times : ℕ → (A → ℕ → ℕ → Type 0) → List A → ℕ → ℕ → Type 0
   Times n L items p q = (length items ≡ n) × Each L items p q
 
   pub times-to : (n : ℕ) (f : Format one A) (xs : List ℕ) (items : List A) (p q : ℕ) → (times-read n f) .lays xs items p q → Times n (f .lays xs) items p q
-  unfolding times-read pure _>>=_
-  times-to zero f xs items p q l = rw (l .0) (refl, l .1)
-  times-to (suc n) f xs items p q l =
-      let t = times-to n f xs (l .3 .0) (l .1) (l .3 .1) (l .3 .2) in
-      rw (l .3 .3 .0, l .3 .3 .1) (ap suc (t .0), (l .1, l .2, t .1))
+  unfolding times-read
+  times-to n f xs items p q l = summed-to (λ (s : Unit {0}). f) (λ s a. s) n tt xs items p q l
 
   pub times-from : (n : ℕ) (f : Format one A) (xs : List ℕ) (items : List A) (p q : ℕ) → Times n (f .lays xs) items p q → (times-read n f) .lays xs items p q
-  unfolding times-read pure _>>=_
-  times-from zero f xs [] p q l = (refl, l .1)
-  times-from zero f xs (a ∷ items) p q l = absurd (omega (arith, l .0))
-  times-from (suc n) f xs [] p q l = absurd (omega (arith, l .0))
-  times-from (suc n) f xs (a ∷ items) p q l =
-      let c = l .1 in
-      (a, c .0, c .1, (items, q, times-from n f xs items (c .0) q (omega (arith, l .0), c .2), (refl, refl)))
+  unfolding times-read
+  times-from n f xs items p q l = summed-from (λ (s : Unit {0}). f) (λ s a. s) n tt xs items p q l
 
   unfoldable pub times : ℕ → Format one A → Format one (List A)
   times n f = relay (times-read n f) (λ xs. Times n (f .lays xs)) (times-to n f) (times-from n f)
 
-  -- each takes a bit, so n take n
-  each-takes : (f : Format one A) → Takes 1 f → (xs : List ℕ) (items : List A) (p q : ℕ) → Each (f .lays xs) items p q → p + length items ≤ q
-  each-takes f t xs [] p q l = omega (arith, l)
-  each-takes f t xs (a ∷ items) p q l =
-      let i = t xs a p (l .0) (l .1) in
-      let j = each-takes f t xs items (l .0) q (l .2) in
-      omega arith
-
   pub takes-times : (n : ℕ) (f : Format one A) → Takes 1 f → Takes n (times n f)
-  unfolding times relay
-  takes-times n f t xs items p q l = let j = each-takes f t xs items p q (l .1) in omega (arith, l .0)
+  unfolding times summed relay
+  takes-times n f t xs items p q l = takes-summed (λ (s : Unit {0}). f) (λ s a. s) n tt (λ s. t) xs items p q l
 
--- ---- a count, as the Rust's `bounds_check` has it: refused with 3 above the cap or above the bits left after it
+  -- a format that does not look at the sum
+  pub summed-times : {S : Type 0} (f : Format one A) (add : S → A → S) (n : ℕ) (s : S) (xs : List ℕ) (p : ℕ)
+      → (summed (λ t. f) add n s) .read xs p ≡ (times n f) .read xs p
+  unfolding summed times times-read relay _>>=_ pure
+  summed-times f add zero s xs p = refl
+  summed-times f add (suc n) s xs p = go (λ a q. summed-times f add n (add s a) xs q) (f .read xs p)
+    where
+      go : ((a : A) (q : ℕ) → (summed-read (λ t. f) add n (add s a)) .read xs q ≡ (times-read n f) .read xs q) → (o : Out ℕ A)
+          → andThen o (λ a q. andThen ((summed-read (λ t. f) add n (add s a)) .read xs q) (λ items r. got (a ∷ items) r))
+          ≡ andThen o (λ a q. andThen ((times-read n f) .read xs q) (λ items r. got (a ∷ items) r))
+      go h (refused k q) = refl
+      go h (got a q) = ap (λ (o : Out ℕ (List A)). andThen o (λ items r. got (a ∷ items) r)) (h a q)
+
+-- ---- a count, as the Rust's `bounds_check` has it: refused with 3 above the cap, and then with 3 above the bits left after it
 module _ (cap : ℕ) (c : Code ℕ) where
+  unfoldable pub capped-read : Format one ℕ
+  capped-read = do
+    n ← coded c
+    either (leb n cap) (pure n) (refuse CountTooLarge)
+
+  pub capped-to : (xs : List ℕ) (n p q : ℕ) → capped-read .lays xs n p q → Count xs cap c n p q
+  unfolding capped-read _>>=_ either pure refuse
+  capped-to xs n p q l = go (leb (l .0) cap) refl (l .3)
+    where
+      go : (s : Bool) → leb (l .0) cap ≡ s → (either {M = one} s (pure (l .0)) (refuse CountTooLarge)) .lays xs n (l .1) q → Count xs cap c n p q
+      go true e m = rw (m .0, m .1) (l .2, leb→le (l .0) cap (rw e tt))
+      go false e m = absurd m
+
+  pub capped-from : (xs : List ℕ) (n p q : ℕ) → Count xs cap c n p q → capped-read .lays xs n p q
+  unfolding capped-read _>>=_ either pure
+  capped-from xs n p q l = (n, q, l .0, rw (le-leb n cap (l .1)) (refl, refl))
+
+  unfoldable pub capped : Format one ℕ
+  capped = relay capped-read (λ xs. Count xs cap c) capped-to capped-from
+
   unfoldable pub bounded-read : Format one ℕ
   bounded-read = do
-    n ← coded c
-    left ← bits-left
-    either (leb n cap && leb n left) (pure n) (refuse CountTooLarge)
+    n ← capped
+    enough ← at-least n
+    pure n
 
   pub bounded-to : (xs : List ℕ) (n p q : ℕ) → bounded-read .lays xs n p q → Bounded xs cap c n p q
-  unfolding bounded-read bits-left peek _>>=_ either pure refuse
-  bounded-to xs n p q l = go (leb (l .0) cap) (leb (l .0) (l .3 .0)) refl refl (l .3 .3)
-    where
-      go : (s t : Bool) → leb (l .0) cap ≡ s → leb (l .0) (l .3 .0) ≡ t
-          → (either {M = one} (s && t) (pure (l .0)) (refuse CountTooLarge)) .lays xs n (l .3 .1) q → Bounded xs cap c n p q
-      go true true e f m =
-          let k : l .0 ≤ l .3 .0 = leb→le (l .0) (l .3 .0) (rw f tt) in
-          let j : q ≡ l .1 = m .1 ∙ l .3 .2 .1 in
-          rw (m .0, j) ((l .2, leb→le (l .0) cap (rw e tt)), omega (arith, k, l .3 .2 .0))
-      go true false e f m = absurd m
-      go false t e f m = absurd m
+  unfolding bounded-read capped at-least relay _>>=_ pure
+  bounded-to xs n p q l =
+      let e = l .3 .3 in
+      let j : q ≡ l .1 = e .1 ∙ l .3 .2 .1 in
+      rw (e .0, j) (l .2, l .3 .2 .0)
 
   pub bounded-from : (xs : List ℕ) (n p q : ℕ) → Bounded xs cap c n p q → bounded-read .lays xs n p q
-  unfolding bounded-read bits-left peek _>>=_ either pure
-  bounded-from xs n p q l = (n, q, l .0 .0, (size xs - q, q, (refl, refl), rw (le-leb n cap (l .0 .1), le-leb n (size xs - q) (l .1)) (refl, refl)))
+  unfolding bounded-read capped at-least relay _>>=_ pure
+  bounded-from xs n p q l = (n, q, l .0, (tt, q, (l .1, refl), (refl, refl)))
 
   unfoldable pub bounded : Format one ℕ
   bounded = relay bounded-read (λ xs. Bounded xs cap c) bounded-to bounded-from
@@ -133,7 +180,23 @@ module _ {B : Type 0} (cap : ℕ) (c : Code ℕ) (g : ℕ → Format one B) wher
       let j = h (l .0) xs b (l .1) q (l .3) in
       omega arith
 
--- a count and that many items
+-- ---- a count and that many items, each read by a running sum
+module _ {A S : Type 0} (cap : ℕ) (c : Code ℕ) (f : S → Format one A) (add : S → A → S) (s : S) (takes : (t : S) → Takes 1 (f t)) where
+  unfoldable pub listed-by-read : Format one (List A)
+  listed-by-read = counted cap c (λ n. summed f add n s) (λ n. takes-summed f add n s takes)
+
+  pub listed-by-to : (xs : List ℕ) (items : List A) (p q : ℕ) → listed-by-read .lays xs items p q → ListedBy xs cap c (λ t. (f t) .lays xs) add s items p q
+  unfolding listed-by-read counted summed relay
+  listed-by-to xs items p q l = (l .1, subst (λ (n : ℕ). Count xs cap c n p (l .1)) (sym (l .3 .0)) (l .2), l .3 .1)
+
+  pub listed-by-from : (xs : List ℕ) (items : List A) (p q : ℕ) → ListedBy xs cap c (λ t. (f t) .lays xs) add s items p q → listed-by-read .lays xs items p q
+  unfolding listed-by-read counted summed relay
+  listed-by-from xs items p q l = (length items, l .0, l .1, (refl, l .2))
+
+  unfoldable pub listed-by : Format one (List A)
+  listed-by = relay listed-by-read (λ xs. ListedBy xs cap c (λ t. (f t) .lays xs) add s) listed-by-to listed-by-from
+
+-- a count and that many items of one format
 module _ {A : Type 0} (cap : ℕ) (c : Code ℕ) (f : Format one A) (takes : Takes 1 f) where
   unfoldable pub listed-read : Format one (List A)
   listed-read = counted cap c (λ n. times n f) (λ n. takes-times n f takes)
@@ -148,3 +211,13 @@ module _ {A : Type 0} (cap : ℕ) (c : Code ℕ) (f : Format one A) (takes : Tak
 
   unfoldable pub listed : Format one (List A)
   listed = relay listed-read (λ xs. Listed xs cap c (f .lays xs)) listed-to listed-from
+
+  -- a format that does not look at the sum
+  pub listed-times : {S : Type 0} (add : S → A → S) (s : S) (xs : List ℕ) (p : ℕ)
+      → (listed-by cap c (λ t. f) add s (λ t. takes)) .read xs p ≡ listed .read xs p
+  unfolding listed-by listed-by-read listed listed-read counted relay _>>=_
+  listed-times add s xs p = go ((bounded cap c) .read xs p)
+    where
+      go : (o : Out ℕ ℕ) → andThen o (λ n q. (summed (λ t. f) add n s) .read xs q) ≡ andThen o (λ n q. (times n f) .read xs q)
+      go (got n q) = summed-times f add n s xs q
+      go (refused k q) = refl

@@ -14,30 +14,29 @@ use Rattle.bitcursor.specs.Bits.{size, Alike}
 use Rattle.bitcursor.specs.Reading.{Out, got, refused, place, never}
 use Rattle.bitcursor.specs.Code.{Moves, stay}
 use Rattle.bitcursor.specs.Answers.{limit}
-use Rattle.bitcursor.specs.Format.{relay}
-use Rattle.bitcursor.specs.Inputs.{Places, Payloads, Onward, Agree}
+use Rattle.bitcursor.specs.Format.{Format, relay}
+use Rattle.bitcursor.specs.Inputs.{both, Places, Payloads, Onward, Agree}
 use Rattle.text.specs.declared.version.Version.{Version}
 use Rattle.text.specs.declared.version.MaybeVersion.{MaybeVersion}
 use Rattle.text.specs.declared.version.MaybeVersion.the-variants.{Known, Unknown}
 use Rattle.text.specs.Releases.{versionOf}
-use Rattle.hatch_format.specs.declared.Caps.{Caps}
 use Rattle.hatch_format.specs.Values.{Body}
 use Rattle.hatch_format.specs.Layouts.{BodyLaid}
 use Rattle.hatch_format.specs.Entries.{words, numbers}
 use Rattle.hatch_format.specs.Hatch.{hatch}
 use Rattle.hatch_format.specs.Begins.{body-begins}
-use Rattle.hatch_format.specs.Call.{Strings, none, lent, Call, stringBytes, stringStart, stringEnd, isLent, payloadsOf, startsOf, roomFor, callBy, hatchCall}
+use Rattle.hatch_format.specs.Call.{Strings, none, lent, Call, stringBytes, stringStart, stringEnd, isLent, payloadsOf, startsOf, roomFor, callBy, callOn, hatchCall}
 
 -- "its release is known, its payloads are within document 01's limit and, from the start bits, begin with a layout of a hatch body for that
 -- release .., and both lists are long enough"
-pub record HatchLaid (caps : Caps) (c : Call) (a : Body) (q : Places) : Type 0 where
+pub record HatchLaid (c : Call) (a : Body) (q : Places) : Type 0 where
   pub version : Version
   pub known : versionOf (c .release) ≡ Known version
   pub main-within : length (c .main) ≤ limit
   pub string-within : length (payloadsOf c .string) ≤ limit
   pub main-start : c .start ≤ size (c .main)
   pub string-start : startsOf c .string ≤ size (payloadsOf c .string)
-  pub laid : BodyLaid caps version (payloadsOf c) a (startsOf c) q
+  pub laid : BodyLaid (c .caps) (c .handles) version (payloadsOf c) a (startsOf c) q
   pub words-fit : length (words (a .rest)) ≤ c .words
   pub numbers-fit : length (numbers (a .rest)) ≤ c .numbers
 
@@ -64,24 +63,31 @@ room-place nw nn (got b s) = go (leb (length (words (b .rest))) nw && leb (lengt
     go true = refl
     go false = refl
 
-module _ (caps : Caps) (c : Call) where
-  sound : (a : Body) (q : Places) → hatchCall caps c ≡ got a q → HatchLaid caps c a q
-  unfolding hatchCall hatch relay
+module _ (c : Call) where
+  -- the body's format of a release, and the four tests of a call
+  abbrev body : Version → Format both Body
+  body = hatch (c .caps) (c .handles)
+
+  abbrev by : MaybeVersion → Bool → Bool → Bool → Out Places Body
+  by = callBy (c .caps) (c .handles) (c .words) (c .numbers) (payloadsOf c) (startsOf c)
+
+  sound : (a : Body) (q : Places) → hatchCall c ≡ got a q → HatchLaid c a q
+  unfolding callOn hatch relay
   sound a q e =
       go (versionOf (c .release)) (leb (length (c .main)) limit) (leb (length (payloadsOf c .string)) limit)
       (leb (startsOf c .string) (size (payloadsOf c .string))) refl refl refl refl e
     where
       go : (m : MaybeVersion) (s t u : Bool) → versionOf (c .release) ≡ m → leb (length (c .main)) limit ≡ s
           → leb (length (payloadsOf c .string)) limit ≡ t → leb (startsOf c .string) (size (payloadsOf c .string)) ≡ u
-          → callBy caps c m s t u ≡ got a q → HatchLaid caps c a q
+          → by m s t u ≡ got a q → HatchLaid c a q
       go Unknown s t u em es et eu h = never h
       go (Known v) false t u em es et eu h = never h
       go (Known v) true false u em es et eu h = never h
       go (Known v) true true false em es et eu h = never h
       go (Known v) true true true em es et eu h =
-          let r = room-got (c .words) (c .numbers) ((hatch caps v) .read (payloadsOf c) (startsOf c)) h in
-          let l = (hatch caps v) .sound (payloadsOf c) a (startsOf c) q (r .0) in
-          let b = body-begins caps v (payloadsOf c) a (startsOf c) q l in
+          let r = room-got (c .words) (c .numbers) ((body v) .read (payloadsOf c) (startsOf c)) h in
+          let l = (body v) .sound (payloadsOf c) a (startsOf c) q (r .0) in
+          let b = body-begins (c .caps) (c .handles) v (payloadsOf c) a (startsOf c) q l in
           record {
             version = v;
             known = em;
@@ -94,36 +100,36 @@ module _ (caps : Caps) (c : Call) where
             numbers-fit = r .2;
           }
 
-  complete : (a : Body) (q : Places) → HatchLaid caps c a q → hatchCall caps c ≡ got a q
-  unfolding hatchCall hatch relay
+  complete : (a : Body) (q : Places) → HatchLaid c a q → hatchCall c ≡ got a q
+  unfolding callOn hatch relay
   complete a q l =
-      let e = (hatch caps (l .version)) .complete (payloadsOf c) a (startsOf c) q (l .laid) in
+      let e = (body (l .version)) .complete (payloadsOf c) a (startsOf c) q (l .laid) in
       rw (l .known, le-leb _ _ (l .main-within), le-leb _ _ (l .string-within), le-leb _ _ (l .string-start))
       (ap (roomFor (c .words) (c .numbers)) e ∙ rw (le-leb _ _ (l .words-fit), le-leb _ _ (l .numbers-fit), roomFor))
 
   -- "gives a reading exactly when ..": the reading is what was laid out, and the final places are where the layout ends
-  pub read-iff-laid : (a : Body) (q : Places) → hatchCall caps c ≡ got a q ↔ HatchLaid caps c a q
+  pub read-iff-laid : (a : Body) (q : Places) → hatchCall c ≡ got a q ↔ HatchLaid c a q
   read-iff-laid a q = (sound a q, complete a q)
 
   -- what is laid out from the starts is one body, and ends at one pair of places
-  pub laid-once : (a b : Body) (q r : Places) → HatchLaid caps c a q → HatchLaid caps c b r → (a ≡ b) × (q ≡ r)
+  pub laid-once : (a b : Body) (q r : Places) → HatchLaid c a q → HatchLaid c b r → (a ≡ b) × (q ≡ r)
   laid-once a b q r l m =
       let h = complete a q l in
       let k = complete b r m in
       (cc, cc)
 
   -- "every other hatch call is refused": there is a layout and its reading, or a refusal and no layout
-  pub data Fate : Type 0 where
-    reading : (a : Body) (q : Places) → HatchLaid caps c a q → hatchCall caps c ≡ got a q → Fate
-    refusal : (n : Refusal) (q : Places) → hatchCall caps c ≡ refused n q → ((a : Body) (r : Places) → HatchLaid caps c a r → ⊥) → Fate
+  pub data ReadOrRefused : Type 0 where
+    reading : (a : Body) (q : Places) → HatchLaid c a q → hatchCall c ≡ got a q → ReadOrRefused
+    refusal : (n : Refusal) (q : Places) → hatchCall c ≡ refused n q → ((a : Body) (r : Places) → HatchLaid c a r → ⊥) → ReadOrRefused
 
-  pub refused-none : (n : Refusal) (q : Places) → hatchCall caps c ≡ refused n q → (a : Body) (r : Places) → HatchLaid caps c a r → ⊥
+  pub refused-none : (n : Refusal) (q : Places) → hatchCall c ≡ refused n q → (a : Body) (r : Places) → HatchLaid c a r → ⊥
   refused-none n q e a r l = never (sym e ∙ complete a r l)
 
-  pub fate : Fate
-  fate = go (hatchCall caps c) refl
+  pub read-or-refused : ReadOrRefused
+  read-or-refused = go (hatchCall c) refl
     where
-      go : (o : Out Places Body) → hatchCall caps c ≡ o → Fate
+      go : (o : Out Places Body) → hatchCall c ≡ o → ReadOrRefused
       go (got a q) e = reading a q (sound a q e) e
       go (refused n q) e = refusal n q e (refused-none n q e)
 
@@ -134,8 +140,8 @@ module _ (caps : Caps) (c : Call) where
     pub string-onward : startsOf c .string ≤ size (payloadsOf c .string) → startsOf c .string ≤ q .string
     pub string-inside : q .string ≤ max (startsOf c .string) (size (payloadsOf c .string))
 
-  pub final-places : FinalPlaces (place (hatchCall caps c))
-  unfolding hatchCall
+  pub final-places : FinalPlaces (place (hatchCall c))
+  unfolding callOn
   final-places =
       go (versionOf (c .release)) (leb (length (c .main)) limit) (leb (length (payloadsOf c .string)) limit)
       (leb (startsOf c .string) (size (payloadsOf c .string)))
@@ -149,15 +155,16 @@ module _ (caps : Caps) (c : Call) where
       past : FinalPlaces (record { main = c .start; string = size (payloadsOf c .string) })
       past = record { main = stay (c .main) (c .start); string-onward = λ h. h; string-inside = omega arith }
 
-      go : (m : MaybeVersion) (s t u : Bool) → FinalPlaces (place (callBy caps c m s t u))
+      go : (m : MaybeVersion) (s t u : Bool) → FinalPlaces (place (by m s t u))
       go Unknown s t u = still
       go (Known v) false t u = still
       go (Known v) true false u = still
       go (Known v) true true false = past
       go (Known v) true true true =
-          rw (room-place (c .words) (c .numbers) ((hatch caps v) .read (payloadsOf c) (startsOf c))) (from _ ((hatch caps v) .grows (payloadsOf c) (startsOf c)))
+          rw (room-place (c .words) (c .numbers) ((body v) .read (payloadsOf c) (startsOf c))) (from _ ((body v) .grows (payloadsOf c) (startsOf c)))
 
--- "two hatch calls alike in release, start bits, reader or none, its end bit, payload lengths, list lengths and every bit before" the places q
+-- "two hatch calls alike in release, start bits, reader or none, its end bit, payload lengths, list lengths and every bit before" the places q;
+-- and in their caps, and in where their handles lie
 pub data AlikeStrings : Strings → Strings → ℕ → Type 0 where
   both-none : {n : ℕ} → AlikeStrings none none n
   both-lent : {xs ys : List ℕ} {start end n : ℕ} → Alike xs ys n → AlikeStrings (lent xs start end) (lent ys start end) n
@@ -165,6 +172,8 @@ pub data AlikeStrings : Strings → Strings → ℕ → Type 0 where
 pub record AlikeCalls (c d : Call) (q : Places) : Type 0 where
   pub release : d .release ≡ c .release
   pub start : d .start ≡ c .start
+  pub caps : d .caps ≡ c .caps
+  pub handles : d .handles ≡ c .handles
   pub words : d .words ≡ c .words
   pub numbers : d .numbers ≡ c .numbers
   pub main : Alike (c .main) (d .main) (q .main)
@@ -187,7 +196,7 @@ module _ {n : ℕ} where
   alike-bytes both-none = record { lengths = refl; bits = λ i h. refl }
   alike-bytes (both-lent h) = h
 
-module _ (caps : Caps) (c d : Call) where
+module _ (c d : Call) where
   module _ {q : Places} (h : AlikeCalls c d q) where
     same-starts : startsOf d ≡ startsOf c
     same-starts = λ i. record { main = h .start i; string = same-start (h .strings) i }
@@ -198,24 +207,24 @@ module _ (caps : Caps) (c d : Call) where
     agree : Agree (payloadsOf c) (payloadsOf d) q
     agree = record { main = h .main; string = alike-bytes (h .strings); reader = same-lent (h .strings); end = same-end (h .strings) }
 
-  by-tests : (m : MaybeVersion) (s t u : Bool) → AlikeCalls c d (place (callBy caps c m s t u)) → callBy caps d m s t u ≡ callBy caps c m s t u
+  by-tests : (m : MaybeVersion) (s t u : Bool) → AlikeCalls c d (place (by c m s t u)) → by d m s t u ≡ by c m s t u
   by-tests Unknown s t u h = ap (refused UnknownRelease) (same-starts h)
   by-tests (Known v) false t u h = ap (refused PayloadTooLong) (same-starts h)
   by-tests (Known v) true false u h = ap (refused PayloadTooLong) (same-starts h)
   by-tests (Known v) true true false h =
       ap₂ (λ (m n : ℕ). refused TooFewBits (record { main = m; string = 8 * n })) (h .start) (same-length h)
   by-tests (Known v) true true true h =
-      let o = (hatch caps v) .read (payloadsOf c) (startsOf c) in
+      let o = (body c v) .read (payloadsOf c) (startsOf c) in
       let k : AlikeCalls c d (place o) = subst (AlikeCalls c d) (room-place (c .words) (c .numbers) o) h in
-      let f : (hatch caps v) .read (payloadsOf d) (startsOf d) ≡ o =
-      ap ((hatch caps v) .read (payloadsOf d)) (same-starts h) ∙ (hatch caps v) .frame (payloadsOf c) (payloadsOf d) (startsOf c) (agree k) in
-      rw (h .words, h .numbers) (ap (roomFor (c .words) (c .numbers)) f)
+      let f : (body c v) .read (payloadsOf d) (startsOf d) ≡ o =
+      ap ((body c v) .read (payloadsOf d)) (same-starts h) ∙ (body c v) .frame (payloadsOf c) (payloadsOf d) (startsOf c) (agree k) in
+      rw (h .caps, h .handles, h .words, h .numbers) (ap (roomFor (c .words) (c .numbers)) f)
 
   -- ".. give the same reading or the same refusal, and the same final places"
-  pub alike-same : AlikeCalls c d (place (hatchCall caps c)) → hatchCall caps d ≡ hatchCall caps c
-  unfolding hatchCall
+  pub alike-same : AlikeCalls c d (place (hatchCall c)) → hatchCall d ≡ hatchCall c
+  unfolding callOn
   alike-same h =
-      (λ i. callBy caps d (versionOf (h .release i)) (leb (h .main .lengths i) limit) (leb (same-length h i) limit)
+      (λ i. by d (versionOf (h .release i)) (leb (h .main .lengths i) limit) (leb (same-length h i) limit)
       (leb (same-start (h .strings) i) (8 * same-length h i)))
       ∙ (by-tests (versionOf (c .release)) (leb (length (c .main)) limit) (leb (length (payloadsOf c .string)) limit)
       (leb (startsOf c .string) (size (payloadsOf c .string))) h)

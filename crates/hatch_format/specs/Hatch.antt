@@ -11,6 +11,7 @@ use Rattle.text.specs.declared.version.Version.{Version}
 use Rattle.text.specs.Releases.{releaseNumber}
 use Rattle.text.specs.TextField.{TV-field}
 use Rattle.hatch_format.specs.declared.Caps.{Caps}
+use Rattle.hatch_format.specs.HandleRule.{Handles}
 use Rattle.hatch_format.specs.Values.{Plane, Body}
 use Rattle.hatch_format.specs.Layouts.{PlaneLaid, BodyLaid}
 use Rattle.hatch_format.specs.Patterns.{rest}
@@ -39,25 +40,25 @@ unfoldable pub plane : Format one Plane
 plane = relay plane-read PlaneLaid plane-to plane-from
 
 -- ---- the body
-module _ (caps : Caps) (v : Version) where
+module _ (caps : Caps) (handles : Handles) (v : Version) where
   unfoldable pub hatch-read : Format both Body
   hatch-read = do
     fill ← gradient (caps .colors) v (leb 3 (releaseNumber v))
     a ← within main plane
     name ← TV-field v
-    b ← within main (rest caps v)
+    b ← within main (rest caps handles v)
     pure (record { gradient = fill; plane = a; name = name; rest = b })
 
-  pub hatch-to : (γ : Payloads) (a : Body) (p q : Places) → hatch-read .lays γ a p q → BodyLaid caps v γ a p q
+  pub hatch-to : (γ : Payloads) (a : Body) (p q : Places) → hatch-read .lays γ a p q → BodyLaid caps handles v γ a p q
   unfolding hatch-read gradient plane rest within TV-field relay _>>=_ pure
   hatch-to γ a p q l =
       let e = l .3 .3 .3 .3 in
       rw (e .0, e .1) (l .1, l .2, (l .3 .1, l .3 .2, (l .3 .3 .1, l .3 .3 .2, l .3 .3 .3 .2)))
 
-  pub hatch-from : (γ : Payloads) (a : Body) (p q : Places) → BodyLaid caps v γ a p q → hatch-read .lays γ a p q
+  pub hatch-from : (γ : Payloads) (a : Body) (p q : Places) → BodyLaid caps handles v γ a p q → hatch-read .lays γ a p q
   unfolding hatch-read gradient plane rest within TV-field relay _>>=_ pure
   hatch-from γ a p q l =
       (a .gradient, l .0, l .1, (a .plane, l .2 .0, l .2 .1, (a .name, l .2 .2 .0, l .2 .2 .1, (a .rest, q, l .2 .2 .2, (refl, refl)))))
 
   unfoldable pub hatch : Format both Body
-  hatch = relay hatch-read (BodyLaid caps v) hatch-to hatch-from
+  hatch = relay hatch-read (BodyLaid caps handles v) hatch-to hatch-from

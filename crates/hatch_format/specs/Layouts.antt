@@ -3,7 +3,7 @@
 use mathlib.Core.Path.{_≡_}
 use mathlib.Core.Bool.{Bool, true, false}
 use mathlib.Core.List.{List, [], _∷_}
-use Prim.Native.Nat.{ℕ, _-_, _≤_, _<_}
+use Prim.Native.Nat.{ℕ, _+_, _-_, _≤_, _<_}
 use lib.Dec.{leb}
 use lib.ListN.{length}
 use Rattle.bitcursor.specs.Bits.{size}
@@ -19,7 +19,8 @@ use Rattle.text.specs.Releases.{releaseNumber}
 use Rattle.text.specs.TextField.{TextLaid}
 use Rattle.hatch_format.specs.declared.Caps.{Caps}
 use Rattle.hatch_format.specs.declared.GradientColorBits.{GradientColorBits}
-use Rattle.hatch_format.specs.Values.{Point, Vertex, Arc, Ellipse, Fits, unfitted, fitted, Spline, Edge, line, arc, ellipse, spline, Segments, polyline, edges, Path, polylined, derived, PatternLine, Pattern, no-pattern, Block, Gradient, no-gradient, shown, Plane, Ending, Tail, Rest, Body}
+use Rattle.hatch_format.specs.HandleRule.{Handles, in-payload, in-stream}
+use Rattle.hatch_format.specs.Values.{Point, Vertex, Arc, Ellipse, Fits, unfitted, fitted, Spline, Edge, line, arc, ellipse, spline, Segments, polyline, edges, Path, polylined, derived, addHandles, PatternLine, Pattern, no-pattern, Block, Gradient, no-gradient, shown, Plane, Ending, Tail, Rest, Body}
 
 -- ---- how layouts are put together
 infixr 5 _⨾_
@@ -31,10 +32,14 @@ _⨾_ {P} L M p q = (r : P) × L p r × M r q
 abbrev pub Nothing : {P : Type 0} → P → P → Type 0
 Nothing p q = q ≡ p
 
+-- the items of a list one behind the other, each by a running sum of those before it
+abbrev pub EachBy : {A S P : Type 0} → (S → A → P → P → Type 0) → (S → A → S) → S → List A → P → P → Type 0
+EachBy L add s [] = Nothing
+EachBy L add s (a ∷ items) = L s a ⨾ EachBy L add (add s a) items
+
 -- the items of a list one behind the other
 abbrev pub Each : {A P : Type 0} → (A → P → P → Type 0) → List A → P → P → Type 0
-Each L [] = Nothing
-Each L (a ∷ items) = L a ⨾ Each L items
+Each L = EachBy (λ (s : Unit {0}). L) (λ s a. s) tt
 
 -- ---- of one payload
 module _ (xs : List ℕ) where
@@ -51,6 +56,9 @@ module _ (xs : List ℕ) where
   Bounded cap c n p q = Count cap c n p q × (n ≤ size xs - q)
 
   -- a count and exactly that many items
+  abbrev pub ListedBy : {A S : Type 0} → ℕ → Code ℕ → (S → A → ℕ → ℕ → Type 0) → (S → A → S) → S → List A → ℕ → ℕ → Type 0
+  ListedBy cap c L add s items = Count cap c (length items) ⨾ EachBy L add s items
+
   abbrev pub Listed : {A : Type 0} → ℕ → Code ℕ → (A → ℕ → ℕ → Type 0) → List A → ℕ → ℕ → Type 0
   Listed cap c L items = Count cap c (length items) ⨾ Each L items
 
@@ -98,10 +106,16 @@ module _ (xs : List ℕ) where
   SegmentsLaid caps v true (edges es) = λ p q. ⊥
   SegmentsLaid caps v false (polyline bulge closed vertices) = λ p q. ⊥
 
-  -- the handles are not here, so it must be said of their count that it is not above the bits after it
-  abbrev pub PathLaid : Caps → Version → Path → ℕ → ℕ → Type 0
-  PathLaid caps v a =
-      Coded BL (a .flags) ⨾ SegmentsLaid caps v (polylined (a .flags)) (a .segments) ⨾ Bounded (caps .«boundary_handles») BL (a .boundary-handles)
+  -- a path's handle count; `sum` is that of the paths before it. The handles are not here, so where they lie in the payload it must be said
+  -- of their count that it is not above the bits after it
+  abbrev pub HandlesLaid : ℕ → Handles → ℕ → ℕ → ℕ → ℕ → Type 0
+  HandlesLaid cap in-payload sum n = Bounded cap BL n
+  HandlesLaid cap (in-stream number) sum n = λ p q. Count cap BL n p q × (sum + n ≤ number)
+
+  abbrev pub PathLaid : Caps → Handles → Version → ℕ → Path → ℕ → ℕ → Type 0
+  PathLaid caps handles v sum a =
+      Coded BL (a .flags) ⨾ SegmentsLaid caps v (polylined (a .flags)) (a .segments)
+      ⨾ HandlesLaid (caps .«boundary_handles») handles sum (a .boundary-handles)
 
   abbrev pub LineLaid : ℕ → PatternLine → ℕ → ℕ → Type 0
   LineLaid cap a =
@@ -122,9 +136,9 @@ module _ (xs : List ℕ) where
   TailLaid caps solid pixel a =
       Coded BS (a .pattern-style) ⨾ Coded BS (a .pattern-type) ⨾ PatternLaid caps solid (a .pattern) ⨾ EndingLaid caps pixel (a .ending)
 
-  abbrev pub RestLaid : Caps → Version → Rest → ℕ → ℕ → Type 0
-  RestLaid caps v a =
-      Coded B (a .solid) ⨾ Coded B (a .associative) ⨾ Listed (caps .paths) BL (PathLaid caps v) (a .paths)
+  abbrev pub RestLaid : Caps → Handles → Version → Rest → ℕ → ℕ → Type 0
+  RestLaid caps handles v a =
+      Coded B (a .solid) ⨾ Coded B (a .associative) ⨾ ListedBy (caps .paths) BL (PathLaid caps handles v) addHandles 0 (a .paths)
       ⨾ TailLaid caps (a .solid) (derived (a .paths)) (a .tail)
 
   abbrev pub PlaneLaid : Plane → ℕ → ℕ → Type 0
@@ -150,7 +164,7 @@ GradientLaid cap v true γ a p q =
     (b : Block) × (name : Text) × (InMain (λ xs. BlockLaid xs cap) γ b ⨾ TextLaid v γ name) p q × (a ≡ shown b name)
 GradientLaid cap v false γ a p q = (a ≡ no-gradient) × Nothing p q
 
-abbrev pub BodyLaid : Caps → Version → Payloads → Body → Places → Places → Type 0
-BodyLaid caps v γ a =
+abbrev pub BodyLaid : Caps → Handles → Version → Payloads → Body → Places → Places → Type 0
+BodyLaid caps handles v γ a =
     GradientLaid (caps .colors) v (leb 3 (releaseNumber v)) γ (a .gradient)
-    ⨾ InMain PlaneLaid γ (a .plane) ⨾ TextLaid v γ (a .name) ⨾ InMain (λ xs. RestLaid xs caps v) γ (a .rest)
+    ⨾ InMain PlaneLaid γ (a .plane) ⨾ TextLaid v γ (a .name) ⨾ InMain (λ xs. RestLaid xs caps handles v) γ (a .rest)

@@ -1,4 +1,5 @@
 pub mod Caps
+pub mod HandleRule
 pub mod Values
 pub mod Layouts
 pub mod Takes

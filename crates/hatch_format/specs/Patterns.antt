@@ -12,12 +12,13 @@ use Rattle.bitcursor.specs.Inputs.{one}
 use Rattle.bitcursor.specs.Fields.{coded}
 use Rattle.text.specs.declared.version.Version.{Version}
 use Rattle.hatch_format.specs.declared.Caps.{Caps}
+use Rattle.hatch_format.specs.HandleRule.{Handles}
 use Rattle.hatch_format.specs.Values.{Point, Path, derived, PatternLine, Pattern, no-pattern, Ending, Tail, Rest}
 use Rattle.hatch_format.specs.Layouts.{LineLaid, PatternLaid, EndingLaid, TailLaid, RestLaid}
 use Rattle.hatch_format.specs.Takes.{Takes, takes-less, takes-first, takes-BD}
-use Rattle.hatch_format.specs.Counts.{listed}
+use Rattle.hatch_format.specs.Counts.{listed, listed-by}
 use Rattle.hatch_format.specs.Points.{point, takes-point}
-use Rattle.hatch_format.specs.Paths.{path, takes-path}
+use Rattle.hatch_format.specs.Paths.{path, paths}
 
 pub takes-bit-BD : Takes 1 (coded BD)
 takes-bit-BD = takes-less 1 2 (coded BD) (omega arith) takes-BD
@@ -143,25 +144,25 @@ module _ (caps : Caps) where
   tail solid has = relay (tail-read solid has) (λ xs. TailLaid xs caps solid has) (tail-to solid has) (tail-from solid has)
 
 -- ---- B solid, B associative, paths, and what follows them
-module _ (caps : Caps) (v : Version) where
+module _ (caps : Caps) (handles : Handles) (v : Version) where
   unfoldable pub rest-read : Format one Rest
   rest-read = do
     solid ← coded B
     associative ← coded B
-    paths ← listed (caps .paths) BL (path caps v) (takes-path caps v)
-    a ← tail caps solid (derived paths)
-    pure (record { solid = solid; associative = associative; paths = paths; tail = a })
+    outlines ← paths caps handles v
+    a ← tail caps solid (derived outlines)
+    pure (record { solid = solid; associative = associative; paths = outlines; tail = a })
 
-  pub rest-to : (xs : List ℕ) (a : Rest) (p q : ℕ) → rest-read .lays xs a p q → RestLaid xs caps v a p q
-  unfolding rest-read listed path tail relay _>>=_ pure
+  pub rest-to : (xs : List ℕ) (a : Rest) (p q : ℕ) → rest-read .lays xs a p q → RestLaid xs caps handles v a p q
+  unfolding rest-read paths path listed-by tail relay _>>=_ pure
   rest-to xs a p q l =
       let e = l .3 .3 .3 .3 in
       rw (e .0, e .1) (l .1, l .2, (l .3 .1, l .3 .2, (l .3 .3 .1, l .3 .3 .2, l .3 .3 .3 .2)))
 
-  pub rest-from : (xs : List ℕ) (a : Rest) (p q : ℕ) → RestLaid xs caps v a p q → rest-read .lays xs a p q
-  unfolding rest-read listed path tail relay _>>=_ pure
+  pub rest-from : (xs : List ℕ) (a : Rest) (p q : ℕ) → RestLaid xs caps handles v a p q → rest-read .lays xs a p q
+  unfolding rest-read paths path listed-by tail relay _>>=_ pure
   rest-from xs a p q l =
       (a .solid, l .0, l .1, (a .associative, l .2 .0, l .2 .1, (a .paths, l .2 .2 .0, l .2 .2 .1, (a .tail, q, l .2 .2 .2, (refl, refl)))))
 
   unfoldable pub rest : Format one Rest
-  rest = relay rest-read (λ xs. RestLaid xs caps v) rest-to rest-from
+  rest = relay rest-read (λ xs. RestLaid xs caps handles v) rest-to rest-from

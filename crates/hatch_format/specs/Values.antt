@@ -1,7 +1,7 @@
 -- What a hatch body is: its fields as plain data, doubles as their 64 bits. Assumes nothing.
 use mathlib.Core.Bool.{Bool, true, false, _||_}
 use mathlib.Core.List.{List, [], _∷_}
-use Prim.Native.Nat.{ℕ, _/_}
+use Prim.Native.Nat.{ℕ, _+_, _/_}
 use lib.Dec.{eqb}
 use Rattle.text.specs.declared.Text.{Text}
 use Rattle.text.specs.declared.Source.the-variants.{Absent}
@@ -63,6 +63,10 @@ pub record Path : Type 0 where
 -- the value 2 in a path's flags: it is a polyline; the value 4: it comes from a boundary object
 abbrev pub polylined : ℕ → Bool
 polylined flags = odd (flags / 2)
+
+-- the running sum of the paths' handle counts
+abbrev pub addHandles : ℕ → Path → ℕ
+addHandles sum a = sum + a .boundary-handles
 
 abbrev pub derived : List Path → Bool
 derived [] = false

@@ -30,7 +30,7 @@ textOf source w at t = textAt source w (at + t .lead) (length (t .units))
 
 -- the place in a payload
 unfoldable pub here : Payload → Format both ℕ
-here w = peek both (λ γ p. placeIn w p) (λ γ δ p h. refl)
+here w = peek both (λ reader p. placeIn w p)
 
 abbrev pub widthBy : Bool → UnitWidth
 widthBy true = wide
@@ -48,10 +48,10 @@ inline w = do
 
 -- the reader's rule: at or past its end bit empty and unmoved; else a length code, and then length 0 or units that end by the end bit
 unfoldable pub past-end : Format both Bool
-past-end = peek both (λ γ p. leb (γ .end) (p .string)) (λ γ δ p h. rw (h .end))
+past-end = peek both (λ reader p. leb (reader .end) (p .string))
 
 unfoldable pub room-for : ℕ → Format both Bool
-room-for n = peek both (λ γ p. eqb n 0 || leb (p .string + 16 * n) (γ .end)) (λ γ δ p h. rw (h .end))
+room-for n = peek both (λ reader p. eqb n 0 || leb (p .string + 16 * n) (reader .end))
 
 unfoldable pub from-reader : Format both Text
 from-reader = do

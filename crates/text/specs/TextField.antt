@@ -29,7 +29,7 @@ TextLaid v γ = TextBy (γ .reader) v γ
 
 -- ---- its reading
 unfoldable pub lent : Format both Bool
-lent = peek both (λ γ p. γ .reader) (λ γ δ p h. h .reader)
+lent = peek both (λ reader p. reader .lent)
 
 unfoldable pub TV-read : Version → Format both Text
 TV-read v = do

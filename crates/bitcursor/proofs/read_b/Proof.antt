@@ -23,8 +23,11 @@ as-bool-requires c κs = search needs
 returns-2 : tie.Need-returns-2
 unfolding B tabled B-read
 returns-2 c =
-    let a = c .before .before .before .before .args in
-    c .as-bool .ensures ∙ ap boolOf (c .before .read-bits .ensures) ∙ as-bool (raw 1) (now (a .s)) (a .at) ∙ sym (ap asBool (limit-within (B .read) (now (a .s)) (a .at) (omega arith)))
+    let after-read-bits = c .before in
+    let entry = after-read-bits .before .before .before in
+    let a = entry .args in
+    c .as-bool .ensures ∙ ap boolOf (after-read-bits .read-bits .ensures) ∙ as-bool (raw 1) (now (a .s)) (a .at) ∙ sym
+    (ap asBool (limit-within (B .read) (now (a .s)) (a .at) (omega arith)))
 
 pub read-b-spec : {M : Type 1} → statement M
 read-b-spec = tie.close (tie.spec returns read-bits-requires as-bool-requires returns-2)

@@ -21,8 +21,11 @@ as-f64-requires c κs = search needs
 
 returns-2 : tie.Need-returns-2
 returns-2 c =
-    let a = c .before .before .before .before .args in
-    c .as-f64 .ensures ∙ ap f64Of (c .before .read-bd-bits .ensures) ∙ as-f64 BD (now (a .s)) (a .at) ∙ sym (ap asF64 (limit-within (BD .read) (now (a .s)) (a .at) (omega arith)))
+    let after-read-bd-bits = c .before in
+    let entry = after-read-bd-bits .before .before .before in
+    let a = entry .args in
+    c .as-f64 .ensures ∙ ap f64Of (after-read-bd-bits .read-bd-bits .ensures) ∙ as-f64 BD (now (a .s)) (a .at) ∙ sym
+    (ap asF64 (limit-within (BD .read) (now (a .s)) (a .at) (omega arith)))
 
 pub read-bd-spec : {M : Type 1} → statement M
 read-bd-spec = tie.close (tie.spec returns read-bd-bits-requires as-f64-requires returns-2)

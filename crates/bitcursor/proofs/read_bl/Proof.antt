@@ -23,8 +23,11 @@ as-i32-requires c κs = let a = c .before .before .before .args in small (BL) (n
 returns-2 : tie.Need-returns-2
 unfolding signed-BL
 returns-2 c =
-    let a = c .before .before .before .before .args in
-    c .as-i32 .ensures ∙ ap i32Of (c .before .read-bl-u .ensures) ∙ as-i32 (BL) (now (a .s)) (a .at) ∙ sym (ap asI32 (limit-within (signed-BL .read) (now (a .s)) (a .at) (omega arith)))
+    let after-read-bl-u = c .before in
+    let entry = after-read-bl-u .before .before .before in
+    let a = entry .args in
+    c .as-i32 .ensures ∙ ap i32Of (after-read-bl-u .read-bl-u .ensures) ∙ as-i32 (BL) (now (a .s)) (a .at) ∙ sym
+    (ap asI32 (limit-within (signed-BL .read) (now (a .s)) (a .at) (omega arith)))
 
 pub read-bl-spec : {M : Type 1} → statement M
 read-bl-spec = tie.close (tie.spec returns read-bl-u-requires as-i32-requires returns-2)

@@ -23,8 +23,11 @@ as-i16-requires c κs = let a = c .before .before .before .args in small (BS) (n
 returns-2 : tie.Need-returns-2
 unfolding signed-BS
 returns-2 c =
-    let a = c .before .before .before .before .args in
-    c .as-i16 .ensures ∙ ap i16Of (c .before .read-bs-u .ensures) ∙ as-i16 (BS) (now (a .s)) (a .at) ∙ sym (ap asI16 (limit-within (signed-BS .read) (now (a .s)) (a .at) (omega arith)))
+    let after-read-bs-u = c .before in
+    let entry = after-read-bs-u .before .before .before in
+    let a = entry .args in
+    c .as-i16 .ensures ∙ ap i16Of (after-read-bs-u .read-bs-u .ensures) ∙ as-i16 (BS) (now (a .s)) (a .at) ∙ sym
+    (ap asI16 (limit-within (signed-BS .read) (now (a .s)) (a .at) (omega arith)))
 
 pub read-bs-spec : {M : Type 1} → statement M
 read-bs-spec = tie.close (tie.spec returns read-bs-u-requires as-i16-requires returns-2)

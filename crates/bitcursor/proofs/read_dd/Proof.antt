@@ -13,7 +13,8 @@ use Rattle.bitcursor.proofs.read_dd.Statement.{statement}
 use Rattle.bitcursor.proofs.read_dd.Tie as tie
 
 returns : tie.Need-returns
-returns c = let a = c .before .before .args in sym (ap asF64 (limit-above ((DD (toBits binary64 (a .default))) .read) (now (a .s)) (a .at) (omega arith)))
+returns c =
+    let a = c .before .before .args in sym (ap asF64 (limit-above ((DD (toBits binary64 (a .default))) .read) (now (a .s)) (a .at) (omega arith)))
 
 bits-of-requires : tie.Need-bits-of-requires
 bits-of-requires c κs = search needs
@@ -26,9 +27,14 @@ as-f64-requires c κs = search needs
 
 returns-2 : tie.Need-returns-2
 returns-2 c =
-    let a = c .before .before .before .before .before .args in
-    c .as-f64 .ensures ∙ ap f64Of (c .before .read-dd-bits .ensures ∙ ap (λ (d : ℕ). asRead ((DD d) .read (now (a .s)) (a .at))) (c .before .before .bits-of .ensures))
-    ∙ as-f64 (DD (toBits binary64 (a .default))) (now (a .s)) (a .at) ∙ sym (ap asF64 (limit-within ((DD (toBits binary64 (a .default))) .read) (now (a .s)) (a .at) (omega arith)))
+    let after-read-dd-bits = c .before in
+    let after-bits-of = after-read-dd-bits .before in
+    let entry = after-bits-of .before .before .before in
+    let a = entry .args in
+    c .as-f64 .ensures ∙ ap f64Of (after-read-dd-bits .read-dd-bits .ensures ∙ ap (λ (d : ℕ). asRead ((DD d) .read (now (a .s)) (a .at)))
+    (after-bits-of .bits-of .ensures))
+    ∙ as-f64 (DD (toBits binary64 (a .default))) (now (a .s)) (a .at) ∙ sym (ap asF64
+    (limit-within ((DD (toBits binary64 (a .default))) .read) (now (a .s)) (a .at) (omega arith)))
 
 pub read-dd-spec : {M : Type 1} → statement M
 read-dd-spec =

@@ -22,8 +22,11 @@ as-f64-requires c κs = search needs
 returns-2 : tie.Need-returns-2
 unfolding RD
 returns-2 c =
-    let a = c .before .before .before .before .args in
-    c .as-f64 .ensures ∙ ap f64Of (c .before .read-low .ensures) ∙ as-f64 RD (now (a .s)) (a .at) ∙ sym (ap asF64 (limit-within (RD .read) (now (a .s)) (a .at) (omega arith)))
+    let after-read-low = c .before in
+    let entry = after-read-low .before .before .before in
+    let a = entry .args in
+    c .as-f64 .ensures ∙ ap f64Of (after-read-low .read-low .ensures) ∙ as-f64 RD (now (a .s)) (a .at) ∙ sym
+    (ap asF64 (limit-within (RD .read) (now (a .s)) (a .at) (omega arith)))
 
 pub read-rd-spec : {M : Type 1} → statement M
 read-rd-spec = tie.close (tie.spec returns read-low-requires as-f64-requires returns-2)

@@ -24,8 +24,11 @@ as-i16-requires c κs = let a = c .before .before .before .args in small (lowFir
 returns-2 : tie.Need-returns-2
 unfolding RS
 returns-2 c =
-    let a = c .before .before .before .before .args in
-    c .as-i16 .ensures ∙ ap i16Of (c .before .read-low .ensures) ∙ as-i16 (lowFirst 2) (now (a .s)) (a .at) ∙ sym (ap asI16 (limit-within (RS .read) (now (a .s)) (a .at) (omega arith)))
+    let after-read-low = c .before in
+    let entry = after-read-low .before .before .before in
+    let a = entry .args in
+    c .as-i16 .ensures ∙ ap i16Of (after-read-low .read-low .ensures) ∙ as-i16 (lowFirst 2) (now (a .s)) (a .at) ∙ sym
+    (ap asI16 (limit-within (RS .read) (now (a .s)) (a .at) (omega arith)))
 
 pub read-rs-spec : {M : Type 1} → statement M
 read-rs-spec = tie.close (tie.spec returns read-low-requires as-i16-requires returns-2)

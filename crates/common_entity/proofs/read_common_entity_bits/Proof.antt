@@ -2,10 +2,11 @@
 use mathlib.Core.Path.{_≡_, refl, sym, ap, _∙_}
 use native.Mathlib.Omega.{arith}
 use denote.Ref.{now}
+use Rattle.bitcursor.specs.Format.{relay}
 use Rattle.bitcursor.specs.Answers.{limited}
 use Rattle.bitcursor.proofs.Steps.{limit-within, limit-above}
 use Rattle.text.proofs.FieldLaws.{released-known, released-unknown}
-use Rattle.common_entity.specs.Prefix.{prefix, prefixBy}
+use Rattle.common_entity.specs.Format.{prefix}
 use Rattle.common_entity.specs.Call.{asBits, prefixCall}
 use borrow.Author.Needs.{needs}
 use Rattle.common_entity.proofs.read_common_entity_bits.Statement.{statement}
@@ -21,7 +22,7 @@ refused-requires : tie.Need-refused-requires
 refused-requires c κs = search needs
 
 returns : tie.Need-returns
-unfolding prefixCall prefix
+unfolding prefixCall prefix relay
 returns c =
     let a = c .before .before .before .before .before .before .before .args in
     let m = c .before .before .before .v .given in
@@ -40,14 +41,14 @@ refused-requires-2 : tie.Need-refused-requires-2
 refused-requires-2 c κs = search needs
 
 returns-2 : tie.Need-returns-2
-unfolding prefixCall prefix
+unfolding prefixCall prefix relay
 returns-2 c =
     let a = c .before .before .before .before .before .before .before .before .args in
     let m = c .before .before .before .before .v .given in
     c .read-by-row .ensures ∙ rw (c .before .row-of .ensures) (sym (ap asBits (released-known (λ w. limited ((prefix w) .read)) (now (a .s)) (a .start) (sym (c .before .before .before .before .before .before .version-of .ensures) ∙ m .1) ∙ limit-within ((prefix (m .0 .0)) .read) (now (a .s)) (a .start) (omega arith))))
 
 returns-3 : tie.Need-returns-3
-unfolding prefixCall prefix
+unfolding prefixCall prefix relay
 returns-3 c =
     let a = c .before .before .before .before .before .args in
     c .refused2 .ensures ∙ sym (ap asBits (released-unknown (λ w. limited ((prefix w) .read)) (now (a .s)) (a .start) (sym (c .before .before .before .version-of .ensures) ∙ c .before .enum-told .given .1)))

@@ -4,7 +4,7 @@ use mathlib.Core.List.{List, []}
 use denote.Ref.{now}
 use lib.ListN.{length}
 use Rattle.hatch_format.specs.Call.{Call, none, lent}
-use Rattle.hatch_walks.specs.Lists.{lists}
+use Rattle.hatch_points.specs.Lists.{lists}
 use Rattle.hatch_format.specs.declared.Hatch.{Hatch}
 use Rattle.hatch.specs.Calls.{doublesIn}
 use Rattle.hatch.proofs.Filled.{is-call, doubles-then, words-then}

@@ -4,7 +4,7 @@ use mathlib.Core.List.{List, []}
 use denote.Ref.{now}
 use Rattle.hatch_format.specs.Call.{Call, none, lent, hatchCall}
 use Rattle.hatch_format.specs.Caps.{documentCaps}
-use Rattle.hatch_walks.specs.Lists.{lists}
+use Rattle.hatch_points.specs.Lists.{lists}
 use Rattle.hatch.specs.Calls.{lengthsIn, most}
 use Rattle.hatch.proofs.Filled.{is-call, lengths-are}
 use borrow.Author.Needs.{needs}

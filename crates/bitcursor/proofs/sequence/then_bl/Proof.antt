@@ -19,10 +19,14 @@ read-bl-u-requires c κs = search needs
 
 returns : tie.Need-returns
 returns c =
-    let a = c .before .before .before .before .before .before .args in
-    let m = c .before .before .before .prior .given in
+    let then1 = c .before in
+    let after-prior = then1 .before .before in
+    let entry = after-prior .before .before .before in
+    let a = entry .args in
+    let m = after-prior .prior .given in
     c .read-bl-u .ensures
-    ∙ sym (ap (thenRead ((held (a .has) BL (a .absent)) .read (now (a .s)))) (m .1) ∙ ap (λ (d : Code ℕ). asRead (d .read (now (a .s)) (m .0 .1 .0))) (held-yes BL (a .absent) (c .before .if1 .taken)))
+    ∙ sym (ap (thenRead ((held (a .has) BL (a .absent)) .read (now (a .s)))) (m .1) ∙ ap (λ (d : Code ℕ). asRead (d .read (now (a .s)) (m .0 .1 .0)))
+    (held-yes BL (a .absent) (then1 .if1 .taken)))
 
 enum-known-prior-2 : tie.Need-enum-known-prior-2
 enum-known-prior-2 c = search needs
@@ -30,14 +34,19 @@ enum-known-prior-2 c = search needs
 returns-2 : tie.Need-returns-2
 unfolding give
 returns-2 c =
-    let a = c .before .before .before .before .before .args in
-    let m = c .before .before .prior .given in
-    sym (ap (thenRead ((held (a .has) BL (a .absent)) .read (now (a .s)))) (m .1) ∙ ap (λ (d : Code ℕ). asRead (d .read (now (a .s)) (m .0 .1 .0))) (held-no BL (a .absent) (c .if1 .left)))
+    let after-prior = c .before .before in
+    let entry = after-prior .before .before .before in
+    let a = entry .args in
+    let m = after-prior .prior .given in
+    sym (ap (thenRead ((held (a .has) BL (a .absent)) .read (now (a .s)))) (m .1) ∙ ap (λ (d : Code ℕ). asRead (d .read (now (a .s)) (m .0 .1 .0)))
+    (held-no BL (a .absent) (c .if1 .left)))
 
 returns-3 : tie.Need-returns-3
 returns-3 c =
-    let a = c .before .before .before .before .args in
-    sym (ap (thenRead ((held (a .has) BL (a .absent)) .read (now (a .s)))) (c .before .prior2 .given .1))
+    let after-prior2 = c .before in
+    let entry = after-prior2 .before .before .before in
+    let a = entry .args in
+    sym (ap (thenRead ((held (a .has) BL (a .absent)) .read (now (a .s)))) (after-prior2 .prior2 .given .1))
 
 pub then-bl-spec : {M : Type 1} → statement M
 then-bl-spec =

@@ -18,13 +18,17 @@ enum-known-prior-2 c = search needs
 
 returns : tie.Need-returns
 returns c =
-    let a = c .before .before .before .before .before .args in
-    c .read-bs-u .ensures ∙ sym (ap (thenRead (BS .read (now (a .s)))) (c .before .before .prior .given .1))
+    let after-prior = c .before .before in
+    let entry = after-prior .before .before .before in
+    let a = entry .args in
+    c .read-bs-u .ensures ∙ sym (ap (thenRead (BS .read (now (a .s)))) (after-prior .prior .given .1))
 
 returns-2 : tie.Need-returns-2
 returns-2 c =
-    let a = c .before .before .before .before .args in
-    sym (ap (thenRead (BS .read (now (a .s)))) (c .before .prior2 .given .1))
+    let after-prior2 = c .before in
+    let entry = after-prior2 .before .before .before in
+    let a = entry .args in
+    sym (ap (thenRead (BS .read (now (a .s)))) (after-prior2 .prior2 .given .1))
 
 pub then-bs-spec : {M : Type 1} → statement M
 then-bs-spec =

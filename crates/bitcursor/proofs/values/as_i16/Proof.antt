@@ -13,7 +13,10 @@ enum-known-r : tie.Need-enum-known-r
 enum-known-r c = search needs
 
 short-of-requires : tie.Need-short-of-requires
-short-of-requires c κs = subst (Small 16) (c .before .r .given .1) (c .before .before .before .pre)
+short-of-requires c κs =
+    let after-r = c .before in
+    let entry = after-r .before .before in
+    subst (Small 16) (after-r .r .given .1) (entry .pre)
 
 enum-known-r-2 : tie.Need-enum-known-r-2
 enum-known-r-2 c = search needs
@@ -21,7 +24,8 @@ enum-known-r-2 c = search needs
 returns : tie.Need-returns
 returns c =
     let r = c .before .before .r .given in
-    ap (λ (z : ℤ). Value z (r .0 .1 .0)) (toZ-ofZ w16 (c .short-of .result) (record { sfits = c .short-of .ok }) ∙ c .short-of .ensures) ∙ sym (ap i16Of (r .1))
+    ap (λ (z : ℤ). Value z (r .0 .1 .0)) (toZ-ofZ w16 (c .short-of .result) (record { sfits = c .short-of .ok }) ∙ c .short-of .ensures) ∙ sym
+    (ap i16Of (r .1))
 
 returns-2 : tie.Need-returns-2
 returns-2 c = sym (ap i16Of (c .before .r2 .given .1))

@@ -43,7 +43,8 @@ returns-2 c =
     let a = c .before .before .before .before .before .before .args in
     let e : leb (a .counter) 8 ≡ true = le-leb (a .counter) 8 (omega arith) in
     rw (e, checked)
-    (sym (ap asHandle (mapped-got (handle (a .code) (a .counter)) (highFirst (a .counter)) (now (a .s)) (a .at) (read-value _ (c .before .before .before .read-high .ensures) (c .before .v .given .1)))))
+    (sym (ap asHandle (mapped-got (handle (a .code) (a .counter)) (highFirst (a .counter)) (now (a .s)) (a .at)
+    (read-value _ (c .before .before .before .read-high .ensures) (c .before .v .given .1)))))
 
 returns-3 : tie.Need-returns-3
 unfolding HANDLE-value checked
@@ -51,7 +52,8 @@ returns-3 c =
     let a = c .before .before .before .before .before .before .args in
     let e : leb (a .counter) 8 ≡ true = le-leb (a .counter) 8 (omega arith) in
     rw (e, checked)
-    (sym (ap asHandle (mapped-refused (handle (a .code) (a .counter)) (highFirst (a .counter)) (now (a .s)) (a .at) (read-refused _ (c .before .before .before .read-high .ensures) (c .before .k .given .1)))))
+    (sym (ap asHandle (mapped-refused (handle (a .code) (a .counter)) (highFirst (a .counter)) (now (a .s)) (a .at)
+    (read-refused _ (c .before .before .before .read-high .ensures) (c .before .k .given .1)))))
 
 pub handle-value-spec : {M : Type 1} → statement M
 handle-value-spec =

@@ -26,32 +26,53 @@ enum-known-k c = search needs
 returns : tie.Need-returns
 unfolding BD tabled BD-read give refuse
 returns c =
-    let a = c .before .before .before .before .before .before .before .args in
-    c .read-low .ensures ∙ sym (ap asRead (tag-00 (lowFirst 8) (give one-pattern) (give 0) (refuse ReservedTag) (now (a .s)) (a .at) (c .before .before .before .before .before .read-bits .ensures) (c .before .before .before .tag .given .1) (c .before .match2 .keys1)))
+    let at-match2-keys1 = c .before in
+    let after-tag = at-match2-keys1 .before .before in
+    let after-read-bits = after-tag .before .before in
+    let entry = after-read-bits .before .before in
+    let a = entry .args in
+    c .read-low .ensures ∙ sym (ap asRead (tag-00 (lowFirst 8) (give one-pattern) (give 0) (refuse ReservedTag) (now (a .s)) (a .at)
+    (after-read-bits .read-bits .ensures) (after-tag .tag .given .1) (at-match2-keys1 .match2 .keys1)))
 
 returns-2 : tie.Need-returns-2
 unfolding BD tabled BD-read give refuse
 returns-2 c =
-    let a = c .before .before .before .before .before .before .args in
-    sym (ap asRead (tag-01 (lowFirst 8) (give one-pattern) (give 0) (refuse ReservedTag) (now (a .s)) (a .at) (c .before .before .before .before .read-bits .ensures) (c .before .before .tag .given .1) (c .match2 .keys2)))
+    let after-tag = c .before .before in
+    let after-read-bits = after-tag .before .before in
+    let entry = after-read-bits .before .before in
+    let a = entry .args in
+    sym (ap asRead (tag-01 (lowFirst 8) (give one-pattern) (give 0) (refuse ReservedTag) (now (a .s)) (a .at) (after-read-bits .read-bits .ensures)
+    (after-tag .tag .given .1) (c .match2 .keys2)))
 
 returns-3 : tie.Need-returns-3
 unfolding BD tabled BD-read give refuse
 returns-3 c =
-    let a = c .before .before .before .before .before .before .args in
-    sym (ap asRead (tag-10 (lowFirst 8) (give one-pattern) (give 0) (refuse ReservedTag) (now (a .s)) (a .at) (c .before .before .before .before .read-bits .ensures) (c .before .before .tag .given .1) (c .match2 .keys3)))
+    let after-tag = c .before .before in
+    let after-read-bits = after-tag .before .before in
+    let entry = after-read-bits .before .before in
+    let a = entry .args in
+    sym (ap asRead (tag-10 (lowFirst 8) (give one-pattern) (give 0) (refuse ReservedTag) (now (a .s)) (a .at) (after-read-bits .read-bits .ensures)
+    (after-tag .tag .given .1) (c .match2 .keys3)))
 
 returns-4 : tie.Need-returns-4
 unfolding BD tabled BD-read give refuse
 returns-4 c =
-    let a = c .before .before .before .before .before .before .args in
-    sym (ap asRead (tag-11 (lowFirst 8) (give one-pattern) (give 0) (refuse ReservedTag) (now (a .s)) (a .at) (c .before .before .before .before .read-bits .ensures) (c .before .before .tag .given .1) (c .match2 .rest .0 .0 .1) (c .match2 .rest .0 .1) (c .match2 .rest .1)))
+    let after-tag = c .before .before in
+    let after-read-bits = after-tag .before .before in
+    let entry = after-read-bits .before .before in
+    let a = entry .args in
+    sym (ap asRead (tag-11 (lowFirst 8) (give one-pattern) (give 0) (refuse ReservedTag) (now (a .s)) (a .at) (after-read-bits .read-bits .ensures)
+    (after-tag .tag .given .1) (c .match2 .rest .0 .0 .1) (c .match2 .rest .0 .1) (c .match2 .rest .1)))
 
 returns-5 : tie.Need-returns-5
 unfolding BD tabled BD-read give refuse
 returns-5 c =
-    let a = c .before .before .before .before .before .args in
-    sym (ap asRead (tag-none (lowFirst 8) (give one-pattern) (give 0) (refuse ReservedTag) (now (a .s)) (a .at) (c .before .before .before .read-bits .ensures) (c .before .k .given .1)))
+    let after-k = c .before in
+    let after-read-bits = after-k .before .before in
+    let entry = after-read-bits .before .before in
+    let a = entry .args in
+    sym (ap asRead (tag-none (lowFirst 8) (give one-pattern) (give 0) (refuse ReservedTag) (now (a .s)) (a .at) (after-read-bits .read-bits .ensures)
+    (after-k .k .given .1)))
 
 pub read-bd-bits-spec : {M : Type 1} → statement M
 read-bd-bits-spec =

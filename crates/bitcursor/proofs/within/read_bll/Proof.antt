@@ -21,9 +21,12 @@ enum-known-count c = search needs
 
 read-low-requires : tie.Need-read-low-requires
 read-low-requires c κs =
-    let a = c .before .before .before .before .before .args in
-    let h : c .before .count .given .0 .0 < 8 =
-    read-below (raw 3) (raw-below 3) (now (a .s)) (a .at) (read-value _ (c .before .before .before .read-bits .ensures) (c .before .count .given .1)) in
+    let after-count = c .before in
+    let after-read-bits = after-count .before .before in
+    let entry = after-read-bits .before .before in
+    let a = entry .args in
+    let h : after-count .count .given .0 .0 < 8 =
+    read-below (raw 3) (raw-below 3) (now (a .s)) (a .at) (read-value _ (after-read-bits .read-bits .ensures) (after-count .count .given .1)) in
     (omega arith, omega arith)
 
 enum-known-k : tie.Need-enum-known-k
@@ -32,14 +35,21 @@ enum-known-k c = search needs
 returns : tie.Need-returns
 unfolding BLL tabled BLL-read
 returns c =
-    let a = c .before .before .before .before .before .before .args in
-    c .read-low .ensures ∙ sym (ap asRead (then-got (raw 3) lowFirst (now (a .s)) (a .at) (read-value _ (c .before .before .before .before .read-bits .ensures) (c .before .before .count .given .1))))
+    let after-count = c .before .before in
+    let after-read-bits = after-count .before .before in
+    let entry = after-read-bits .before .before in
+    let a = entry .args in
+    c .read-low .ensures ∙ sym (ap asRead (then-got (raw 3) lowFirst (now (a .s)) (a .at)
+    (read-value _ (after-read-bits .read-bits .ensures) (after-count .count .given .1))))
 
 returns-2 : tie.Need-returns-2
 unfolding BLL tabled BLL-read
 returns-2 c =
-    let a = c .before .before .before .before .before .args in
-    sym (ap asRead (then-refused (raw 3) lowFirst (now (a .s)) (a .at) (read-refused _ (c .before .before .before .read-bits .ensures) (c .before .k .given .1))))
+    let after-k = c .before in
+    let after-read-bits = after-k .before .before in
+    let entry = after-read-bits .before .before in
+    let a = entry .args in
+    sym (ap asRead (then-refused (raw 3) lowFirst (now (a .s)) (a .at) (read-refused _ (after-read-bits .read-bits .ensures) (after-k .k .given .1))))
 
 pub read-bll-spec : {M : Type 1} → statement M
 read-bll-spec =

@@ -32,32 +32,56 @@ enum-known-k c = search needs
 returns : tie.Need-returns
 unfolding DD tabled DD-read give
 returns c =
-    let a = c .before .before .before .before .before .before .args in
-    sym (ap asRead (tag-00 (give (a .default)) (four (a .default)) (six (a .default)) (lowFirst 8) (now (a .s)) (a .at) (c .before .before .before .before .read-bits .ensures) (c .before .before .tag .given .1) (c .match2 .keys1)))
+    let after-tag = c .before .before in
+    let after-read-bits = after-tag .before .before in
+    let entry = after-read-bits .before .before in
+    let a = entry .args in
+    sym (ap asRead (tag-00 (give (a .default)) (four (a .default)) (six (a .default)) (lowFirst 8) (now (a .s)) (a .at)
+    (after-read-bits .read-bits .ensures) (after-tag .tag .given .1) (c .match2 .keys1)))
 
 returns-2 : tie.Need-returns-2
 unfolding DD tabled DD-read give
 returns-2 c =
-    let a = c .before .before .before .before .before .before .before .args in
-    c .read-four .ensures ∙ sym (ap asRead (tag-01 (give (a .default)) (four (a .default)) (six (a .default)) (lowFirst 8) (now (a .s)) (a .at) (c .before .before .before .before .before .read-bits .ensures) (c .before .before .before .tag .given .1) (c .before .match2 .keys2)))
+    let at-match2-keys2 = c .before in
+    let after-tag = at-match2-keys2 .before .before in
+    let after-read-bits = after-tag .before .before in
+    let entry = after-read-bits .before .before in
+    let a = entry .args in
+    c .read-four .ensures ∙ sym (ap asRead (tag-01 (give (a .default)) (four (a .default)) (six (a .default)) (lowFirst 8) (now (a .s)) (a .at)
+    (after-read-bits .read-bits .ensures) (after-tag .tag .given .1) (at-match2-keys2 .match2 .keys2)))
 
 returns-3 : tie.Need-returns-3
 unfolding DD tabled DD-read give
 returns-3 c =
-    let a = c .before .before .before .before .before .before .before .args in
-    c .read-six .ensures ∙ sym (ap asRead (tag-10 (give (a .default)) (four (a .default)) (six (a .default)) (lowFirst 8) (now (a .s)) (a .at) (c .before .before .before .before .before .read-bits .ensures) (c .before .before .before .tag .given .1) (c .before .match2 .keys3)))
+    let at-match2-keys3 = c .before in
+    let after-tag = at-match2-keys3 .before .before in
+    let after-read-bits = after-tag .before .before in
+    let entry = after-read-bits .before .before in
+    let a = entry .args in
+    c .read-six .ensures ∙ sym (ap asRead (tag-10 (give (a .default)) (four (a .default)) (six (a .default)) (lowFirst 8) (now (a .s)) (a .at)
+    (after-read-bits .read-bits .ensures) (after-tag .tag .given .1) (at-match2-keys3 .match2 .keys3)))
 
 returns-4 : tie.Need-returns-4
 unfolding DD tabled DD-read give
 returns-4 c =
-    let a = c .before .before .before .before .before .before .before .args in
-    c .read-low .ensures ∙ sym (ap asRead (tag-11 (give (a .default)) (four (a .default)) (six (a .default)) (lowFirst 8) (now (a .s)) (a .at) (c .before .before .before .before .before .read-bits .ensures) (c .before .before .before .tag .given .1) (c .before .match2 .rest .0 .0 .1) (c .before .match2 .rest .0 .1) (c .before .match2 .rest .1)))
+    let at-match2-rest = c .before in
+    let after-tag = at-match2-rest .before .before in
+    let after-read-bits = after-tag .before .before in
+    let entry = after-read-bits .before .before in
+    let a = entry .args in
+    c .read-low .ensures ∙ sym (ap asRead (tag-11 (give (a .default)) (four (a .default)) (six (a .default)) (lowFirst 8) (now (a .s)) (a .at)
+    (after-read-bits .read-bits .ensures) (after-tag .tag .given .1) (at-match2-rest .match2 .rest .0 .0 .1) (at-match2-rest .match2 .rest .0 .1)
+    (at-match2-rest .match2 .rest .1)))
 
 returns-5 : tie.Need-returns-5
 unfolding DD tabled DD-read give
 returns-5 c =
-    let a = c .before .before .before .before .before .args in
-    sym (ap asRead (tag-none (give (a .default)) (four (a .default)) (six (a .default)) (lowFirst 8) (now (a .s)) (a .at) (c .before .before .before .read-bits .ensures) (c .before .k .given .1)))
+    let after-k = c .before in
+    let after-read-bits = after-k .before .before in
+    let entry = after-read-bits .before .before in
+    let a = entry .args in
+    sym (ap asRead (tag-none (give (a .default)) (four (a .default)) (six (a .default)) (lowFirst 8) (now (a .s)) (a .at)
+    (after-read-bits .read-bits .ensures) (after-k .k .given .1)))
 
 pub read-dd-bits-spec : {M : Type 1} → statement M
 read-dd-bits-spec =

@@ -23,9 +23,12 @@ mul-top c = search needs
 
 add-t11 : tie.Need-add-t11
 add-t11 c =
-    let a = c .before .before .before .before .before .args in
-    let h : c .before .low .given .0 .0 < 2 ^ 32 =
-    read-below (lowFirst 4) (low-below 4) (now (a .s)) (a .at) (read-value _ (c .before .before .before .read-low .ensures) (c .before .low .given .1)) in
+    let after-low = c .before in
+    let after-read-low = after-low .before .before in
+    let entry = after-read-low .before .before in
+    let a = entry .args in
+    let h : after-low .low .given .0 .0 < 2 ^ 32 =
+    read-below (lowFirst 4) (low-below 4) (now (a .s)) (a .at) (read-value _ (after-read-low .read-low .ensures) (after-low .low .given .1)) in
     omega arith
 
 enum-known-k : tie.Need-enum-known-k
@@ -34,14 +37,22 @@ enum-known-k c = search needs
 returns : tie.Need-returns
 unfolding four
 returns c =
-    let a = c .before .before .before .before .before .args in
-    sym (ap asRead (mapped-got (low4 (a .default)) (lowFirst 4) (now (a .s)) (a .at) (read-value _ (c .before .before .before .read-low .ensures) (c .before .low .given .1))))
+    let after-low = c .before in
+    let after-read-low = after-low .before .before in
+    let entry = after-read-low .before .before in
+    let a = entry .args in
+    sym (ap asRead (mapped-got (low4 (a .default)) (lowFirst 4) (now (a .s)) (a .at)
+    (read-value _ (after-read-low .read-low .ensures) (after-low .low .given .1))))
 
 returns-2 : tie.Need-returns-2
 unfolding four
 returns-2 c =
-    let a = c .before .before .before .before .before .args in
-    sym (ap asRead (mapped-refused (low4 (a .default)) (lowFirst 4) (now (a .s)) (a .at) (read-refused _ (c .before .before .before .read-low .ensures) (c .before .k .given .1))))
+    let after-k = c .before in
+    let after-read-low = after-k .before .before in
+    let entry = after-read-low .before .before in
+    let a = entry .args in
+    sym (ap asRead (mapped-refused (low4 (a .default)) (lowFirst 4) (now (a .s)) (a .at)
+    (read-refused _ (after-read-low .read-low .ensures) (after-k .k .given .1))))
 
 pub read-four-spec : {M : Type 1} → statement M
 read-four-spec =

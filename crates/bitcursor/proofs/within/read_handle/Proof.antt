@@ -26,11 +26,17 @@ enum-known-counter c = search needs
 
 handle-value-requires : tie.Need-handle-value-requires
 handle-value-requires c κs =
-    let a = c .before .before .before .before .before .before .before .before .before .args in
-    let m = c .before .before .before .before .before .code .given in
-    let h : m .0 .0 < 16 = read-below (raw 4) (raw-below 4) (now (a .s)) (a .at) (read-value _ (c .before .before .before .before .before .before .before .read-bits .ensures) (m .1)) in
-    let k : c .before .counter .given .0 .0 < 16 =
-    read-below (raw 4) (raw-below 4) (now (a .s)) (m .0 .1 .0) (read-value _ (c .before .before .before .read-bits2 .ensures) (c .before .counter .given .1)) in
+    let after-counter = c .before in
+    let after-read-bits2 = after-counter .before .before in
+    let after-code = after-read-bits2 .before .before in
+    let after-read-bits = after-code .before .before in
+    let entry = after-read-bits .before .before in
+    let a = entry .args in
+    let m = after-code .code .given in
+    let h : m .0 .0 < 16 = read-below (raw 4) (raw-below 4) (now (a .s)) (a .at) (read-value _ (after-read-bits .read-bits .ensures) (m .1)) in
+    let k : after-counter .counter .given .0 .0 < 16 =
+    read-below (raw 4) (raw-below 4) (now (a .s)) (m .0 .1 .0) (read-value _ (after-read-bits2 .read-bits2 .ensures)
+    (after-counter .counter .given .1)) in
     (omega arith, (h, k))
 
 enum-known-k : tie.Need-enum-known-k
@@ -42,25 +48,43 @@ enum-known-k-2 c = search needs
 returns : tie.Need-returns
 unfolding HANDLE tabled HANDLE-read
 returns c =
-    let a = c .before .before .before .before .before .before .before .before .before .before .args in
-    let m = c .before .before .before .before .before .before .code .given in
+    let after-counter = c .before .before in
+    let after-read-bits2 = after-counter .before .before in
+    let after-code = after-read-bits2 .before .before in
+    let after-read-bits = after-code .before .before in
+    let entry = after-read-bits .before .before in
+    let a = entry .args in
+    let m = after-code .code .given in
     c .handle-value .ensures
-    ∙ sym (ap asHandle (then-got (raw 4) (λ code. raw 4 >>= HANDLE-value code) (now (a .s)) (a .at) (read-value _ (c .before .before .before .before .before .before .before .before .read-bits .ensures) (c .before .before .before .before .before .before .code .given .1))
-    ∙ then-got (raw 4) (HANDLE-value (m .0 .0)) (now (a .s)) (m .0 .1 .0) (read-value _ (c .before .before .before .before .read-bits2 .ensures) (c .before .before .counter .given .1))))
+    ∙ sym (ap asHandle (then-got (raw 4) (λ code. raw 4 >>= HANDLE-value code) (now (a .s)) (a .at)
+    (read-value _ (after-read-bits .read-bits .ensures) (after-code .code .given .1))
+    ∙ then-got (raw 4) (HANDLE-value (m .0 .0)) (now (a .s)) (m .0 .1 .0) (read-value _ (after-read-bits2 .read-bits2 .ensures)
+    (after-counter .counter .given .1))))
 
 returns-2 : tie.Need-returns-2
 unfolding HANDLE tabled HANDLE-read
 returns-2 c =
-    let a = c .before .before .before .before .before .before .before .before .before .args in
-    let m = c .before .before .before .before .before .code .given in
-    sym (ap asHandle (then-got (raw 4) (λ code. raw 4 >>= HANDLE-value code) (now (a .s)) (a .at) (read-value _ (c .before .before .before .before .before .before .before .read-bits .ensures) (c .before .before .before .before .before .code .given .1))
-    ∙ then-refused (raw 4) (HANDLE-value (m .0 .0)) (now (a .s)) (m .0 .1 .0) (read-refused _ (c .before .before .before .read-bits2 .ensures) (c .before .k .given .1))))
+    let after-k = c .before in
+    let after-read-bits2 = after-k .before .before in
+    let after-code = after-read-bits2 .before .before in
+    let after-read-bits = after-code .before .before in
+    let entry = after-read-bits .before .before in
+    let a = entry .args in
+    let m = after-code .code .given in
+    sym (ap asHandle (then-got (raw 4) (λ code. raw 4 >>= HANDLE-value code) (now (a .s)) (a .at)
+    (read-value _ (after-read-bits .read-bits .ensures) (after-code .code .given .1))
+    ∙ then-refused (raw 4) (HANDLE-value (m .0 .0)) (now (a .s)) (m .0 .1 .0)
+    (read-refused _ (after-read-bits2 .read-bits2 .ensures) (after-k .k .given .1))))
 
 returns-3 : tie.Need-returns-3
 unfolding HANDLE tabled HANDLE-read
 returns-3 c =
-    let a = c .before .before .before .before .before .args in
-    sym (ap asHandle (then-refused (raw 4) (λ code. raw 4 >>= HANDLE-value code) (now (a .s)) (a .at) (read-refused _ (c .before .before .before .read-bits .ensures) (c .before .k2 .given .1))))
+    let after-k2 = c .before in
+    let after-read-bits = after-k2 .before .before in
+    let entry = after-read-bits .before .before in
+    let a = entry .args in
+    sym (ap asHandle (then-refused (raw 4) (λ code. raw 4 >>= HANDLE-value code) (now (a .s)) (a .at)
+    (read-refused _ (after-read-bits .read-bits .ensures) (after-k2 .k2 .given .1))))
 
 pub read-handle-spec : {M : Type 1} → statement M
 read-handle-spec =

@@ -28,8 +28,11 @@ enum-known-p c = search needs
 
 low-at-requires : tie.Need-low-at-requires
 low-at-requires c κs =
-    let a = c .before .before .before .before .before .before .args in
-    let t = passed-there (now (a .s)) (a .n) (a .at) (c .before .before .before .skip-bytes .ensures) (c .before .p .given .1) in
+    let after-p = c .before in
+    let after-skip-bytes = after-p .before .before in
+    let entry = after-skip-bytes .before .before .before in
+    let a = entry .args in
+    let t = passed-there (now (a .s)) (a .n) (a .at) (after-skip-bytes .skip-bytes .ensures) (after-p .p .given .1) in
     omega arith
 
 enum-known-k : tie.Need-enum-known-k
@@ -37,14 +40,20 @@ enum-known-k c = search needs
 
 returns-2 : tie.Need-returns-2
 returns-2 c =
-    let a = c .before .before .before .before .before .before .before .args in
-    let t = passed-there (now (a .s)) (a .n) (a .at) (c .before .before .before .before .skip-bytes .ensures) (c .before .before .p .given .1) in
+    let after-p = c .before .before in
+    let after-skip-bytes = after-p .before .before in
+    let entry = after-skip-bytes .before .before .before in
+    let a = entry .args in
+    let t = passed-there (now (a .s)) (a .n) (a .at) (after-skip-bytes .skip-bytes .ensures) (after-p .p .given .1) in
     ap₂ Value (c .low-at .ensures) (t .next) ∙ sym (ap asRead (low-there (a .n) (now (a .s)) (a .at) (t .fits)))
 
 returns-3 : tie.Need-returns-3
 returns-3 c =
-    let a = c .before .before .before .before .before .before .args in
-    let t = passed-short (now (a .s)) (a .n) (a .at) (c .before .before .before .skip-bytes .ensures) (c .before .k .given .1) in
+    let after-k = c .before in
+    let after-skip-bytes = after-k .before .before in
+    let entry = after-skip-bytes .before .before .before in
+    let a = entry .args in
+    let t = passed-short (now (a .s)) (a .n) (a .at) (after-skip-bytes .skip-bytes .ensures) (after-k .k .given .1) in
     ap₂ Refused (t .why) (t .stop) ∙ sym (ap asRead (low-short (a .n) (now (a .s)) (a .at) (t .misses)))
 
 pub read-low-spec : {M : Type 1} → statement M

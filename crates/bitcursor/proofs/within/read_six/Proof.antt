@@ -30,29 +30,47 @@ mul-top c = search needs
 
 mul-t17 : tie.Need-mul-t17
 mul-t17 c =
-    let a = c .before .before .before .before .before .before .before .before .before .args in
-    let h : c .before .before .before .before .before .middle .given .0 .0 < 2 ^ 16 =
-    read-below (lowFirst 2) (low-below 2) (now (a .s)) (a .at) (read-value _ (c .before .before .before .before .before .before .before .read-low .ensures) (c .before .before .before .before .before .middle .given .1)) in
-    let k : c .before .low .given .0 .0 < 2 ^ 32 =
-    read-below (lowFirst 4) (low-below 4) (now (a .s)) (c .before .before .before .before .before .middle .given .0 .1 .0) (read-value _ (c .before .before .before .read-low2 .ensures) (c .before .low .given .1)) in
+    let after-low = c .before in
+    let after-read-low2 = after-low .before .before in
+    let after-middle = after-read-low2 .before .before in
+    let after-read-low = after-middle .before .before in
+    let entry = after-read-low .before .before in
+    let a = entry .args in
+    let h : after-middle .middle .given .0 .0 < 2 ^ 16 =
+    read-below (lowFirst 2) (low-below 2) (now (a .s)) (a .at) (read-value _ (after-read-low .read-low .ensures) (after-middle .middle .given .1)) in
+    let k : after-low .low .given .0 .0 < 2 ^ 32 =
+    read-below (lowFirst 4) (low-below 4) (now (a .s)) (after-middle .middle .given .0 .1 .0)
+    (read-value _ (after-read-low2 .read-low2 .ensures) (after-low .low .given .1)) in
     omega arith
 
 add-t18 : tie.Need-add-t18
 add-t18 c =
-    let a = c .before .before .before .before .before .before .before .before .before .args in
-    let h : c .before .before .before .before .before .middle .given .0 .0 < 2 ^ 16 =
-    read-below (lowFirst 2) (low-below 2) (now (a .s)) (a .at) (read-value _ (c .before .before .before .before .before .before .before .read-low .ensures) (c .before .before .before .before .before .middle .given .1)) in
-    let k : c .before .low .given .0 .0 < 2 ^ 32 =
-    read-below (lowFirst 4) (low-below 4) (now (a .s)) (c .before .before .before .before .before .middle .given .0 .1 .0) (read-value _ (c .before .before .before .read-low2 .ensures) (c .before .low .given .1)) in
+    let after-low = c .before in
+    let after-read-low2 = after-low .before .before in
+    let after-middle = after-read-low2 .before .before in
+    let after-read-low = after-middle .before .before in
+    let entry = after-read-low .before .before in
+    let a = entry .args in
+    let h : after-middle .middle .given .0 .0 < 2 ^ 16 =
+    read-below (lowFirst 2) (low-below 2) (now (a .s)) (a .at) (read-value _ (after-read-low .read-low .ensures) (after-middle .middle .given .1)) in
+    let k : after-low .low .given .0 .0 < 2 ^ 32 =
+    read-below (lowFirst 4) (low-below 4) (now (a .s)) (after-middle .middle .given .0 .1 .0)
+    (read-value _ (after-read-low2 .read-low2 .ensures) (after-low .low .given .1)) in
     omega arith
 
 add-t19 : tie.Need-add-t19
 add-t19 c =
-    let a = c .before .before .before .before .before .before .before .before .before .args in
-    let h : c .before .before .before .before .before .middle .given .0 .0 < 2 ^ 16 =
-    read-below (lowFirst 2) (low-below 2) (now (a .s)) (a .at) (read-value _ (c .before .before .before .before .before .before .before .read-low .ensures) (c .before .before .before .before .before .middle .given .1)) in
-    let k : c .before .low .given .0 .0 < 2 ^ 32 =
-    read-below (lowFirst 4) (low-below 4) (now (a .s)) (c .before .before .before .before .before .middle .given .0 .1 .0) (read-value _ (c .before .before .before .read-low2 .ensures) (c .before .low .given .1)) in
+    let after-low = c .before in
+    let after-read-low2 = after-low .before .before in
+    let after-middle = after-read-low2 .before .before in
+    let after-read-low = after-middle .before .before in
+    let entry = after-read-low .before .before in
+    let a = entry .args in
+    let h : after-middle .middle .given .0 .0 < 2 ^ 16 =
+    read-below (lowFirst 2) (low-below 2) (now (a .s)) (a .at) (read-value _ (after-read-low .read-low .ensures) (after-middle .middle .given .1)) in
+    let k : after-low .low .given .0 .0 < 2 ^ 32 =
+    read-below (lowFirst 4) (low-below 4) (now (a .s)) (after-middle .middle .given .0 .1 .0)
+    (read-value _ (after-read-low2 .read-low2 .ensures) (after-low .low .given .1)) in
     omega arith
 
 enum-known-k : tie.Need-enum-known-k
@@ -64,24 +82,42 @@ enum-known-k-2 c = search needs
 returns : tie.Need-returns
 unfolding six
 returns c =
-    let a = c .before .before .before .before .before .before .before .before .before .args in
-    let m = c .before .before .before .before .before .middle .given in
-    sym (ap asRead (then-got (lowFirst 2) (λ m. mapped (low6 (a .default) m) (lowFirst 4)) (now (a .s)) (a .at) (read-value _ (c .before .before .before .before .before .before .before .read-low .ensures) (c .before .before .before .before .before .middle .given .1))
-    ∙ mapped-got (low6 (a .default) (m .0 .0)) (lowFirst 4) (now (a .s)) (m .0 .1 .0) (read-value _ (c .before .before .before .read-low2 .ensures) (c .before .low .given .1))))
+    let after-low = c .before in
+    let after-read-low2 = after-low .before .before in
+    let after-middle = after-read-low2 .before .before in
+    let after-read-low = after-middle .before .before in
+    let entry = after-read-low .before .before in
+    let a = entry .args in
+    let m = after-middle .middle .given in
+    sym (ap asRead (then-got (lowFirst 2) (λ m. mapped (low6 (a .default) m) (lowFirst 4)) (now (a .s)) (a .at)
+    (read-value _ (after-read-low .read-low .ensures) (after-middle .middle .given .1))
+    ∙ mapped-got (low6 (a .default) (m .0 .0)) (lowFirst 4) (now (a .s)) (m .0 .1 .0)
+    (read-value _ (after-read-low2 .read-low2 .ensures) (after-low .low .given .1))))
 
 returns-2 : tie.Need-returns-2
 unfolding six
 returns-2 c =
-    let a = c .before .before .before .before .before .before .before .before .before .args in
-    let m = c .before .before .before .before .before .middle .given in
-    sym (ap asRead (then-got (lowFirst 2) (λ m. mapped (low6 (a .default) m) (lowFirst 4)) (now (a .s)) (a .at) (read-value _ (c .before .before .before .before .before .before .before .read-low .ensures) (c .before .before .before .before .before .middle .given .1))
-    ∙ mapped-refused (low6 (a .default) (m .0 .0)) (lowFirst 4) (now (a .s)) (m .0 .1 .0) (read-refused _ (c .before .before .before .read-low2 .ensures) (c .before .k .given .1))))
+    let after-k = c .before in
+    let after-read-low2 = after-k .before .before in
+    let after-middle = after-read-low2 .before .before in
+    let after-read-low = after-middle .before .before in
+    let entry = after-read-low .before .before in
+    let a = entry .args in
+    let m = after-middle .middle .given in
+    sym (ap asRead (then-got (lowFirst 2) (λ m. mapped (low6 (a .default) m) (lowFirst 4)) (now (a .s)) (a .at)
+    (read-value _ (after-read-low .read-low .ensures) (after-middle .middle .given .1))
+    ∙ mapped-refused (low6 (a .default) (m .0 .0)) (lowFirst 4) (now (a .s)) (m .0 .1 .0)
+    (read-refused _ (after-read-low2 .read-low2 .ensures) (after-k .k .given .1))))
 
 returns-3 : tie.Need-returns-3
 unfolding six
 returns-3 c =
-    let a = c .before .before .before .before .before .args in
-    sym (ap asRead (then-refused (lowFirst 2) (λ m. mapped (low6 (a .default) m) (lowFirst 4)) (now (a .s)) (a .at) (read-refused _ (c .before .before .before .read-low .ensures) (c .before .k2 .given .1))))
+    let after-k2 = c .before in
+    let after-read-low = after-k2 .before .before in
+    let entry = after-read-low .before .before in
+    let a = entry .args in
+    sym (ap asRead (then-refused (lowFirst 2) (λ m. mapped (low6 (a .default) m) (lowFirst 4)) (now (a .s)) (a .at)
+    (read-refused _ (after-read-low .read-low .ensures) (after-k2 .k2 .given .1))))
 
 pub read-six-spec : {M : Type 1} → statement M
 read-six-spec =

@@ -27,8 +27,12 @@ rem-result c = rw (one-shl (c .before .before .before .before .args .n) (omega a
 
 returns : tie.Need-returns
 returns c =
-    let a = c .before .before .before .before .args in
-    in-one (now (a .s)) (λ i. omega (arith, c .before .before .shared-slice-known2 .given i)) (a .at) (a .n) (c .before .wide .result) (omega arith) (omega arith) (omega arith) (omega arith) (c .before .wide .ensures .0)
+    let after-wide = c .before in
+    let after-shared-slice-known2 = after-wide .before in
+    let entry = after-shared-slice-known2 .before .before in
+    let a = entry .args in
+    in-one (now (a .s)) (λ i. omega (arith, after-shared-slice-known2 .shared-slice-known2 .given i)) (a .at) (a .n) (after-wide .wide .result)
+    (omega arith) (omega arith) (omega arith) (omega arith) (after-wide .wide .ensures .0)
 
 add-wide : tie.Need-add-wide
 add-wide c = search needs
@@ -55,13 +59,19 @@ shl-result-2 : tie.Need-shl-result-2
 shl-result-2 c = search needs
 
 rem-result-2 : tie.Need-rem-result-2
-rem-result-2 c = rw (one-shl (c .before .before .before .before .before .before .args .n) (omega arith)) (pow-pos (c .before .before .before .before .before .before .args .n))
+rem-result-2 c =
+    rw (one-shl (c .before .before .before .before .before .before .args .n) (omega arith))
+    (pow-pos (c .before .before .before .before .before .before .args .n))
 
 returns-2 : tie.Need-returns-2
 returns-2 c =
-    let a = c .before .before .before .before .before .before .args in
-    in-two (now (a .s)) (λ i. omega (arith, c .before .shared-slice-known3 .given i)) (a .at) (a .n) (c .before .before .before .wide .result) (c .wide2 .result)
-    (omega arith) (omega arith) (omega arith) (omega arith) (c .before .before .before .wide .ensures .0) (c .wide2 .ensures .0)
+    let after-shared-slice-known3 = c .before in
+    let after-wide = after-shared-slice-known3 .before .before in
+    let entry = after-wide .before .before .before in
+    let a = entry .args in
+    in-two (now (a .s)) (λ i. omega (arith, after-shared-slice-known3 .shared-slice-known3 .given i)) (a .at) (a .n) (after-wide .wide .result)
+    (c .wide2 .result)
+    (omega arith) (omega arith) (omega arith) (omega arith) (after-wide .wide .ensures .0) (c .wide2 .ensures .0)
 
 pub bits-at-spec : {M : Type 1} → statement M
 bits-at-spec =

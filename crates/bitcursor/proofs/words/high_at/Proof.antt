@@ -51,8 +51,10 @@ loop-holds c = (omega arith, refl)
 
 mul-v : tie.Need-mul-v Inv-loop μ-loop
 mul-v c =
-    let a = c .before .before .before .before .args in
-    let l = c .before .loop in
+    let at-loop = c .before in
+    let entry = at-loop .before .before .before in
+    let a = entry .args in
+    let l = at-loop .loop in
     omega (arith, low (now (a .s)) (a .at) (a .n) (l .i) (l .v) (omega arith) (omega arith) (omega arith) (l .inv .1))
 
 mul-bits-at : tie.Need-mul-bits-at Inv-loop μ-loop
@@ -66,8 +68,10 @@ bits-at-requires c κs = search needs
 
 add-v : tie.Need-add-v Inv-loop μ-loop
 add-v c =
-    let a = c .before .before .before .before .before .args in
-    let l = c .before .before .loop in
+    let at-loop = c .before .before in
+    let entry = at-loop .before .before .before in
+    let a = entry .args in
+    let l = at-loop .loop in
     let b = window-lt (now (a .s)) (a .at + l .i * 8) 8 (omega arith) in
     omega (arith, low (now (a .s)) (a .at) (a .n) (l .i) (l .v) (omega arith) (omega arith) (omega arith) (l .inv .1), b, c .bits-at .ensures)
 
@@ -79,15 +83,19 @@ loop-less c = search needs
 
 loop-again : tie.Need-loop-again Inv-loop μ-loop
 loop-again c =
-    let a = c .before .before .before .before .before .args in
-    let l = c .before .before .loop in
+    let at-loop = c .before .before in
+    let entry = at-loop .before .before .before in
+    let a = entry .args in
+    let l = at-loop .loop in
     (omega arith, byte-more (now (a .s)) (a .at) (l .i) (l .v) (c .bits-at .result) (omega arith) (l .inv .1) (c .bits-at .ensures))
 
 returns-2 : tie.Need-returns-2 Inv-loop μ-loop
 returns-2 c =
-    let a = c .before .before .before .before .args in
-    let e : c .before .loop .i ≡ a .n = omega arith in
-    c .before .loop .inv .1 ∙ ap (λ (k : ℕ). number (window (now (a .s)) (a .at) (8 * k))) e
+    let at-loop = c .before in
+    let entry = at-loop .before .before .before in
+    let a = entry .args in
+    let e : at-loop .loop .i ≡ a .n = omega arith in
+    at-loop .loop .inv .1 ∙ ap (λ (k : ℕ). number (window (now (a .s)) (a .at) (8 * k))) e
 
 pub high-at-spec : {M : Type 1} → statement M
 high-at-spec =

@@ -24,7 +24,8 @@ shr-result c = search needs
 returns : tie.Need-returns
 returns c =
     let a = c .before .before .before .args in
-    low-shift (now (a .s)) (a .at) (a .n) (c .before .high-at .result) (c .swap .result) (omega arith) (omega arith) (c .before .high-at .ensures) (c .swap .ensures)
+    low-shift (now (a .s)) (a .at) (a .n) (c .before .high-at .result) (c .swap .result) (omega arith) (omega arith) (c .before .high-at .ensures)
+    (c .swap .ensures)
 
 pub low-at-spec : {M : Type 1} → statement M
 low-at-spec =

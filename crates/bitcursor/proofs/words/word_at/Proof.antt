@@ -1,41 +1,30 @@
--- Two halves are the 64 bits from the byte's edge; shifted, with the next byte's first bits behind, they are those at the place.
+-- The eight bytes are the 64 bits from the byte's edge; shifted, with the next byte's first bits behind, they are those at the place.
 use mathlib.Core.Path.{_≡_, sym, ap, subst, _∙_}
 use Prim.Native.Nat.{ℕ, _*_, _/_, _^_, _<_}
 use native.Mathlib.Omega.{arith}
 use denote.Ref.{now}
 use Rattle.bitcursor.specs.Bits.{number, window}
-use Rattle.bitcursor.proofs.WordLaws.{two-halves, word-shift, window-lt}
+use Rattle.bitcursor.proofs.WordLaws.{word-shift, window-lt}
 use borrow.Author.Needs.{needs}
 use Rattle.bitcursor.proofs.words.word_at.Statement.{statement}
 use Rattle.bitcursor.proofs.words.word_at.Tie as tie
 
 shifted : tie.Need-returns-2
 shifted c =
-    let a = c .before .before .before .before .before .before .args in
-    rw (two-halves (now (a .s)) (a .at / 8) (c .before .before .before .before .half .result) (c .before .before .before .half2 .result) (omega arith) (c .before .before .before .before .half .ensures .0) (c .before .before .before .half2 .ensures .0), c .wide .ensures .0)
+    let branch = c .before .before in
+    let eight = branch .before .eight-bytes in
+    let a = branch .before .before .before .args in
+    rw (eight .ensures, c .wide .ensures .0)
     (word-shift (now (a .s)) (λ i. omega (arith, c .before .shared-slice-known2 .given i)) (a .at) (omega arith))
 
-half-requires : tie.Need-half-requires
-half-requires c κs = search needs
-
-mul-x : tie.Need-mul-x
-mul-x c = search needs
-
-add-half : tie.Need-add-half
-add-half c = search needs
-
-half-requires-2 : tie.Need-half-requires-2
-half-requires-2 c κs = search needs
-
-add-x : tie.Need-add-x
-add-x c = search needs
+eight-bytes-requires : tie.Need-eight-bytes-requires
+eight-bytes-requires c κs = search needs
 
 returns : tie.Need-returns
 returns c =
-    let a = c .before .before .before .before .args in
+    let a = c .before .before .before .args in
     let e : 8 * (a .at / 8) ≡ a .at = omega arith in
-    two-halves (now (a .s)) (a .at / 8) (c .before .before .half .result) (c .before .half2 .result) (omega arith) (c .before .before .half .ensures .0) (c .before .half2 .ensures .0)
-    ∙ ap (λ (p : ℕ). number (window (now (a .s)) p 64)) e
+    c .before .eight-bytes .ensures ∙ ap (λ (p : ℕ). number (window (now (a .s)) p 64)) e
 
 shl-result : tie.Need-shl-result
 shl-result c = search needs
@@ -57,7 +46,8 @@ shr-result c = search needs
 
 add-result : tie.Need-add-result
 add-result c =
-    let a = c .before .before .before .before .before .before .args in
+    let branch = c .before .before in
+    let a = branch .before .before .before .args in
     record { fits = subst (λ (n : ℕ). n < 2 ^ 64) (sym (shifted c)) (window-lt (now (a .s)) (a .at) 64 (omega arith)) }
 
 returns-2 : tie.Need-returns-2
@@ -67,11 +57,7 @@ pub word-at-spec : {M : Type 1} → statement M
 word-at-spec =
     tie.close
     (tie.spec
-    half-requires
-    mul-x
-    add-half
-    half-requires-2
-    add-x
+    eight-bytes-requires
     returns
     shl-result
     add-wide

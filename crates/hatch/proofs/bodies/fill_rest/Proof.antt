@@ -4,8 +4,8 @@ use Prim.Native.Nat.{_^_, _<_}
 use denote.Ref.{now}
 use Rattle.hatch_format.specs.Caps.{documentCaps}
 use Rattle.hatch_format.specs.Patterns.{rest}
-use Rattle.hatch_walks.specs.declared.rests.Rest.{Rest}
-use Rattle.hatch_walks.specs.Heads.{Modest}
+use Rattle.hatch_rest.specs.declared.rests.Rest.{Rest}
+use Rattle.hatch_points.specs.Heads.{Modest}
 use Rattle.hatch.proofs.BodyLaws.{modest, rest-done, rest-range, short-words, short-numbers, room, closed-short, closed-full, closed-no, walk-as, laid-as}
 use borrow.Author.Needs.{needs}
 use Rattle.hatch.proofs.bodies.fill_rest.Statement.{statement}

@@ -7,7 +7,7 @@ use denote.Ref.{now}
 use Rattle.text.specs.Answers.{payloads, placesOf}
 use Rattle.hatch_format.specs.declared.Caps.{Caps}
 use Rattle.hatch_format.specs.Caps.{documentCaps}
-use Rattle.hatch_walks.specs.Lists.{lists}
+use Rattle.hatch_points.specs.Lists.{lists}
 use Rattle.hatch.specs.Fronts.{front, frontOf}
 use Rattle.hatch.proofs.CallLaws.{body-done, body-no, body-starts}
 use borrow.Author.Needs.{needs}

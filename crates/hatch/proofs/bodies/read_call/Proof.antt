@@ -8,7 +8,7 @@ use Rattle.text.specs.Answers.{payloads, placesOf}
 use lib.ListN.{length}
 use Rattle.bitcursor.specs.declared.Refusal.the-variants.{TooFewBits}
 use Rattle.bitcursor.specs.Reading.{refused}
-use Rattle.hatch_walks.specs.Lists.{lists}
+use Rattle.hatch_points.specs.Lists.{lists}
 use Rattle.hatch.specs.Calls.{asBits}
 use Rattle.hatch.proofs.CallLaws.{unknown, main-long, string-long, start-past, body-read, call-as}
 use borrow.Author.Needs.{needs}

@@ -2,7 +2,7 @@
 use mathlib.Core.Path.{refl}
 use denote.Ref.{now}
 use Rattle.hatch_format.specs.Patterns.{rest}
-use Rattle.hatch_walks.specs.Lists.{lists}
+use Rattle.hatch_points.specs.Lists.{lists}
 use Rattle.hatch.proofs.BodyLaws.{filled, measured}
 use borrow.Author.Needs.{needs}
 use Rattle.hatch.proofs.bodies.walk_rest.Statement.{statement}
@@ -10,7 +10,7 @@ use Rattle.hatch.proofs.bodies.walk_rest.Tie as tie
 use Rattle.hatch.proofs.bodies.walk_rest.Reads as reads
 use Rattle.hatch.proofs.bodies.walk_rest.Lts as lts
 use Rattle.hatch.proofs.bodies.measure_rest.Reads as measure-rest-reads
-use Rattle.hatch_walks.proofs.rests.decode_rest.Reads as decode-rest-reads
+use Rattle.hatch_rest.proofs.rests.decode_rest.Reads as decode-rest-reads
 
 decode-rest-requires : tie.Need-decode-rest-requires
 decode-rest-requires c κs = search needs

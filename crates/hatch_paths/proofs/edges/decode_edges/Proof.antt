@@ -1,0 +1,99 @@
+-- What is left to read, behind what is stored, is what the whole reads.
+use mathlib.Core.Path.{_≡_, refl, sym, ap, ap₂, _∙_}
+use mathlib.Core.List.{List, [], _∷_}
+use Prim.Native.Nat.{ℕ, suc, _+_, _-_, _*_, _^_, _≤_, _<_}
+use native.Mathlib.Omega.{arith}
+use denote.Ref.{now}
+use Rattle.hatch_points.specs.Lists.{lists}
+use Rattle.hatch_points.proofs.Loops.{Along, start, walk-next, walk-refuses, loop-ends, long-doubles, long-bits, long-words}
+use Rattle.hatch_paths.specs.PathWalks.{edge-walk}
+use borrow.Author.Needs.{needs}
+use Rattle.hatch_paths.proofs.edges.decode_edges.Statement.{statement}
+use Rattle.hatch_paths.proofs.edges.decode_edges.Tie as tie
+use Rattle.hatch_paths.proofs.edges.decode_edges.Reads as reads
+use Rattle.hatch_paths.proofs.edges.decode_edges.Lts as lts
+use Rattle.hatch_paths.proofs.edges.decode_edge.Reads as decode-edge-reads
+
+abbrev Inv-loop : tie.InvT-loop
+Inv-loop s at n caps fits numbers₀ bits₀ words₀ p₀ y₀ i₀ numbers bits words p y i =
+    Along (edge-walk caps fits) s n at (lists numbers₀ bits₀ words₀) y₀ i p (lists numbers bits words) y
+
+abbrev μ-loop : tie.MeasureT-loop
+μ-loop s at n caps fits numbers₀ bits₀ words₀ p₀ y₀ i₀ numbers bits words p y i = n - i
+
+loop-holds : tie.Need-loop-holds Inv-loop μ-loop
+loop-holds c =
+    let a = (c .before .before .before .before .args) in
+    start (edge-walk (a .caps) (a .fits)) (now (a .s)) ((c .before .before .before .before .pre) .0)
+
+decode-edge-requires : tie.Need-decode-edge-requires Inv-loop μ-loop
+decode-edge-requires c κs = ((c .before .before .before .before .loop) .inv .ready, (c .before .before .before .before .before .before .before .before .before .pre) .1)
+
+enum-known-q : tie.Need-enum-known-q Inv-loop μ-loop
+enum-known-q c = search needs
+
+enum-known-k : tie.Need-enum-known-k Inv-loop μ-loop
+enum-known-k c = search needs
+
+same-length : tie.Need-same-length Inv-loop μ-loop
+same-length c = (c .before .before .before .before .before .before .before .before .before .decode-edge) .kept .1 .1 .1 .1 .0 ∙ long-doubles (edge-walk ((c .before .before .before .before .before .before .before .before .before .before .before .before .before .before .before .before .before .before .before .args) .caps) ((c .before .before .before .before .before .before .before .before .before .before .before .before .before .before .before .before .before .before .before .args) .fits)) (now ((c .before .before .before .before .before .before .before .before .before .before .before .before .before .before .before .before .before .before .before .args) .s)) ((c .before .before .before .before .before .before .before .before .before .before .before .before .before .before .loop) .inv)
+
+same-length-2 : tie.Need-same-length-2 Inv-loop μ-loop
+same-length-2 c = (c .before .before .before .before .before .before .before .before .before .decode-edge) .kept .1 .1 .1 .1 .1 .0 ∙ long-bits (edge-walk ((c .before .before .before .before .before .before .before .before .before .before .before .before .before .before .before .before .before .before .before .args) .caps) ((c .before .before .before .before .before .before .before .before .before .before .before .before .before .before .before .before .before .before .before .args) .fits)) (now ((c .before .before .before .before .before .before .before .before .before .before .before .before .before .before .before .before .before .before .before .args) .s)) ((c .before .before .before .before .before .before .before .before .before .before .before .before .before .before .loop) .inv)
+
+same-length-3 : tie.Need-same-length-3 Inv-loop μ-loop
+same-length-3 c = (c .before .before .before .before .before .before .before .before .before .decode-edge) .kept .1 .1 .1 .1 .1 .1 .0 ∙ long-words (edge-walk ((c .before .before .before .before .before .before .before .before .before .before .before .before .before .before .before .before .before .before .before .args) .caps) ((c .before .before .before .before .before .before .before .before .before .before .before .before .before .before .before .before .before .before .before .args) .fits)) (now ((c .before .before .before .before .before .before .before .before .before .before .before .before .before .before .before .before .before .before .before .args) .s)) ((c .before .before .before .before .before .before .before .before .before .before .before .before .before .before .loop) .inv)
+
+returns : tie.Need-returns Inv-loop μ-loop
+returns c =
+    let a = (c .before .before .before .before .before .before .before .before .before .before .before .before .before .before .before .before .before .before .before .args) in
+    let d = edge-walk (a .caps) (a .fits) in
+    walk-refuses d (now (a .s)) ((c .before .before .before .before .before .before .before .before .before .before .before .before .before .before .loop) .inv) ((c .before .before .before .before .before .before .before .before .before .before .before .before .before .loop-test) .taken) ((c .before .before .before .before .before .before .before .before .before .decode-edge) .ensures) ((c .before .k) .given .1)
+
+add-i : tie.Need-add-i Inv-loop μ-loop
+add-i c = omega arith
+
+loop-less : tie.Need-loop-less Inv-loop μ-loop
+loop-less c = omega arith
+
+loop-again : tie.Need-loop-again Inv-loop μ-loop
+loop-again c =
+    let a = (c .before .before .before .before .before .before .before .before .before .before .before .before .before .before .before .before .before .before .before .args) in
+    let d = edge-walk (a .caps) (a .fits) in
+    walk-next d (now (a .s)) ((c .before .before .before .before .before .before .before .before .before .before .before .before .before .before .loop) .inv) ((c .before .before .before .before .before .before .before .before .before .before .before .before .before .loop-test) .taken) ((c .before .before .before .before .before .before .before .before .before .decode-edge) .ensures) ((c .before .q) .given .1)
+
+same-length-4 : tie.Need-same-length-4 Inv-loop μ-loop
+same-length-4 c = long-doubles (edge-walk ((c .before .before .before .before .before .before .args) .caps) ((c .before .before .before .before .before .before .args) .fits)) (now ((c .before .before .before .before .before .before .args) .s)) ((c .before .loop) .inv)
+
+same-length-5 : tie.Need-same-length-5 Inv-loop μ-loop
+same-length-5 c = long-bits (edge-walk ((c .before .before .before .before .before .before .args) .caps) ((c .before .before .before .before .before .before .args) .fits)) (now ((c .before .before .before .before .before .before .args) .s)) ((c .before .loop) .inv)
+
+same-length-6 : tie.Need-same-length-6 Inv-loop μ-loop
+same-length-6 c = long-words (edge-walk ((c .before .before .before .before .before .before .args) .caps) ((c .before .before .before .before .before .before .args) .fits)) (now ((c .before .before .before .before .before .before .args) .s)) ((c .before .loop) .inv)
+
+returns-2 : tie.Need-returns-2 Inv-loop μ-loop
+returns-2 c =
+    let a = (c .before .before .before .before .before .before .args) in
+    loop-ends (edge-walk (a .caps) (a .fits)) (now (a .s)) ((c .before .loop) .inv) ((c .loop-test) .left)
+
+pub decode-edges-spec : {M : Type 1} → statement M
+decode-edges-spec =
+    tie.close
+    (tie.spec
+    Inv-loop
+    μ-loop
+    loop-holds
+    decode-edge-requires
+    enum-known-q
+    enum-known-k
+    same-length
+    same-length-2
+    same-length-3
+    returns
+    add-i
+    loop-less
+    loop-again
+    same-length-4
+    same-length-5
+    same-length-6
+    returns-2)

@@ -1,0 +1,126 @@
+-- Three words, and behind them the vertices.
+use mathlib.Core.Path.{_≡_, refl, sym, ap, ap₂, _∙_}
+use mathlib.Core.List.{List, [], _∷_}
+use Prim.Native.Nat.{ℕ, suc, _+_, _-_, _*_, _^_, _≤_, _<_}
+use native.Mathlib.Omega.{arith}
+use denote.Ref.{now}
+use mathlib.Core.Bool.{Bool}
+use lib.Dec.{eqb}
+use lib.Seq.{sets}
+use Rattle.bitcursor.specs.Bits.{bit}
+use Rattle.bitcursor.specs.Sequence.{valueOf}
+use Rattle.hatch_points.specs.Walks.{vertices-walk}
+use Rattle.hatch_paths.specs.PathWalks.{polyline-walk}
+use Rattle.hatch_points.specs.Heads.{resumed}
+use Rattle.hatch_points.proofs.Laws.{walks-as, refuses, words-then, words-kept, kept-same}
+use Rattle.hatch_points.proofs.Lacking.{vertices-wordless}
+use Rattle.hatch_paths.proofs.PolylineHeads.{polyline-rest, polyline-reads, bulge-below, closed-below, stored-words, headed}
+use borrow.Author.Needs.{needs}
+use Rattle.hatch_paths.proofs.paths.decode_polyline_path.Statement.{statement}
+use Rattle.hatch_paths.proofs.paths.decode_polyline_path.Tie as tie
+use Rattle.hatch_paths.proofs.paths.decode_polyline_path.Reads as reads
+use Rattle.hatch_paths.proofs.paths.decode_polyline_path.Lts as lts
+use Rattle.bitcursor.proofs.sequence.then_bits.Reads as then-bits-reads
+use Rattle.bitcursor.proofs.sequence.value_of.Reads as value-of-reads
+use Rattle.bitcursor.proofs.within.read_bits.Reads as read-bits-reads
+use Rattle.hatch_points.proofs.counts.then_count.Reads as then-count-reads
+use Rattle.hatch_points.proofs.vertices.decode_points.Reads as decode-points-reads
+use Rattle.hatch_paths.proofs.paths.put_polyline_head.Reads as put-polyline-head-reads
+
+read-bits-requires : tie.Need-read-bits-requires
+read-bits-requires c κs = search needs
+
+then-bits-requires : tie.Need-then-bits-requires
+then-bits-requires c κs = search needs
+
+then-count-requires : tie.Need-then-count-requires
+then-count-requires c κs = search needs
+
+enum-known-count : tie.Need-enum-known-count
+enum-known-count c = search needs
+
+value-of-requires : tie.Need-value-of-requires
+value-of-requires c κs = search needs
+
+value-of-requires-2 : tie.Need-value-of-requires-2
+value-of-requires-2 c κs = search needs
+
+put-polyline-head-requires : tie.Need-put-polyline-head-requires
+put-polyline-head-requires c κs =
+    let a = (c .before .before .before .before .before .before .before .before .before .before .before .before .before .args) in
+    let s = now (a .s) in
+    let h = (c .before .before .before .before .before .before .before .before .before .before .before .before .before .pre) .0 in
+    let m = (c .before .before .before .before .before .before .before .before .before .before .before .before .before .pre) .1 in
+    let d = headed s (a .caps) (a .at) ((c .before .before .before .before .before .before .before .before .read-bits) .ensures) ((c .before .before .before .before .before .before .before .then-bits) .ensures) ((c .before .before .before .before .before .before .then-count) .ensures) ((c .before .before .before .before .count) .given .1) (h .1 .0) in
+    let b = bulge-below s (a .caps) (a .at) ((c .before .before .before .before .before .before .before .before .read-bits) .ensures) ((c .before .before .before .before .before .before .before .then-bits) .ensures) ((c .before .before .before .before .before .before .then-count) .ensures) in
+    let k = closed-below s (a .caps) (a .at) ((c .before .before .before .before .before .before .before .before .read-bits) .ensures) ((c .before .before .before .before .before .before .before .then-bits) .ensures) ((c .before .before .before .before .before .before .then-count) .ensures) in
+    (omega (arith, h .0, h .1 .0, h .1 .1 .1), (omega (arith, b, (c .before .before .value-of) .ensures), (omega (arith, k, (c .value-of2) .ensures), omega (arith, d .capped, m .vertices))))
+
+add-decode-points : tie.Need-add-decode-points
+add-decode-points c = search needs
+
+decode-points-requires : tie.Need-decode-points-requires
+decode-points-requires c κs =
+    let a = (c .before .before .before .before .before .before .before .before .before .before .before .before .before .before .before .before .before .before .before .args) in
+    let s = now (a .s) in
+    let h = (c .before .before .before .before .before .before .before .before .before .before .before .before .before .before .before .before .before .before .before .pre) .0 in
+    let m = (c .before .before .before .before .before .before .before .before .before .before .before .before .before .before .before .before .before .before .before .pre) .1 in
+    let d = headed s (a .caps) (a .at) ((c .before .before .before .before .before .before .before .before .before .before .before .before .before .before .read-bits) .ensures) ((c .before .before .before .before .before .before .before .before .before .before .before .before .before .then-bits) .ensures) ((c .before .before .before .before .before .before .before .before .before .before .before .before .then-count) .ensures) ((c .before .before .before .before .before .before .before .before .before .before .count) .given .1) (h .1 .0) in
+    ((h .0, (d .inside, (omega (arith, d .onward, h .1 .1 .0), omega (arith, d .onward, h .1 .1 .1)))), omega (arith, d .capped, m .vertices))
+
+enum-known-count-2 : tie.Need-enum-known-count-2
+enum-known-count-2 c = search needs
+
+same-length : tie.Need-same-length
+same-length c = search needs
+
+same-length-2 : tie.Need-same-length-2
+same-length-2 c = search needs
+
+same-length-3 : tie.Need-same-length-3
+same-length-3 c = search needs
+
+returns : tie.Need-returns
+returns c =
+    let a = (c .before .before .before .before .before .before .before .before .before .before .before .before .before .before .before .before .before .before .before .before .before .before .before .before .args) in
+    let s = now (a .s) in
+    let n = (c .before .before .before .before .before .before .before .before .before .before .before .before .before .before .before .count) .given .0 .0 in
+    let x = (c .before .before .before .before .before .before .before .before .before .before .before .before .before .before .before .before .before .before .before .read-bits) .result in
+    let y = (c .before .before .before .before .before .before .before .before .before .before .before .before .before .before .before .before .before .before .then-bits) .result in
+    let e₁ = (c .before .before .before .before .before .before .before .before .before .before .before .before .before .before .before .before .before .before .before .read-bits) .ensures in
+    let e₂ = (c .before .before .before .before .before .before .before .before .before .before .before .before .before .before .before .before .before .before .then-bits) .ensures in
+    let e₃ = (c .before .before .before .before .before .before .before .before .before .before .before .before .before .before .before .before .before .then-count) .ensures in
+    walks-as
+    (words-then (vertices-walk (eqb 1 (valueOf x)) n) (bit (eqb 1 (valueOf x)) ∷ (bit (eqb 1 (valueOf y)) ∷ (n ∷ []))) 3 refl
+    ((c .before .before .before .before .before .before .before .before .before .before .put-polyline-head) .ensures ∙ ap₂ (λ (i j : ℕ). sets (now (a .words)) (a .z .words) (i ∷ (j ∷ (n ∷ [])))) ((c .before .before .before .before .before .before .before .before .before .before .before .before .before .value-of) .ensures) ((c .before .before .before .before .before .before .before .before .before .before .before .value-of2) .ensures)
+    ∙ ap (sets (now (a .words)) (a .z .words)) (stored-words s (a .caps) (a .at) e₁ e₂ e₃ n))
+    (words-kept _ ((c .before .before .before .before .before .before .before .before .before .before .put-polyline-head) .last .0) (vertices-wordless (eqb 1 (valueOf x)) n s _)
+    (walks-as ((c .before .before .before .before .decode-points) .ensures) (ap (λ (m : ℕ). (vertices-walk (eqb 1 m) n) .read s ((c .before .before .before .before .before .before .before .before .before .before .before .before .before .before .before .count) .given .0 .1 .0)) ((c .before .before .before .before .before .before .before .before .before .before .before .before .before .value-of) .ensures)))))
+    (sym (polyline-reads s (a .caps) (a .at) e₁ e₂ e₃ ∙ ap (resumed s (polyline-rest s (a .caps) (a .at) e₁ e₂ e₃)) ((c .before .before .before .before .before .before .before .before .before .before .before .before .before .before .before .count) .given .1)))
+
+returns-2 : tie.Need-returns-2
+returns-2 c =
+    let a = (c .before .before .before .before .before .before .before .before .before .before .args) in
+    let s = now (a .s) in
+    refuses (polyline-reads s (a .caps) (a .at) ((c .before .before .before .before .before .read-bits) .ensures) ((c .before .before .before .before .then-bits) .ensures) ((c .before .before .before .then-count) .ensures)
+    ∙ ap (resumed s (polyline-rest s (a .caps) (a .at) ((c .before .before .before .before .before .read-bits) .ensures) ((c .before .before .before .before .then-bits) .ensures) ((c .before .before .before .then-count) .ensures))) ((c .before .count2) .given .1)) kept-same
+
+pub decode-polyline-path-spec : {M : Type 1} → statement M
+decode-polyline-path-spec =
+    tie.close
+    (tie.spec
+    read-bits-requires
+    then-bits-requires
+    then-count-requires
+    enum-known-count
+    value-of-requires
+    value-of-requires-2
+    put-polyline-head-requires
+    add-decode-points
+    decode-points-requires
+    enum-known-count-2
+    same-length
+    same-length-2
+    same-length-3
+    returns
+    returns-2)

@@ -1,0 +1,4 @@
+pub mod PathWalks
+pub mod EdgeGathers
+pub mod PathGathers
+pub mod Splines

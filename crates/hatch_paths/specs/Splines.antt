@@ -1,0 +1,66 @@
+-- The fields of a spline in front of its lists, in a row: each is read where the one before ended, and a refusal stays. Assumes nothing.
+use mathlib.Core.Path.{_≡_, refl, _∙_}
+use mathlib.Core.Bool.{Bool}
+use mathlib.Core.List.{List, [], _∷_}
+use Prim.Native.Nat.{ℕ}
+use lib.Dec.{eqb}
+use Rattle.bitcursor.specs.declared.Read.the-variants.{Value}
+use Rattle.bitcursor.specs.Bits.{bit}
+use Rattle.bitcursor.specs.Code.{raw}
+use Rattle.bitcursor.specs.Codes.{B, BL}
+use Rattle.bitcursor.specs.Answers.{asRead}
+use Rattle.bitcursor.specs.Sequence.{thenRead, valueOf}
+use Rattle.bitcursor.specs.Format.{Format, pure, _>>=_}
+use Rattle.bitcursor.specs.Inputs.{one}
+use Rattle.bitcursor.specs.Fields.{coded}
+use Rattle.hatch_format.specs.declared.Caps.{Caps}
+use Rattle.hatch_format.specs.Counts.{bounded}
+use Rattle.hatch_points.specs.Gathered.{Entries, words, plus}
+use Rattle.hatch_points.specs.Heads.{resumed, one-more, bit-more}
+use Rattle.hatch_paths.specs.declared.edges.SplineHead.{SplineHead}
+use Rattle.hatch_paths.specs.PathWalks.{spline-lists-walk, spline-walk}
+
+unfoldable pub splineHead : List ℕ → Caps → ℕ → SplineHead
+splineHead xs caps p =
+    let x₁ = asRead (BL .read xs p) in
+    let x₂ = thenRead ((raw 1) .read xs) x₁ in
+    let x₃ = thenRead ((raw 1) .read xs) x₂ in
+    let x₄ = thenRead ((bounded (caps .knots) BL) .read xs) x₃ in
+    let x₅ = thenRead ((bounded (caps .«control_points») BL) .read xs) x₄ in
+    record { degree = valueOf x₁; rational = valueOf x₂; periodic = valueOf x₃; knots = valueOf x₄; last = x₅ }
+
+-- behind them
+abbrev pub spline-rest : Caps → Bool → SplineHead → ℕ → Format one Entries
+spline-rest caps b h n = do
+  lists ← spline-lists-walk caps b (eqb 1 (h .rational)) (h .knots) n
+  pure (plus (words (h .degree ∷ (bit (eqb 1 (h .rational)) ∷ (bit (eqb 1 (h .periodic)) ∷ (h .knots ∷ (n ∷ [])))))) lists)
+
+module _ (xs : List ℕ) (caps : Caps) (b : Bool) (p : ℕ) where
+  pub spline-reads : (spline-walk caps b) .read xs p ≡ resumed xs (spline-rest caps b (splineHead xs caps p)) (splineHead xs caps p .last)
+  unfolding spline-walk splineHead
+  spline-reads =
+      let x₁ = asRead (BL .read xs p) in
+      let x₂ = thenRead ((raw 1) .read xs) x₁ in
+      let x₃ = thenRead ((raw 1) .read xs) x₂ in
+      let x₄ = thenRead ((bounded (caps .knots) BL) .read xs) x₃ in
+      one-more xs (λ v. coded BL) (λ v. degreed) (Value 0 p) refl
+      ∙ bit-more xs rationed x₁ refl
+      ∙ bit-more xs (λ v. perioded (valueOf x₁) (eqb 1 v)) x₂ refl
+      ∙ one-more xs (λ v. bounded (caps .knots) BL) (λ v. knotted (valueOf x₁) (eqb 1 (valueOf x₂)) (eqb 1 v)) x₃ refl
+      ∙ one-more xs (λ v. bounded (caps .«control_points») BL) (λ v. controlled (valueOf x₁) (eqb 1 (valueOf x₂)) (eqb 1 (valueOf x₃)) v) x₄ refl
+    where
+      controlled : ℕ → Bool → Bool → ℕ → ℕ → Format one Entries
+      controlled degree rational periodic knots n =
+          spline-lists-walk caps b rational knots n >>= λ lists. pure (plus (words (degree ∷ (bit rational ∷ (bit periodic ∷ (knots ∷ (n ∷ [])))))) lists)
+
+      knotted : ℕ → Bool → Bool → ℕ → Format one Entries
+      knotted degree rational periodic knots = bounded (caps .«control_points») BL >>= controlled degree rational periodic knots
+
+      perioded : ℕ → Bool → Bool → Format one Entries
+      perioded degree rational periodic = bounded (caps .knots) BL >>= knotted degree rational periodic
+
+      rationed : ℕ → Bool → Format one Entries
+      rationed degree rational = coded B >>= perioded degree rational
+
+      degreed : ℕ → Format one Entries
+      degreed degree = coded B >>= rationed degree

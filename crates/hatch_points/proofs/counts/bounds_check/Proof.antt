@@ -1,0 +1,46 @@
+-- The two tests are the definition's, and either refuses.
+use mathlib.Core.Path.{_≡_, refl, sym, ap, _∙_}
+use Prim.Native.Nat.{ℕ, _-_, _≤_, _<_}
+use denote.Ref.{now}
+use native.Mathlib.Omega.{arith}
+use Rattle.bitcursor.specs.Bits.{size}
+use Rattle.hatch_points.specs.Heads.{boundsOf, bounds-many, bounds-short, bounds-kept}
+use borrow.Author.Needs.{needs}
+use Rattle.hatch_points.proofs.counts.bounds_check.Statement.{statement}
+use Rattle.hatch_points.proofs.counts.bounds_check.Tie as tie
+use Rattle.hatch_points.proofs.counts.bounds_check.Reads as reads
+use Rattle.hatch_points.proofs.counts.bounds_check.Lts as lts
+use Rattle.hatch_points.proofs.counts.remaining_bits.Reads as remaining-bits-reads
+
+enum-known-read : tie.Need-enum-known-read
+enum-known-read c = search needs
+
+returns : tie.Need-returns
+returns c = sym (ap (boundsOf (now ((c .before .before .before .before .before .args) .s)) ((c .before .before .before .before .before .args) .cap)) ((c .before .before .read) .given .1) ∙ bounds-many (now ((c .before .before .before .before .before .args) .s)) ((c .before .before .before .before .before .args) .cap) _ _ ((c .if1) .taken))
+
+remaining-bits-requires : tie.Need-remaining-bits-requires
+remaining-bits-requires c κs = search needs
+
+returns-2 : tie.Need-returns-2
+returns-2 c = sym (ap (boundsOf (now ((c .before .before .before .before .before .before .before .args) .s)) ((c .before .before .before .before .before .before .before .args) .cap)) ((c .before .before .before .before .read) .given .1) ∙ bounds-short (now ((c .before .before .before .before .before .before .before .args) .s)) ((c .before .before .before .before .before .before .before .args) .cap) _ _ ((c .before .before .if1) .left) (omega (arith, (c .before .remaining-bits) .ensures, (c .if2) .taken)))
+
+enum-known-read-2 : tie.Need-enum-known-read-2
+enum-known-read-2 c = search needs
+
+returns-3 : tie.Need-returns-3
+returns-3 c = sym (ap (boundsOf (now ((c .before .before .before .before .before .before .before .args) .s)) ((c .before .before .before .before .before .before .before .args) .cap)) ((c .before .before .before .before .read) .given .1) ∙ bounds-kept (now ((c .before .before .before .before .before .before .before .args) .s)) ((c .before .before .before .before .before .before .before .args) .cap) _ _ ((c .before .before .if1) .left) (omega (arith, (c .before .remaining-bits) .ensures, (c .if2) .left)))
+
+returns-4 : tie.Need-returns-4
+returns-4 c = sym (ap (boundsOf (now ((c .before .before .before .before .args) .s)) ((c .before .before .before .before .args) .cap)) ((c .before .read2) .given .1))
+
+pub bounds-check-spec : {M : Type 1} → statement M
+bounds-check-spec =
+    tie.close
+    (tie.spec
+    enum-known-read
+    returns
+    remaining-bits-requires
+    returns-2
+    enum-known-read-2
+    returns-3
+    returns-4)

@@ -1,0 +1,24 @@
+-- A BL, and then the two tests.
+use mathlib.Core.Path.{_≡_, refl, sym, ap, _∙_}
+use denote.Ref.{now}
+use Rattle.bitcursor.specs.Codes.{BL}
+use Rattle.hatch_points.specs.Heads.{boundsOf, bounds-bounded}
+use borrow.Author.Needs.{needs}
+use Rattle.hatch_points.proofs.counts.read_count.Statement.{statement}
+use Rattle.hatch_points.proofs.counts.read_count.Tie as tie
+use Rattle.hatch_points.proofs.counts.read_count.Reads as reads
+use Rattle.hatch_points.proofs.counts.read_count.Lts as lts
+use Rattle.bitcursor.proofs.within.read_bl_u.Reads as read-bl-u-reads
+use Rattle.hatch_points.proofs.counts.bounds_check.Reads as bounds-check-reads
+
+read-bl-u-requires : tie.Need-read-bl-u-requires
+read-bl-u-requires c κs = search needs
+
+bounds-check-requires : tie.Need-bounds-check-requires
+bounds-check-requires c κs = search needs
+
+returns : tie.Need-returns
+returns c = (c .bounds-check) .ensures ∙ ap (boundsOf (now ((c .before .before .before .args) .s)) ((c .before .before .before .args) .cap)) ((c .before .read-bl-u) .ensures) ∙ bounds-bounded ((c .before .before .before .args) .cap) BL (now ((c .before .before .before .args) .s)) ((c .before .before .before .args) .at)
+
+pub read-count-spec : {M : Type 1} → statement M
+read-count-spec = tie.close (tie.spec read-bl-u-requires bounds-check-requires returns)

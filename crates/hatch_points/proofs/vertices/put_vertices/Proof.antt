@@ -1,0 +1,114 @@
+-- What is left to read, behind what is stored, is what the whole reads; each turn reads and stores one vertex.
+use mathlib.Core.Path.{_≡_, refl, sym, ap, subst, _∙_}
+use mathlib.Core.List.{List, [], _∷_}
+use Prim.Native.Nat.{ℕ, _+_, _-_, _*_, _≤_, _<_}
+use native.Mathlib.Omega.{arith}
+use denote.Ref.{now}
+use lib.ListN.{length}
+use Rattle.hatch_points.specs.declared.lists.Sizes.{Sizes}
+use Rattle.hatch_points.specs.Gathered.{numbers}
+use Rattle.hatch_points.specs.Walks.{vertex-walk}
+use Rattle.hatch_points.specs.Lists.{lists, Ready}
+use Rattle.hatch_points.specs.Vertices.{vertexAt, Extra}
+use Rattle.hatch_points.proofs.Laws.{more-numbers, kept-same}
+use Rattle.hatch_points.proofs.Loops.{Along, start, next, loop-refuses, loop-ends, long-doubles, long-bits}
+use borrow.Author.Needs.{needs}
+use Rattle.hatch_points.proofs.vertices.put_vertices.Statement.{statement}
+use Rattle.hatch_points.proofs.vertices.put_vertices.Tie as tie
+use Rattle.hatch_points.proofs.vertices.put_vertices.Reads as reads
+use Rattle.hatch_points.proofs.vertices.put_vertices.Lts as lts
+use Rattle.hatch_points.proofs.vertices.put_vertex.Reads as put-vertex-reads
+use Rattle.hatch_points.proofs.vertices.read_extra.Reads as read-extra-reads
+
+abbrev Inv-loop : tie.InvT-loop
+Inv-loop s at n numbers₀ bits₀ z p₀ used₀ i₀ numbers bits p used i =
+    Along vertex-walk s n at (lists numbers₀ bits₀ []) z i p (lists numbers bits []) (record { numbers = used; words = z .words; derived = z .derived })
+
+abbrev μ-loop : tie.MeasureT-loop
+μ-loop s at n numbers₀ bits₀ z p₀ used₀ i₀ numbers bits p used i = n - i
+
+loop-holds : tie.Need-loop-holds Inv-loop μ-loop
+loop-holds c = start vertex-walk (now ((c .before .before .before .args) .s)) (c .before .before .before .pre)
+
+read-extra-requires : tie.Need-read-extra-requires Inv-loop μ-loop
+read-extra-requires c κs = let h = (c .before .loop) .inv .ready in (h .0, h .1 .0)
+
+enum-known-extra : tie.Need-enum-known-extra Inv-loop μ-loop
+enum-known-extra c = search needs
+
+put-vertex-requires : tie.Need-put-vertex-requires Inv-loop μ-loop
+put-vertex-requires c κs =
+    let l = (c .before .before .before .before .before .before .before .loop) in
+    let t = subst (Extra (now ((c .before .before .before .before .before .before .before .before .before .before .before .args) .s)) (l .p)) ((c .before .before .before .extra) .given .1) ((c .before .before .before .before .before .read-extra) .ensures) in
+    let h = l .inv .ready in
+    (h .0, (omega (arith, t .onward, t .inside), omega (arith, h .0, h .1 .0, h .1 .1 .0)))
+
+add-used : tie.Need-add-used Inv-loop μ-loop
+add-used c = let h = (c .before .before .before .before .before .before .before .before .before .before .before .before .loop) .inv .ready in omega (arith, h .0, h .1 .0, h .1 .1 .0)
+
+enum-known-k : tie.Need-enum-known-k Inv-loop μ-loop
+enum-known-k c = search needs
+
+same-length : tie.Need-same-length Inv-loop μ-loop
+same-length c = long-doubles vertex-walk (now ((c .before .before .before .before .before .before .before .before .before .args) .s)) ((c .before .before .before .before .before .loop) .inv)
+
+same-length-2 : tie.Need-same-length-2 Inv-loop μ-loop
+same-length-2 c = long-bits vertex-walk (now ((c .before .before .before .before .before .before .before .before .before .args) .s)) ((c .before .before .before .before .before .loop) .inv)
+
+returns : tie.Need-returns Inv-loop μ-loop
+returns c =
+    let s = now ((c .before .before .before .before .before .before .before .before .before .args) .s) in
+    let l = (c .before .before .before .before .before .loop) in
+    let o = subst (Extra s (l .p)) ((c .before .k) .given .1) ((c .before .before .before .read-extra) .ensures) in
+    loop-refuses vertex-walk s (l .inv) ((c .before .before .before .before .loop-test) .taken) o kept-same
+
+add-i : tie.Need-add-i Inv-loop μ-loop
+add-i c = omega arith
+
+loop-less : tie.Need-loop-less Inv-loop μ-loop
+loop-less c = omega arith
+
+loop-again : tie.Need-loop-again Inv-loop μ-loop
+loop-again c =
+    let a = (c .before .before .before .before .before .before .before .before .before .before .before .before .before .before .before .before .args) in
+    let s = now (a .s) in
+    let l = (c .before .before .before .before .before .before .before .before .before .before .before .before .loop) in
+    let y : Sizes = record { numbers = l .used; words = a .z .words; derived = a .z .derived } in
+    let t = subst (Extra s (l .p)) ((c .before .before .before .before .before .before .before .before .extra) .given .1) ((c .before .before .before .before .before .before .before .before .before .before .read-extra) .ensures) in
+    let v = vertexAt s (l .p) ((c .before .before .before .before .before .before .before .before .extra) .given .0 .0) in
+    let put = (c .before .before .before .before .put-vertex) .ensures in
+    let h = l .inv .ready in
+    next vertex-walk s (l .inv) (numbers v) ((c .before .before .before .before .before .before .before .before .before .before .before .loop-test) .taken) (t .read)
+    (record { lists = λ i. lists (put .0 i) (put .1 i) []; sizes = more-numbers y v })
+    (h .0, (t .inside, (omega (arith, t .onward, h .1 .1 .0), omega (arith, t .onward, h .1 .1 .1))))
+
+same-length-3 : tie.Need-same-length-3 Inv-loop μ-loop
+same-length-3 c = long-doubles vertex-walk (now ((c .before .before .before .before .before .args) .s)) ((c .before .loop) .inv)
+
+same-length-4 : tie.Need-same-length-4 Inv-loop μ-loop
+same-length-4 c = long-bits vertex-walk (now ((c .before .before .before .before .before .args) .s)) ((c .before .loop) .inv)
+
+returns-2 : tie.Need-returns-2 Inv-loop μ-loop
+returns-2 c = loop-ends vertex-walk (now ((c .before .before .before .before .before .args) .s)) ((c .before .loop) .inv) ((c .loop-test) .left)
+
+pub put-vertices-spec : {M : Type 1} → statement M
+put-vertices-spec =
+    tie.close
+    (tie.spec
+    Inv-loop
+    μ-loop
+    loop-holds
+    read-extra-requires
+    enum-known-extra
+    put-vertex-requires
+    add-used
+    enum-known-k
+    same-length
+    same-length-2
+    returns
+    add-i
+    loop-less
+    loop-again
+    same-length-3
+    same-length-4
+    returns-2)

@@ -1,0 +1,3 @@
+pub mod TailLaws
+pub mod TailEnds
+pub mod RestLaws

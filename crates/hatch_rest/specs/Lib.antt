@@ -1,0 +1,3 @@
+pub mod LineGathers
+pub mod Tails
+pub mod Rests
