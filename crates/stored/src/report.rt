@@ -26,11 +26,11 @@ fn compared(counts: &mut [u64; 32], kind: u64) {
     }
 }
 
-fn write(text: &[u8]) {
+pub fn write(text: &[u8]) {
     io::write_all(STDOUT_FILENO, text);
 }
 
-fn decimal(n: u64) {
+pub fn decimal(n: u64) {
     io::print_decimal(STDOUT_FILENO, n);
 }
 
