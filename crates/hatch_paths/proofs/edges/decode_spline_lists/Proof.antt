@@ -100,9 +100,10 @@ decode-fits-requires c κs =
     let v = onward (vertices-walk (eqb 1 (a .head .rational)) (a .controls)) 0 (takes-none (vertices-walk (eqb 1 (a .head .rational)) (a .controls)))
     s _ (k .read) (w .1 .0) in
     let x = words-still h d in
-    let y = words-still k (vertices-wordless (eqb 1 (a .head .rational)) (a .controls) s _) in
-    (walk-ready (after-decode-points .decode-points .ensures) (after-q .q .given .1),
-    (omega (arith, x, y, u .0, v .0, (entry .pre) .1 .0), (entry .pre) .1 .1 .1))
+    let y = words-still k (vertices-wordless (eqb 1 (a .head .rational)) (a .controls) s _) in (
+      walk-ready (after-decode-points .decode-points .ensures) (after-q .q .given .1),
+      (omega (arith, x, y, u .0, v .0, (entry .pre) .1 .0), (entry .pre) .1 .1 .1),
+    )
 
 enum-known-k : tie.Need-enum-known-k
 enum-known-k c = search needs
