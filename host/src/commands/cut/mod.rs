@@ -9,8 +9,6 @@ mod modular;
 mod object;
 mod object_map;
 mod sections;
-#[cfg(test)]
-mod tests;
 mod types;
 
 use std::io::{self, BufWriter, Write};
