@@ -86,7 +86,7 @@ fn draws(words: &[OsString]) -> Result<u8, Failure> {
 fn cuts(words: &[OsString]) -> Result<u8, Failure> {
     match cut::CUT.parse(words)? {
         Asked::Help => print(help::CUT_HELP),
-        Asked::Run { options, input } => cut::run(&options, &input, streams::output(), io::stderr().lock()),
+        Asked::Run { options, input } => cut::run(&options, &input, streams::output(), io::stderr()),
     }
 }
 

@@ -4,12 +4,13 @@ use std::fs;
 use std::path::{Path, PathBuf};
 
 /// A room, and what no file of it may name.
-const RULES: [(&str, &[&str]); 5] = [
+const RULES: [(&str, &[&str]); 6] = [
     ("boundary", &["crate::", "super::calls", "dwg_hatch::"]),
     ("calls", &["crate::protocol", "crate::commands"]),
     ("protocol", &["commands::", "boundary::"]),
-    ("commands/read", &["commands::draw", "super::draw", "boundary::"]),
-    ("commands/draw", &["commands::read", "super::read", "boundary::"]),
+    ("commands/read", &["commands::draw", "super::draw", "commands::cut", "super::cut", "boundary::"]),
+    ("commands/draw", &["commands::read", "super::read", "commands::cut", "super::cut", "boundary::"]),
+    ("commands/cut", &["commands::read", "super::read", "commands::draw", "super::draw::", "boundary::"]),
 ];
 
 fn files(folder: &Path) -> Vec<PathBuf> {
