@@ -8,7 +8,7 @@ use std::collections::{BTreeMap, VecDeque};
 use std::io;
 use std::panic::{catch_unwind, resume_unwind, AssertUnwindSafe};
 use std::sync::{Arc, Condvar, Mutex, MutexGuard};
-use std::thread;
+use std::thread::{self, JoinHandle};
 
 /// The most jobs that can be asked for.
 pub const MOST_JOBS: usize = 256;
@@ -72,22 +72,25 @@ where
     let shared = Arc::new(Shared::new());
     let most = BATCHES_A_JOB * jobs as u64;
     let reader = shared.clone();
-    spawn(move || reader.read(&mut next, most))?;
+    let mut threads = vec![spawn(move || reader.read(&mut next, most))?];
     let worker = Arc::new(worker);
     for _ in 0..jobs {
         let (shared, worker) = (shared.clone(), worker.clone());
-        spawn(move || shared.work(&*worker))?;
+        threads.push(spawn(move || shared.work(&*worker))?);
     }
     let stop = Stop(&shared);
     while let Some(made) = stop.0.take() {
         take(made.unwrap_or_else(|panic| resume_unwind(panic)))?;
     }
+    drop(stop);
+    // All batches are read and done, so each thread ends at once; else the program would end before its memory is given back.
+    threads.into_iter().for_each(|thread| drop(thread.join()));
     Ok(())
 }
 
-fn spawn(work: impl FnOnce() + Send + 'static) -> io::Result<()> {
+fn spawn(work: impl FnOnce() + Send + 'static) -> io::Result<JoinHandle<()>> {
     let started = thread::Builder::new().spawn(work);
-    started.map(drop).map_err(|error| io::Error::other(format!("no thread can be started ({error}); call again with --jobs 1")))
+    started.map_err(|error| io::Error::other(format!("no thread can be started ({error}); call again with --jobs 1")))
 }
 
 /// Tells the threads that nothing more is wanted, however the taking ends.

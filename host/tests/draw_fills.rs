@@ -49,7 +49,7 @@ fn floods_of_pattern_lines_are_said_and_not_drawn() {
     let (svg, said) = (String::from_utf8(output.stdout).expect("UTF-8"), String::from_utf8(output.stderr).expect("UTF-8"));
     assert!(output.status.success() && data(&svg, "pattern").matches('M').count() == 10, "{svg}");
     assert_eq!(said.lines().count(), 1, "{said}");
-    assert!(said.starts_with("dwg-hatch: warning: 1 hatch is drawn without pattern lines, which would be more than 20000 in all"), "{said}");
+    assert!(said.starts_with("dwg-hatch: warning: 1 hatch is drawn without pattern lines, which would be more than 20000 in all; raise"), "{said}");
     assert!(said.contains("--view") && said.contains("--max-lines") && said.contains("--only 1"), "{said}");
     // By their number, and none at all.
     let output = call(&["draw", "--width=100", "--max-lines=9"], few.as_bytes());

@@ -247,7 +247,8 @@ fn prefix_answer(value: &Value) -> String {
 fn a_refusal_is_an_object() {
     let output = call(&["read", "--json", "-"], b"hatchs 2 0 A9 0 16 4040\n");
     let expected = concat!(
-        r#"{"origin":"standard input:1","request":"hatchs","release":2,"start":0,"payload_bits":8,"strings":{"start":0,"end":16,"payload_bits":16},"refusal":{"number":6,"#,
+        r#"{"origin":"standard input:1","request":"hatchs","release":2,"start":0,"payload_bits":8,"#,
+        r#""strings":{"start":0,"end":16,"payload_bits":16},"refusal":{"number":6,"#,
         r#""meaning":"a text of the string payload passes the string reader's end bit","#,
         r#""advice":"check the string payload, its start bit and its end bit","place":8,"second_place":10}}"#,
         "\n"

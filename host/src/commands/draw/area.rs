@@ -8,8 +8,8 @@ use super::view::View;
 /// How far the points' chords may lie from their curve, in pixels.
 const OFF: f64 = 0.05;
 
-/// The most points of an arc, and the points of a Bezier curve.
-const MOST_POINTS: f64 = 16384.0;
+/// The most points of an arc, and the points of a Bezier curve. A whole circle with a radius above 170,000 pixels is off by more than `OFF`.
+const MOST_POINTS: f64 = 4096.0;
 const CURVE_POINTS: u32 = 24;
 
 /// Parallel lines in the picture: those of the points whose product with `across` is `base` and so many whole times `step`. The line's number
@@ -68,6 +68,11 @@ impl Area {
             run.steps.iter().for_each(|step| flattened(step, view, &mut ring));
         }
         self.0.push(ring);
+    }
+
+    /// How many sides all rings have.
+    pub fn sides(&self) -> usize {
+        self.0.iter().map(Vec::len).sum()
     }
 
     /// The parts of the lines numbered from the first to the last that lie inside, by the even-odd rule, line by line. `None` if they are more

@@ -27,7 +27,7 @@ use dwg_hatch::{ReadHatch, Refusal, TypedHatch};
 use self::figure::Figure;
 use self::svg::{Seen, Sheet, Shown, DOT};
 use self::view::{Extents, View};
-use crate::commands::failure::{counted, shown, Failure};
+use crate::commands::failure::{shown, Failure};
 use crate::commands::input::{Entry, Input, Item, Kind};
 use crate::commands::options::{Command, Options};
 use crate::commands::out_file;
@@ -196,25 +196,22 @@ fn warnings(wanted: &Wanted, shown: &Shown) -> Vec<String> {
     let mut lines = Vec::new();
     if let (true, Some(first)) = (wanted.view.is_none() && shown.hatches > 1 && 2 * shown.dots >= shown.hatches, &shown.first_dot) {
         let dots = format!("{} of {} hatches are smaller than {DOT} pixels here, since they lie far apart", shown.dots, shown.hatches);
-        lines.push(format!("{dots}; look at one by --only LINE, at a part by --view X,Y,WIDTH,HEIGHT: {}", way_to(first)));
+        lines.push(format!("{dots}; look at {}", ways_to(first)));
     }
     if let (true, Some(first)) = (wanted.most_strokes > 0, &shown.first_flood) {
-        let floods = format!("{} drawn without pattern lines, which would be more than {}", are(shown.floods), wanted.most_strokes);
-        lines.push(format!("{floods} in all; look at a part by --view, or raise --max-lines: {}", way_to(first)));
+        let hatches = if shown.floods == 1 { "1 hatch is".to_string() } else { format!("{} hatches are", shown.floods) };
+        let floods = format!("{hatches} drawn without pattern lines, which would be more than {} in all", wanted.most_strokes);
+        lines.push(format!("{floods}; raise --max-lines, or look at {}", ways_to(first)));
     }
     lines
 }
 
-fn are(hatches: usize) -> String {
-    format!("{} {}", counted(hatches, "hatch").replace("hatchs", "hatches"), if hatches == 1 { "is" } else { "are" })
-}
-
-/// How to look at a hatch: its line, and a view of it.
-fn way_to(seen: &Seen) -> String {
-    let view = seen.extents.with_margin().rounded();
-    match seen.line {
-        Some(line) => format!("the first is that of line {line}, --only {line} or --view {view}"),
-        None => format!("--view {view}"),
+/// How to look at a part of a picture, and at its first hatch that is hard to see. Only a hatch of a line can be asked for by `--only`.
+fn ways_to(first: &Seen) -> String {
+    let view = first.extents.with_margin().rounded();
+    match first.line {
+        Some(line) => format!("one by --only LINE, at a part by --view X,Y,WIDTH,HEIGHT: the first is that of line {line}, --only {line} or --view {view}"),
+        None => format!("a part by --view X,Y,WIDTH,HEIGHT: the first is at --view {view}"),
     }
 }
 

@@ -18,6 +18,9 @@ const LEAST_PERIOD: f64 = 1.0;
 /// Where a line's dashes start farther away than this, in pixels, it is drawn without gaps: a double has no digits left for where they lie.
 const FARTHEST_START: f64 = 1e12;
 
+/// So often at most a family is looked at along a side of an outline. A hatch may have 4096 families and millions of sides, for which no one waits.
+const MOST_LOOKS: usize = 100_000_000;
+
 /// A pattern line's family in the picture.
 struct Family {
     stripes: Stripes,
@@ -38,11 +41,15 @@ pub fn is_drawable(line: &PatternLine) -> bool {
     [*angle, origin.x, origin.y, offset.x, offset.y].iter().chain(dashes).all(|number| number.abs() <= GREATEST)
 }
 
-/// The strokes of pattern lines in an area, in pixels. `None` if they are more than so many.
+/// The strokes of pattern lines in an area, in pixels. `None` if they, or the lines' parts in the area, are more than so many.
 pub fn strokes<'a>(lines: impl Iterator<Item = &'a PatternLine>, is_mirrored: bool, area: &Area, view: &View, most: usize) -> Option<Vec<[Point2D; 2]>> {
-    let mut strokes = Vec::new();
-    for family in lines.filter_map(|line| Family::new(line, is_mirrored, view)) {
-        family.draw(area, view, most, &mut strokes)?;
+    let families: Vec<Family> = lines.filter_map(|line| Family::new(line, is_mirrored, view)).collect();
+    if families.len().saturating_mul(area.sides()) > MOST_LOOKS {
+        return None;
+    }
+    let (mut strokes, mut parts) = (Vec::new(), 0);
+    for family in families {
+        parts += family.draw(area, view, most - parts, most, &mut strokes)?;
     }
     Some(strokes)
 }
@@ -67,20 +74,21 @@ impl Family {
         Some(Family { stripes, is_single, start: product(along, origin), shift: product(along, offset), dashes, period })
     }
 
-    /// Adds the family's strokes. `None` if there are more than so many then.
-    fn draw(&self, area: &Area, view: &View, most: usize, strokes: &mut Vec<[Point2D; 2]>) -> Option<()> {
+    /// Adds the family's strokes, and says how many parts of lines lie in the area, seen or not. `None` if these, or all strokes, are more than so many.
+    fn draw(&self, area: &Area, view: &View, most_parts: usize, most: usize, strokes: &mut Vec<[Point2D; 2]>) -> Option<usize> {
         let [width, height] = [view.width, view.height].map(f64::from);
         let corners = [[0.0, 0.0], [width, 0.0], [0.0, height], [width, height]].map(|[x, y]| Point2D { x, y });
         let [first, last] = ends(corners.map(|corner| self.stripes.number(corner)));
         let numbers = if self.is_single { [0.0, 0.0] } else { [first.ceil(), last.floor()] };
         let seen = ends(corners.map(|corner| product(self.stripes.along, corner)));
-        for part in area.inside(&self.stripes, numbers, most)? {
-            let part = Inside { from: part.from.max(seen[0]), to: part.to.min(seen[1]), ..part };
+        let parts = area.inside(&self.stripes, numbers, most_parts)?;
+        for part in &parts {
+            let part = Inside { from: part.from.max(seen[0]), to: part.to.min(seen[1]), ..*part };
             if part.from < part.to {
                 self.dash(&part, most, strokes)?;
             }
         }
-        Some(())
+        Some(parts.len())
     }
 
     /// Adds a part of a line, with its gaps.

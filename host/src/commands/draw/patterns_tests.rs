@@ -85,6 +85,9 @@ fn floods_are_none() {
         assert_eq!(near(step, &[]), None, "{step}");
     }
     assert_eq!(near(0.1, &[0.1, -0.05]), None, "by their dashes");
+    // Families that are few each are many together.
+    let families = vec![line(0.0, (0.0, 0.0), (0.0, 0.1), &[]); 11];
+    assert!(in_square_at((0.0, 0.0), &families[..9], 1000).is_some() && in_square_at((0.0, 0.0), &families, 1000).is_none());
 }
 
 #[test]

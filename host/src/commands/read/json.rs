@@ -24,12 +24,24 @@ pub fn double(bits: u64) -> String {
 
 /// A list.
 pub fn array(items: impl IntoIterator<Item = String>) -> String {
-    format!("[{}]", joined(items))
+    let mut list = opened('[');
+    for item in items {
+        part(&mut list);
+        list.push_str(&item);
+    }
+    list.push(']');
+    list
 }
 
 /// An object.
 pub fn object<'a>(fields: impl IntoIterator<Item = (&'a str, String)>) -> String {
-    format!("{{{}}}", joined(fields.into_iter().map(|(name, value)| format!("\"{name}\":{value}"))))
+    let mut object = opened('{');
+    for (name, value) in fields {
+        part(&mut object);
+        [r#"""#, name, r#"":"#, &value].iter().for_each(|text| object.push_str(text));
+    }
+    object.push('}');
+    object
 }
 
 /// A value, or `null` where there is none.
@@ -37,15 +49,18 @@ pub fn or_null(value: Option<String>) -> String {
     value.unwrap_or_else(|| "null".to_string())
 }
 
-fn joined(items: impl IntoIterator<Item = String>) -> String {
-    let mut list = String::new();
-    for item in items {
-        if !list.is_empty() {
-            list.push(',');
-        }
-        list.push_str(&item);
+/// A text that starts with a bracket, with room for most objects and lists, so that it seldom has to move as it grows.
+fn opened(bracket: char) -> String {
+    let mut text = String::with_capacity(120);
+    text.push(bracket);
+    text
+}
+
+/// A comma, if something stands behind the first bracket.
+fn part(text: &mut String) {
+    if text.len() > 1 {
+        text.push(',');
     }
-    list
 }
 
 #[cfg(test)]

@@ -75,7 +75,9 @@ fn title(item: &Item, kind: &str, release: u64, [start, end]: [usize; 2], payloa
 
 /// A line with what it is about in front.
 fn line(about: &str, text: String) -> String {
-    format!("  {about:<9} {text}")
+    const WIDTH: usize = 9;
+    let spaces = &"          "[..1 + WIDTH.saturating_sub(about.len())];
+    ["  ", about, spaces, &text].concat()
 }
 
 fn gradient(fill: &GradientFill<u64>, name: &Name) -> Vec<String> {
