@@ -66,7 +66,6 @@ pub struct Tail {
     pub last: Read,
 }
 
-// Up to the mode.
 pub fn read_head(s: &[u8], at: usize, row: Row) -> Head
     requires { ⌜ length (now s) ≤ limit ⌝ }
     ensures { λ r. ⌜ r ≡ headOf row (now (s .entry)) at ⌝ }
@@ -82,7 +81,6 @@ pub fn read_head(s: &[u8], at: usize, row: Row) -> Head
     }
 }
 
-// From the mode to the colour.
 pub fn read_modes(s: &[u8], prior: Read, row: Row) -> Modes
     requires { ⌜ length (now s) ≤ limit ⌝ }
     ensures { λ r. ⌜ r ≡ modesOf row (now (s .entry)) prior ⌝ }
@@ -133,7 +131,6 @@ pub fn announced_by(row: Row, colour: u64) -> Announced
     }
 }
 
-// The colour, and what its flags announce.
 pub fn read_colours(s: &[u8], prior: Read, row: Row) -> Colours
     requires { ⌜ length (now s) ≤ limit ⌝ }
     ensures { λ r. ⌜ r ≡ coloursOf row (now (s .entry)) prior ⌝ }
@@ -164,7 +161,6 @@ pub fn read_colours(s: &[u8], prior: Read, row: Row) -> Colours
     }
 }
 
-// The linetype scale and the flags behind it.
 pub fn read_styles(s: &[u8], prior: Read, row: Row) -> Styles
     requires { ⌜ length (now s) ≤ limit ⌝ }
     ensures { λ r. ⌜ r ≡ stylesOf row (now (s .entry)) prior ⌝ }
@@ -184,7 +180,6 @@ pub fn read_styles(s: &[u8], prior: Read, row: Row) -> Styles
     }
 }
 
-// From the visual styles to the end.
 pub fn read_tail(s: &[u8], prior: Read, row: Row) -> Tail
     requires { ⌜ length (now s) ≤ limit ⌝ }
     ensures { λ r. ⌜ r ≡ tailOf row (now (s .entry)) prior ⌝ }

@@ -26,7 +26,6 @@ fn entity_mode(v: u64) -> EntityMode
     }
 }
 
-// The record of what was laid out.
 pub fn common_bits(row: Row, h: Head, m: Modes, c: Colours, t: Styles, e: Tail) -> CommonEntityBits
     requires { ⌜ InRange h m c t e ⌝ }
     ensures { λ r. ⌜ r ≡ bitsOf row h m c t e ⌝ }
@@ -67,7 +66,6 @@ pub fn common_bits(row: Row, h: Head, m: Modes, c: Colours, t: Styles, e: Tail) 
     }
 }
 
-// Zero throughout.
 pub fn zero_bits() -> CommonEntityBits
     ensures { λ r. ⌜ r ≡ zeroBits ⌝ }
 {

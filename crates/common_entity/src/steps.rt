@@ -1,4 +1,4 @@
-// The prefix's fields that are more than one code: the XDATA chain, graphics, and a colour's name.
+// The prefix's fields that are more than one code: the XDATA chain, graphics, a colour's name, and three BB in a row.
 ghost use mathlib.Core.Path.{_≡_};
 ghost use mathlib.Core.Bool.{true};
 ghost use Prim.Native.Nat.{_≤_};
@@ -17,7 +17,7 @@ use bitcursor::Refusal;
 use bitcursor::sequence;
 use text::ReadText;
 
-// Three fields of one width, and the last answer.
+// The numbers of three fields, and the last answer.
 pub struct Three {
     pub first: u64,
     pub second: u64,

@@ -131,7 +131,6 @@ pub fn rows() -> [Row; 7]
     ROWS
 }
 
-// The row of a release.
 pub fn row_of(v: Version) -> Row
     ensures { λ r. ⌜ r ≡ rowOf v ⌝ }
 {
