@@ -60,9 +60,19 @@ put-spline-head-requires c κs =
     let r = head-read (now (a .s)) (a .caps) (a .at) (after-read-spline-head .read-spline-head .ensures) in
     let d = r .head-end (after-last .last .given .1) (entry .pre .0 .1 .0) in
     let h = entry .pre .0 in
-    let m = entry .pre .1 in
-    (omega (arith, h .0, h .1 .0, h .1 .1 .1), (r .degree, (r .rational, (r .periodic,
-    (omega (arith, r .knots, m .knots), omega (arith, d .controls, m .«control_points»))))))
+    let m = entry .pre .1 in (
+      omega (arith, h .0, h .1 .0, h .1 .1 .1),
+      (
+        r .degree,
+        (
+          r .rational,
+          (
+            r .periodic,
+            (omega (arith, r .knots, m .knots), omega (arith, d .controls, m .«control_points»)),
+          ),
+        ),
+      ),
+    )
 
 add-decode-spline-lists : tie.Need-add-decode-spline-lists
 add-decode-spline-lists c = search needs
@@ -77,9 +87,10 @@ decode-spline-lists-requires c κs =
     let r = head-read (now (a .s)) (a .caps) (a .at) (after-read-spline-head .read-spline-head .ensures) in
     let d = r .head-end (after-last .last .given .1) (entry .pre .0 .1 .0) in
     let h = entry .pre .0 in
-    let m = entry .pre .1 in
-    ((h .0, (d .inside, (omega (arith, d .onward, h .1 .1 .0), omega (arith, d .onward, h .1 .1 .1)))),
-    (omega (arith, d .onward, h .1 .1 .1), (omega (arith, d .controls, m .«control_points»), omega (arith, m .«fit_points»))))
+    let m = entry .pre .1 in (
+      (h .0, (d .inside, (omega (arith, d .onward, h .1 .1 .0), omega (arith, d .onward, h .1 .1 .1)))),
+      (omega (arith, d .onward, h .1 .1 .1), (omega (arith, d .controls, m .«control_points»), omega (arith, m .«fit_points»))),
+    )
 
 enum-known-last-2 : tie.Need-enum-known-last-2
 enum-known-last-2 c = search needs

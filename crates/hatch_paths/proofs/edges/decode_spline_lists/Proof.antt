@@ -11,7 +11,8 @@ use Rattle.hatch_points.specs.Gathered.{Entries, plus}
 use Rattle.hatch_points.specs.Walks.{double-run, vertices-walk}
 use Rattle.hatch_paths.specs.PathWalks.{fits-walk, spline-lists-walk}
 use Rattle.hatch_format.specs.Takes.{takes-none}
-use Rattle.hatch_points.proofs.Laws.{words-still, Step, _⊕_, walk-finished, walk-ready, walk-refused, walks-as, refuses, behind, words-kept, plus-again, onward, kept-then, kept-numbers, walk-kept}
+use Rattle.hatch_points.proofs.Laws.{words-still, Step, _⊕_, walk-finished, walk-ready, walk-refused, walks-as, refuses, behind, words-kept}
+use Rattle.hatch_points.proofs.Laws.{plus-again, onward, kept-then, kept-numbers, walk-kept}
 use Rattle.hatch_points.proofs.NoWords.{double-wordless, vertices-wordless}
 use borrow.Author.Needs.{needs}
 use Rattle.hatch_paths.proofs.edges.decode_spline_lists.Statement.{statement}
@@ -100,9 +101,10 @@ decode-fits-requires c κs =
     let v = onward (vertices-walk (eqb 1 (a .head .rational)) (a .controls)) 0 (takes-none (vertices-walk (eqb 1 (a .head .rational)) (a .controls)))
     s _ (k .read) (w .1 .0) in
     let x = words-still h d in
-    let y = words-still k (vertices-wordless (eqb 1 (a .head .rational)) (a .controls) s _) in
-    (walk-ready (after-decode-points .decode-points .ensures) (after-q .q .given .1),
-    (omega (arith, x, y, u .0, v .0, (entry .pre) .1 .0), (entry .pre) .1 .1 .1))
+    let y = words-still k (vertices-wordless (eqb 1 (a .head .rational)) (a .controls) s _) in (
+      walk-ready (after-decode-points .decode-points .ensures) (after-q .q .given .1),
+      (omega (arith, x, y, u .0, v .0, (entry .pre) .1 .0), (entry .pre) .1 .1 .1),
+    )
 
 enum-known-k : tie.Need-enum-known-k
 enum-known-k c = search needs

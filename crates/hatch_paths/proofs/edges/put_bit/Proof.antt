@@ -62,8 +62,11 @@ returns c =
     let h = entry .pre in
     let on = onward (coded (raw 1)) 1 (takes-raw 1) s (a .at) e (h .1 .0) in
     ends (word (bit (eqb 1 v))) (bit-read s (a .at) e)
-    (record { lists = λ i. lists [] [] ((after-put-word .put-word .ensures ∙ ap (set (now (a .words)) (a .z .words)) (sym b)) i); sizes = one-word
-    (a .z) (bit (eqb 1 v)) })
+    (record {
+      lists = λ i. lists [] [] ((after-put-word .put-word .ensures ∙ ap (set (now (a .words)) (a .z .words)) (sym b)) i);
+      sizes = one-word
+          (a .z) (bit (eqb 1 v));
+    })
     (h .0, (on .1, (omega (arith, on .0, h .1 .1 .0), omega (arith, on .0, h .1 .1 .1))))
 
 returns-2 : tie.Need-returns-2

@@ -41,8 +41,11 @@ put-handle-count-requires c κs =
     let after-slice-known6 = after-p .before .before in
     let after-decode-segments = after-decode-segments-from-after-slice-known6 after-slice-known6 in
     let entry = entry-from-after-decode-segments after-decode-segments in
-    let m = entry .pre .1 in (walk-ready (after-decode-segments .decode-segments .ensures) (after-p .p .given .1), omega
-    (arith, m .«boundary_handles»))
+    let m = entry .pre .1 in (
+      walk-ready (after-decode-segments .decode-segments .ensures) (after-p .p .given .1),
+      omega
+          (arith, m .«boundary_handles»),
+    )
 
 enum-known-k : tie.Need-enum-known-k
 enum-known-k c = search needs

@@ -83,9 +83,13 @@ put-polyline-head-requires c κs =
     let b = bulge-below s (a .caps) (a .at) (after-read-bits .read-bits .ensures) (after-then-bits .then-bits .ensures)
     (after-then-count .then-count .ensures) in
     let k = closed-below s (a .caps) (a .at) (after-read-bits .read-bits .ensures) (after-then-bits .then-bits .ensures)
-    (after-then-count .then-count .ensures) in
-    (omega (arith, h .0, h .1 .0, h .1 .1 .1), (omega (arith, b, (after-value-of .value-of) .ensures),
-    (omega (arith, k, (c .value-of2) .ensures), omega (arith, d .capped, m .vertices))))
+    (after-then-count .then-count .ensures) in (
+      omega (arith, h .0, h .1 .0, h .1 .1 .1),
+      (
+        omega (arith, b, (after-value-of .value-of) .ensures),
+        (omega (arith, k, (c .value-of2) .ensures), omega (arith, d .capped, m .vertices)),
+      ),
+    )
 
 add-decode-points : tie.Need-add-decode-points
 add-decode-points c = search needs

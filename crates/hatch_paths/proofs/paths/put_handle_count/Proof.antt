@@ -58,8 +58,11 @@ returns c =
     let n = after-n .n .given .0 .0 in
     let e = read-value _ (after-read-count .read-count .ensures) (after-n .n .given .1) in
     let on = onward (bounded (a .cap) BL) 2 (takes-bounded (a .cap) BL 2 takes-BL) s (a .at) e (h .1 .0) in
-    ends (word n) (handles-read (a .cap) s (a .at) e) (record { lists = λ i. lists [] [] (after-put-word .put-word .ensures i); sizes = one-word
-    (a .z) n })
+    ends (word n) (handles-read (a .cap) s (a .at) e) (record {
+      lists = λ i. lists [] [] (after-put-word .put-word .ensures i);
+      sizes = one-word
+          (a .z) n;
+    })
     (h .0, (on .1, (omega (arith, on .0, h .1 .1 .0), omega (arith, on .0, h .1 .1 .1))))
 
 returns-2 : tie.Need-returns-2
