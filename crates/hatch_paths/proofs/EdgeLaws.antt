@@ -38,7 +38,8 @@ fitted-some zero h = absurd (h refl)
 fitted-some (suc n) h = refl
 
 -- a kind that is not 1 to 4
-pub other-kind : (caps : Caps) (b : Bool) (k : ℕ) (xs : List ℕ) (p : ℕ) → (k ≡ 1 → ⊥) → (k ≡ 2 → ⊥) → (k ≡ 3 → ⊥) → (k ≡ 4 → ⊥) → (edge-of-walk caps b k) .read xs p ≡ refused EdgeKind p
+pub other-kind : (caps : Caps) (b : Bool) (k : ℕ) (xs : List ℕ) (p : ℕ) → (k ≡ 1 → ⊥) → (k ≡ 2 → ⊥) → (k ≡ 3 → ⊥) → (k ≡ 4 → ⊥)
+    → (edge-of-walk caps b k) .read xs p ≡ refused EdgeKind p
 unfolding edge-of-walk refuse
 other-kind caps b zero xs p h₁ h₂ h₃ h₄ = refl
 other-kind caps b (suc zero) xs p h₁ h₂ h₃ h₄ = absurd (h₁ refl)
@@ -56,6 +57,7 @@ pub handles-read : (cap : ℕ) (xs : List ℕ) (p : ℕ) {n q : ℕ} → (bounde
 unfolding handles-walk _>>=_ pure
 handles-read cap xs p e = rw (handles-bounded cap 0 xs p, e)
 
-pub handles-refused : (cap : ℕ) (xs : List ℕ) (p : ℕ) {k : Refusal} {q : ℕ} → (bounded cap BL) .read xs p ≡ refused k q → (handles-walk cap) .read xs p ≡ refused k q
+pub handles-refused : (cap : ℕ) (xs : List ℕ) (p : ℕ) {k : Refusal} {q : ℕ} → (bounded cap BL) .read xs p ≡ refused k q
+    → (handles-walk cap) .read xs p ≡ refused k q
 unfolding handles-walk _>>=_ pure
 handles-refused cap xs p e = rw (handles-bounded cap 0 xs p, e)

@@ -76,7 +76,8 @@ module _ (xs : List ℕ) (caps : Caps) (p : ℕ) where
   -- the words as the code stores them
   pub stored-words : (n : ℕ)
       → splineHead xs caps p .degree ∷ (splineHead xs caps p .rational ∷ (splineHead xs caps p .periodic ∷ (splineHead xs caps p .knots ∷ (n ∷ []))))
-      ≡ splineHead xs caps p .degree ∷ (bit (eqb 1 (splineHead xs caps p .rational)) ∷ (bit (eqb 1 (splineHead xs caps p .periodic)) ∷ (splineHead xs caps p .knots ∷ (n ∷ []))))
+      ≡ splineHead xs caps p .degree ∷
+      (bit (eqb 1 (splineHead xs caps p .rational)) ∷ (bit (eqb 1 (splineHead xs caps p .periodic)) ∷ (splineHead xs caps p .knots ∷ (n ∷ []))))
   stored-words n =
       sym (ap₂ (λ (i j : ℕ). splineHead xs caps p .degree ∷ (i ∷ (j ∷ (splineHead xs caps p .knots ∷ (n ∷ [])))))
       (bit-of (splineHead xs caps p .rational) rational-below) (bit-of (splineHead xs caps p .periodic) periodic-below))
@@ -90,7 +91,8 @@ pub record Reads (xs : List ℕ) (caps : Caps) (p : ℕ) (h : SplineHead) : Type
   pub head-end : {n q : ℕ} → h .last ≡ Value n q → p ≤ 8 * length xs → HeadEnd xs caps p n q
   pub reads : (b : Bool) → (spline-walk caps b) .read xs p ≡ resumed xs (spline-after-counts caps b h) (h .last)
   pub stored : (n : ℕ)
-      → h .degree ∷ (h .rational ∷ (h .periodic ∷ (h .knots ∷ (n ∷ [])))) ≡ h .degree ∷ (bit (eqb 1 (h .rational)) ∷ (bit (eqb 1 (h .periodic)) ∷ (h .knots ∷ (n ∷ []))))
+      → h .degree ∷ (h .rational ∷ (h .periodic ∷ (h .knots ∷ (n ∷ []))))
+      ≡ h .degree ∷ (bit (eqb 1 (h .rational)) ∷ (bit (eqb 1 (h .periodic)) ∷ (h .knots ∷ (n ∷ []))))
 
 pub head-read : (xs : List ℕ) (caps : Caps) (p : ℕ) {h : SplineHead} → h ≡ splineHead xs caps p → Reads xs caps p h
 head-read xs caps p e =

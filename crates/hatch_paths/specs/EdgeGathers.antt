@@ -56,7 +56,8 @@ run xs n p = refl
 
 module _ (xs : List ℕ) where
   -- ---- 3 BD and B, behind points
-  bit-word : (h : Entries → Entries) (p : ℕ) → (coded B >>= λ b. pure {M = one} (h (word (bit b)))) .read xs p ≡ (bit-walk >>= λ e. pure {M = one} (h e)) .read xs p
+  bit-word : (h : Entries → Entries) (p : ℕ)
+      → (coded B >>= λ b. pure {M = one} (h (word (bit b)))) .read xs p ≡ (bit-walk >>= λ e. pure {M = one} (h e)) .read xs p
   unfolding bit-walk _>>=_ pure
   bit-word h p = go (B .read xs p)
     where
@@ -65,7 +66,8 @@ module _ (xs : List ℕ) where
       go (refused k q) = refl
 
   curve-angles : (n p : ℕ)
-      → (raw-run n >>= λ a. coded BD >>= λ r. coded BD >>= λ s. coded BD >>= λ e. coded B >>= λ ccw. pure (plus a (plus (numbers (r ∷ (s ∷ (e ∷ [])))) (word (bit ccw))))) .read xs p
+      → (raw-run n >>= λ a. coded BD >>= λ r. coded BD >>= λ s. coded BD >>= λ e. coded B >>= λ ccw. pure
+      (plus a (plus (numbers (r ∷ (s ∷ (e ∷ [])))) (word (bit ccw))))) .read xs p
       ≡ (curve-walk n) .read xs p
   unfolding curve-walk
   curve-angles n p =
@@ -107,14 +109,17 @@ module _ (xs : List ℕ) where
       (λ a. raw-run 4 >>= λ b. pure (plus (word (suc n)) (plus a b))) (points-gather xs (suc n) p) (λ points q h.
       first-gathers fitEntries xs q (pointEntries xs) point (raw-run 2) _
       (λ b. raw-run 2 >>= λ c. pure (plus (word (suc n)) (plus (all (pointEntries xs) points) (plus b c)))) (point-gathers xs q) (λ start q i.
-      first-gathers fitEntries xs q (pointEntries xs) point (raw-run 2) _ _ (point-gathers xs q) (λ end q j. last-gathers fitEntries xs q _ (made points start end h)))
+      first-gathers fitEntries xs q (pointEntries xs) point (raw-run 2) _ _ (point-gathers xs q)
+      (λ end q j. last-gathers fitEntries xs q _ (made points start end h)))
       ∙ raw-split xs 2 2 (λ b. pure (plus (word (suc n)) (plus (all (pointEntries xs) points) b))) q)
       ∙ raw-split xs (2 * suc n) 4 (λ a. pure (plus (word (suc n)) a)) p
     where
       made : (points : List Point) (start end : Point) {q : ℕ} → (times (suc n) point) .read xs p ≡ got points q
-          → fitEntries (fitted points start end) ≡ plus (word (suc n)) (plus (all (pointEntries xs) points) (plus (pointEntries xs start) (pointEntries xs end)))
+          → fitEntries (fitted points start end)
+          ≡ plus (word (suc n)) (plus (all (pointEntries xs) points) (plus (pointEntries xs start) (pointEntries xs end)))
       made points start end h =
-          ap₂ (λ (m : ℕ) (e : Entries). plus (word m) (plus e (plus (pointEntries xs start) (pointEntries xs end)))) (times-length point xs (suc n) p h) (sym (all-numbers pointNumbers points))
+          ap₂ (λ (m : ℕ) (e : Entries). plus (word m) (plus e (plus (pointEntries xs start) (pointEntries xs end))))
+          (times-length point xs (suc n) p h) (sym (all-numbers pointNumbers points))
 
   pub fits-gathers : (cap : ℕ) (b : Bool) (p : ℕ) → gathered fitEntries ((fits cap b) .read xs p) ≡ (fits-walk cap b) .read xs p
   unfolding fits fits-read fits-walk counted relay
@@ -127,12 +132,16 @@ module _ (xs : List ℕ) where
     fit-release = leb 5 (releaseNumber v)
 
     module _ (degree : ℕ) (rational periodic : Bool) (knots controls : ℕ) where
-      pub lists-gather : (p : ℕ) → gathered listEntries ((spline-lists caps v degree rational periodic knots controls) .read xs p) ≡ (spline-lists-walk caps fit-release rational knots controls) .read xs p
+      pub lists-gather : (p : ℕ)
+          → gathered listEntries ((spline-lists caps v degree rational periodic knots controls) .read xs p)
+          ≡ (spline-lists-walk caps fit-release rational knots controls) .read xs p
       unfolding spline-lists spline-lists-walk
       lists-gather p =
           first-gathers listEntries xs p numbers (times knots (coded BD)) (double-run knots) _ _ (run xs knots p) (λ ks q h.
-          first-gathers listEntries xs q (all (vertexEntries xs rational)) (times controls (vertex rational)) (vertices-walk rational controls) _ _ (vertices-gather xs rational controls q) (λ cs q i.
-          first-gathers listEntries xs q fitEntries (fits (caps .«fit_points») fit-release) (fits-walk (caps .«fit_points») fit-release) _ _ (fits-gathers (caps .«fit_points») fit-release q) (λ fs q j.
+          first-gathers listEntries xs q (all (vertexEntries xs rational)) (times controls (vertex rational)) (vertices-walk rational controls) _ _
+          (vertices-gather xs rational controls q) (λ cs q i.
+          first-gathers listEntries xs q fitEntries (fits (caps .«fit_points») fit-release) (fits-walk (caps .«fit_points») fit-release) _ _
+          (fits-gathers (caps .«fit_points») fit-release q) (λ fs q j.
           last-gathers listEntries xs q _ (ap (λ (e : Entries). plus (numbers ks) (plus e (fitEntries fs))) (sym (all-numbers (vertexNumbers rational) cs))))))
 
       -- what the lists were made of
@@ -142,7 +151,15 @@ module _ (xs : List ℕ) where
       lists-made a p q e =
           let l = (spline-lists caps v degree rational periodic knots controls) .sound xs a p q e in
           let m = l .3 .3 .3 in
-          rw (m .0) (ap₂ (λ (i j : ℕ). record { words = degree ∷ (bit rational ∷ (bit periodic ∷ (i ∷ (j ∷ (fitCount (l .3 .3 .0) ∷ []))))); numbers = l .0 ++ (every (vertexNumbers rational) (l .3 .0) ++ fitNumbers (l .3 .3 .0)); derived = false }) (l .2 .0) (l .3 .2 .0))
+          rw (m .0) (ap₂ (counts-made (l .0) (l .3 .0) (l .3 .3 .0)) (l .2 .0) (l .3 .2 .0))
+        where
+          counts-made : List ℕ → List Vertex → Fits → ℕ → ℕ → Entries
+          counts-made ks cs fs i j =
+              record {
+                words = degree ∷ (bit rational ∷ (bit periodic ∷ (i ∷ (j ∷ (fitCount fs ∷ [])))));
+                numbers = ks ++ (every (vertexNumbers rational) cs ++ fitNumbers fs);
+                derived = false;
+              }
 
     pub spline-gathers : (p : ℕ) → gathered splineEntries ((spline-edge caps v) .read xs p) ≡ (spline-walk caps fit-release) .read xs p
     unfolding spline-edge spline-read spline-counts spline-controls spline-walk counted relay
@@ -152,24 +169,31 @@ module _ (xs : List ℕ) where
         same-first splineEntries xs q (coded B) _ _ (λ periodic q h.
         same-first splineEntries xs q (bounded (caps .knots) BL) (spline-controls caps v degree rational periodic) _ (λ knots q h.
         same-first splineEntries xs q (bounded (caps .«control_points») BL) (spline-lists caps v degree rational periodic knots) _ (λ controls q h.
-        more-gathers splineEntries listEntries (words (degree ∷ (bit rational ∷ (bit periodic ∷ (knots ∷ (controls ∷ [])))))) (spline-lists caps v degree rational periodic knots controls) _ xs q
+        more-gathers splineEntries listEntries (words (degree ∷ (bit rational ∷ (bit periodic ∷ (knots ∷ (controls ∷ []))))))
+        (spline-lists caps v degree rational periodic knots controls) _ xs q
         (lists-gather degree rational periodic knots controls q) (λ a r e. lists-made degree rational periodic knots controls a q r e))))))
 
     -- ---- edges
-    none-such : (k p : ℕ) → gathered edgeEntries ((refuse {M = one} EdgeKind) .read xs p) ≡ (refuse {M = one} EdgeKind >>= λ e. pure (plus (word k) e)) .read xs p
+    none-such : (k p : ℕ)
+        → gathered edgeEntries ((refuse {M = one} EdgeKind) .read xs p) ≡ (refuse {M = one} EdgeKind >>= λ e. pure (plus (word k) e)) .read xs p
     unfolding refuse _>>=_
     none-such k p = refl
 
-    pub edge-of-gathers : (k p : ℕ) → gathered edgeEntries ((edge-of caps v k) .read xs p) ≡ (edge-of-walk caps fit-release k >>= λ e. pure (plus (word k) e)) .read xs p
+    pub edge-of-gathers : (k p : ℕ)
+        → gathered edgeEntries ((edge-of caps v k) .read xs p) ≡ (edge-of-walk caps fit-release k >>= λ e. pure (plus (word k) e)) .read xs p
     unfolding edge-of edge-of-walk
     edge-of-gathers zero p = none-such 0 p
     edge-of-gathers (suc zero) p =
-        first-gathers edgeEntries xs p (pointEntries xs) point (raw-run 2) _ (λ a. raw-run 2 >>= λ b. pure (plus (word 1) (plus a b))) (point-gathers xs p) (λ a q h.
+        first-gathers edgeEntries xs p (pointEntries xs) point (raw-run 2) _ (λ a. raw-run 2 >>= λ b. pure (plus (word 1) (plus a b)))
+        (point-gathers xs p) (λ a q h.
         first-gathers edgeEntries xs q (pointEntries xs) point (raw-run 2) _ _ (point-gathers xs q) (λ b q i. last-gathers edgeEntries xs q _ refl))
         ∙ raw-split xs 2 2 (λ a. pure (plus (word 1) a)) p
-    edge-of-gathers (suc (suc zero)) p = first-gathers edgeEntries xs p arcEntries arc-edge (curve-walk 2) _ _ (arc-gathers p) (λ a q h. last-gathers edgeEntries xs q _ refl)
-    edge-of-gathers (suc (suc (suc zero))) p = first-gathers edgeEntries xs p ellipseEntries ellipse-edge (curve-walk 4) _ _ (ellipse-gathers p) (λ a q h. last-gathers edgeEntries xs q _ refl)
-    edge-of-gathers (suc (suc (suc (suc zero)))) p = first-gathers edgeEntries xs p splineEntries (spline-edge caps v) (spline-walk caps fit-release) _ _ (spline-gathers p) (λ a q h. last-gathers edgeEntries xs q _ refl)
+    edge-of-gathers (suc (suc zero)) p =
+        first-gathers edgeEntries xs p arcEntries arc-edge (curve-walk 2) _ _ (arc-gathers p) (λ a q h. last-gathers edgeEntries xs q _ refl)
+    edge-of-gathers (suc (suc (suc zero))) p =
+        first-gathers edgeEntries xs p ellipseEntries ellipse-edge (curve-walk 4) _ _ (ellipse-gathers p) (λ a q h. last-gathers edgeEntries xs q _ refl)
+    edge-of-gathers (suc (suc (suc (suc zero)))) p =
+        first-gathers edgeEntries xs p splineEntries (spline-edge caps v) (spline-walk caps fit-release) _ _ (spline-gathers p) (λ a q h. last-gathers edgeEntries xs q _ refl)
     edge-of-gathers (suc (suc (suc (suc (suc k))))) p = none-such (suc (suc (suc (suc (suc k))))) p
 
     pub edge-gathers : (p : ℕ) → gathered edgeEntries ((edge caps v) .read xs p) ≡ (edge-walk caps fit-release) .read xs p

@@ -42,7 +42,8 @@ fn decode_curve(
     z: Sizes,
 ) -> Walk
     requires { ⌜ Ready (now s) at z × (n < 2 ^ 32) ⌝ }
-    ensures { λ r. ⌜ Walks (now (s .entry)) ((curve-walk n) .read (now (s .entry)) at) (lists (now (numbers .entry)) (now (bits .entry)) (now (words .entry))) z (lists (now (numbers .exit)) (now (bits .exit)) (now (words .exit))) r ⌝ }
+    ensures { λ r. ⌜ Walks (now (s .entry)) ((curve-walk n) .read (now (s .entry)) at)
+        (lists (now (numbers .entry)) (now (bits .entry)) (now (words .entry))) z (lists (now (numbers .exit)) (now (bits .exit)) (now (words .exit))) r ⌝ }
 {
     match runs::raw_run(s, at, n, numbers, bits, z) {
         Walk::Done(p, y) => match runs::double_run(s, p, 3, numbers, bits, y) {
@@ -86,7 +87,8 @@ fn decode_fits(
     z: Sizes,
 ) -> Walk
     requires { ⌜ Ready (now s) at z × ((z .words + 1 ≤ at) × (cap < 2 ^ 30)) ⌝ }
-    ensures { λ r. ⌜ Walks (now (s .entry)) ((fits-walk cap fits) .read (now (s .entry)) at) (lists (now (numbers .entry)) (now (bits .entry)) (now (words .entry))) z (lists (now (numbers .exit)) (now (bits .exit)) (now (words .exit))) r ⌝ }
+    ensures { λ r. ⌜ Walks (now (s .entry)) ((fits-walk cap fits) .read (now (s .entry)) at)
+        (lists (now (numbers .entry)) (now (bits .entry)) (now (words .entry))) z (lists (now (numbers .exit)) (now (bits .exit)) (now (words .exit))) r ⌝ }
 {
     let y = Sizes {
         numbers: z.numbers,
@@ -131,7 +133,8 @@ fn decode_spline_lists(
     z: Sizes,
 ) -> Walk
     requires { ⌜ Ready (now s) at z × ((z .words + 1 ≤ at) × ((controls < 2 ^ 31) × (caps .«fit_points» < 2 ^ 30))) ⌝ }
-    ensures { λ r. ⌜ Walks (now (s .entry)) ((spline-lists-walk caps fits (eqb 1 (head .rational)) (head .knots) controls) .read (now (s .entry)) at) (lists (now (numbers .entry)) (now (bits .entry)) (now (words .entry))) z (lists (now (numbers .exit)) (now (bits .exit)) (now (words .exit))) r ⌝ }
+    ensures { λ r. ⌜ Walks (now (s .entry)) ((spline-lists-walk caps fits (eqb 1 (head .rational)) (head .knots) controls) .read (now (s .entry)) at)
+        (lists (now (numbers .entry)) (now (bits .entry)) (now (words .entry))) z (lists (now (numbers .exit)) (now (bits .exit)) (now (words .exit))) r ⌝ }
 {
     match runs::double_run(s, at, head.knots as usize, numbers, bits, z) {
         Walk::Done(p, y) => {
@@ -174,7 +177,8 @@ fn read_spline_head(s: &[u8], at: usize, caps: Caps) -> SplineHead
 
 // The words of a spline behind its kind, but for the count of fit points.
 fn put_spline_head(words: &mut [u32], at: usize, head: SplineHead, controls: u64)
-    requires { ⌜ (at + 5 < 2 ^ 64) × ((head .degree < 2 ^ 32) × ((head .rational < 2 ^ 32) × ((head .periodic < 2 ^ 32) × ((head .knots < 2 ^ 32) × (controls < 2 ^ 32))))) ⌝ }
+    requires { ⌜ (at + 5 < 2 ^ 64) × ((head .degree < 2 ^ 32)
+        × ((head .rational < 2 ^ 32) × ((head .periodic < 2 ^ 32) × ((head .knots < 2 ^ 32) × (controls < 2 ^ 32))))) ⌝ }
     ensures { λ _. ⌜ now (words .exit) ≡ sets (now (words .entry)) at (head .degree ∷ (head .rational ∷ (head .periodic ∷ (head .knots ∷ (controls ∷ []))))) ⌝ }
 {
     lists::put_word(words, at, head.degree);
@@ -196,7 +200,8 @@ fn decode_spline_edge(
     z: Sizes,
 ) -> Walk
     requires { ⌜ Ready (now s) at z × NowhereAbove caps documentCaps ⌝ }
-    ensures { λ r. ⌜ Walks (now (s .entry)) ((spline-walk caps fits) .read (now (s .entry)) at) (lists (now (numbers .entry)) (now (bits .entry)) (now (words .entry))) z (lists (now (numbers .exit)) (now (bits .exit)) (now (words .exit))) r ⌝ }
+    ensures { λ r. ⌜ Walks (now (s .entry)) ((spline-walk caps fits) .read (now (s .entry)) at)
+        (lists (now (numbers .entry)) (now (bits .entry)) (now (words .entry))) z (lists (now (numbers .exit)) (now (bits .exit)) (now (words .exit))) r ⌝ }
 {
     let head = read_spline_head(s, at, caps);
     let last = head.last;
@@ -227,7 +232,8 @@ fn decode_edge_of(
     z: Sizes,
 ) -> Walk
     requires { ⌜ Ready (now s) at z × NowhereAbove caps documentCaps ⌝ }
-    ensures { λ r. ⌜ Walks (now (s .entry)) ((edge-of-walk caps fits kind) .read (now (s .entry)) at) (lists (now (numbers .entry)) (now (bits .entry)) (now (words .entry))) z (lists (now (numbers .exit)) (now (bits .exit)) (now (words .exit))) r ⌝ }
+    ensures { λ r. ⌜ Walks (now (s .entry)) ((edge-of-walk caps fits kind) .read (now (s .entry)) at)
+        (lists (now (numbers .entry)) (now (bits .entry)) (now (words .entry))) z (lists (now (numbers .exit)) (now (bits .exit)) (now (words .exit))) r ⌝ }
 {
     match kind {
         1 => runs::raw_run(s, at, 4, numbers, bits, z),
@@ -250,7 +256,8 @@ fn decode_edge(
     z: Sizes,
 ) -> Walk
     requires { ⌜ Ready (now s) at z × NowhereAbove caps documentCaps ⌝ }
-    ensures { λ r. ⌜ Walks (now (s .entry)) ((edge-walk caps fits) .read (now (s .entry)) at) (lists (now (numbers .entry)) (now (bits .entry)) (now (words .entry))) z (lists (now (numbers .exit)) (now (bits .exit)) (now (words .exit))) r ⌝ }
+    ensures { λ r. ⌜ Walks (now (s .entry)) ((edge-walk caps fits) .read (now (s .entry)) at)
+        (lists (now (numbers .entry)) (now (bits .entry)) (now (words .entry))) z (lists (now (numbers .exit)) (now (bits .exit)) (now (words .exit))) r ⌝ }
 {
     match bitcursor::within::read_low(s, at, 1) {
         Read::Value(kind, p) => {
@@ -279,7 +286,8 @@ pub fn decode_edges(
     z: Sizes,
 ) -> Walk
     requires { ⌜ Ready (now s) at z × NowhereAbove caps documentCaps ⌝ }
-    ensures { λ r. ⌜ Walks (now (s .entry)) ((repeated n (edge-walk caps fits)) .read (now (s .entry)) at) (lists (now (numbers .entry)) (now (bits .entry)) (now (words .entry))) z (lists (now (numbers .exit)) (now (bits .exit)) (now (words .exit))) r ⌝ }
+    ensures { λ r. ⌜ Walks (now (s .entry)) ((repeated n (edge-walk caps fits)) .read (now (s .entry)) at)
+        (lists (now (numbers .entry)) (now (bits .entry)) (now (words .entry))) z (lists (now (numbers .exit)) (now (bits .exit)) (now (words .exit))) r ⌝ }
 {
     let mut p = at;
     let mut y = z;

@@ -39,7 +39,8 @@ fn decode_polyline_path(
     z: Sizes,
 ) -> Walk
     requires { ⌜ Ready (now s) at z × NowhereAbove caps documentCaps ⌝ }
-    ensures { λ r. ⌜ Walks (now (s .entry)) ((polyline-walk caps) .read (now (s .entry)) at) (lists (now (numbers .entry)) (now (bits .entry)) (now (words .entry))) z (lists (now (numbers .exit)) (now (bits .exit)) (now (words .exit))) r ⌝ }
+    ensures { λ r. ⌜ Walks (now (s .entry)) ((polyline-walk caps) .read (now (s .entry)) at)
+        (lists (now (numbers .entry)) (now (bits .entry)) (now (words .entry))) z (lists (now (numbers .exit)) (now (bits .exit)) (now (words .exit))) r ⌝ }
 {
     let bulge = bitcursor::within::read_bits(s, at, 1);
     let closed = sequence::then_bits(s, bulge, 1, true, 0);
@@ -71,7 +72,8 @@ fn decode_edge_path(
     z: Sizes,
 ) -> Walk
     requires { ⌜ Ready (now s) at z × NowhereAbove caps documentCaps ⌝ }
-    ensures { λ r. ⌜ Walks (now (s .entry)) ((edges-walk caps fits) .read (now (s .entry)) at) (lists (now (numbers .entry)) (now (bits .entry)) (now (words .entry))) z (lists (now (numbers .exit)) (now (bits .exit)) (now (words .exit))) r ⌝ }
+    ensures { λ r. ⌜ Walks (now (s .entry)) ((edges-walk caps fits) .read (now (s .entry)) at)
+        (lists (now (numbers .entry)) (now (bits .entry)) (now (words .entry))) z (lists (now (numbers .exit)) (now (bits .exit)) (now (words .exit))) r ⌝ }
 {
     match counts::read_count(s, at, caps.edges) {
         Read::Value(n, p) => {
@@ -99,7 +101,8 @@ fn decode_segments(
     z: Sizes,
 ) -> Walk
     requires { ⌜ Ready (now s) at z × NowhereAbove caps documentCaps ⌝ }
-    ensures { λ r. ⌜ Walks (now (s .entry)) ((segments-walk caps fits polyline) .read (now (s .entry)) at) (lists (now (numbers .entry)) (now (bits .entry)) (now (words .entry))) z (lists (now (numbers .exit)) (now (bits .exit)) (now (words .exit))) r ⌝ }
+    ensures { λ r. ⌜ Walks (now (s .entry)) ((segments-walk caps fits polyline) .read (now (s .entry)) at)
+        (lists (now (numbers .entry)) (now (bits .entry)) (now (words .entry))) z (lists (now (numbers .exit)) (now (bits .exit)) (now (words .exit))) r ⌝ }
 {
     if polyline {
         return decode_polyline_path(s, at, caps, numbers, bits, words, z);
@@ -118,7 +121,8 @@ fn has_flag(flags: u64, value: u64) -> bool
 // The count of boundary handles, behind a path's segments: the handles are not here.
 fn put_handle_count(s: &[u8], at: usize, cap: usize, words: &mut [u32], z: Sizes) -> Walk
     requires { ⌜ Ready (now s) at z × (cap < 2 ^ 30) ⌝ }
-    ensures { λ r. ⌜ Walks (now (s .entry)) ((handles-walk cap) .read (now (s .entry)) at) (lists [] [] (now (words .entry))) z (lists [] [] (now (words .exit))) r ⌝ }
+    ensures { λ r. ⌜ Walks (now (s .entry)) ((handles-walk cap) .read (now (s .entry)) at)
+        (lists [] [] (now (words .entry))) z (lists [] [] (now (words .exit))) r ⌝ }
 {
     match counts::read_count(s, at, cap) {
         Read::Value(n, p) => {
@@ -149,7 +153,8 @@ fn decode_after_flags(
     z: Sizes,
 ) -> Walk
     requires { ⌜ Ready (now s) at z × NowhereAbove caps documentCaps ⌝ }
-    ensures { λ r. ⌜ Walks (now (s .entry)) ((after-flags-walk caps fits polyline) .read (now (s .entry)) at) (lists (now (numbers .entry)) (now (bits .entry)) (now (words .entry))) z (lists (now (numbers .exit)) (now (bits .exit)) (now (words .exit))) r ⌝ }
+    ensures { λ r. ⌜ Walks (now (s .entry)) ((after-flags-walk caps fits polyline) .read (now (s .entry)) at)
+        (lists (now (numbers .entry)) (now (bits .entry)) (now (words .entry))) z (lists (now (numbers .exit)) (now (bits .exit)) (now (words .exit))) r ⌝ }
 {
     match decode_segments(s, at, polyline, caps, fits, numbers, bits, words, z) {
         Walk::Done(p, y) => put_handle_count(s, p, caps.boundary_handles, words, y),
@@ -169,7 +174,8 @@ fn decode_path(
     z: Sizes,
 ) -> Walk
     requires { ⌜ Ready (now s) at z × NowhereAbove caps documentCaps ⌝ }
-    ensures { λ r. ⌜ Walks (now (s .entry)) ((path-walk caps fits) .read (now (s .entry)) at) (lists (now (numbers .entry)) (now (bits .entry)) (now (words .entry))) z (lists (now (numbers .exit)) (now (bits .exit)) (now (words .exit))) r ⌝ }
+    ensures { λ r. ⌜ Walks (now (s .entry)) ((path-walk caps fits) .read (now (s .entry)) at)
+        (lists (now (numbers .entry)) (now (bits .entry)) (now (words .entry))) z (lists (now (numbers .exit)) (now (bits .exit)) (now (words .exit))) r ⌝ }
 {
     match bitcursor::within::read_bl_u(s, at) {
         Read::Value(flags, p) => {
@@ -208,7 +214,8 @@ pub fn decode_paths(
     z: Sizes,
 ) -> Walk
     requires { ⌜ Ready (now s) at z × NowhereAbove caps documentCaps ⌝ }
-    ensures { λ r. ⌜ Walks (now (s .entry)) ((repeated n (path-walk caps fits)) .read (now (s .entry)) at) (lists (now (numbers .entry)) (now (bits .entry)) (now (words .entry))) z (lists (now (numbers .exit)) (now (bits .exit)) (now (words .exit))) r ⌝ }
+    ensures { λ r. ⌜ Walks (now (s .entry)) ((repeated n (path-walk caps fits)) .read (now (s .entry)) at)
+        (lists (now (numbers .entry)) (now (bits .entry)) (now (words .entry))) z (lists (now (numbers .exit)) (now (bits .exit)) (now (words .exit))) r ⌝ }
 {
     let mut p = at;
     let mut y = z;

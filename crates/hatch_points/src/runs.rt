@@ -43,7 +43,8 @@ pub fn stores(n: usize, from: usize, doubles: usize, bits: usize) -> usize
 // Stores the n RD at `at`, which are all there.
 fn put_run(s: &[u8], at: usize, n: usize, numbers: &mut [f64], bits: &mut [u64], from: usize)
     requires { ⌜ (length (now s) ≤ limit) × ((at + 64 * n ≤ 8 * length (now s)) × (from + n < 2 ^ 64)) ⌝ }
-    ensures { λ _. ⌜ (now (numbers .exit) ≡ sets (now (numbers .entry)) from (doublesOf (rawAt (now (s .entry)) at n))) × (now (bits .exit) ≡ sets (now (bits .entry)) from (rawAt (now (s .entry)) at n)) ⌝ }
+    ensures { λ _. ⌜ (now (numbers .exit) ≡ sets (now (numbers .entry)) from (doublesOf (rawAt (now (s .entry)) at n)))
+        × (now (bits .exit) ≡ sets (now (bits .entry)) from (rawAt (now (s .entry)) at n)) ⌝ }
 {
     let mut i: usize = 0;
     while i < n {
@@ -62,7 +63,8 @@ pub fn raw_run(
     z: Sizes,
 ) -> Walk
     requires { ⌜ Ready (now s) at z × (n < 2 ^ 32) ⌝ }
-    ensures { λ r. ⌜ Walks (now (s .entry)) ((raw-run n) .read (now (s .entry)) at) (lists (now (numbers .entry)) (now (bits .entry)) []) z (lists (now (numbers .exit)) (now (bits .exit)) []) r ⌝ }
+    ensures { λ r. ⌜ Walks (now (s .entry)) ((raw-run n) .read (now (s .entry)) at)
+        (lists (now (numbers .entry)) (now (bits .entry)) []) z (lists (now (numbers .exit)) (now (bits .exit)) []) r ⌝ }
 {
     match bitcursor::within::skip_bytes(s, at, 8 * n) {
         Passed::To(p) => {
@@ -124,7 +126,8 @@ fn put_doubles(
     z: Sizes,
 ) -> Walk
     requires { ⌜ Ready (now s) at z ⌝ }
-    ensures { λ r. ⌜ Walks (now (s .entry)) ((repeated n single-walk) .read (now (s .entry)) at) (lists (now (numbers .entry)) (now (bits .entry)) []) z (lists (now (numbers .exit)) (now (bits .exit)) []) r ⌝ }
+    ensures { λ r. ⌜ Walks (now (s .entry)) ((repeated n single-walk) .read (now (s .entry)) at)
+        (lists (now (numbers .entry)) (now (bits .entry)) []) z (lists (now (numbers .exit)) (now (bits .exit)) []) r ⌝ }
 {
     let mut p = at;
     let mut used = z.numbers;
@@ -192,7 +195,8 @@ pub fn double_run(
     z: Sizes,
 ) -> Walk
     requires { ⌜ Ready (now s) at z ⌝ }
-    ensures { λ r. ⌜ Walks (now (s .entry)) ((double-run n) .read (now (s .entry)) at) (lists (now (numbers .entry)) (now (bits .entry)) []) z (lists (now (numbers .exit)) (now (bits .exit)) []) r ⌝ }
+    ensures { λ r. ⌜ Walks (now (s .entry)) ((double-run n) .read (now (s .entry)) at)
+        (lists (now (numbers .entry)) (now (bits .entry)) []) z (lists (now (numbers .exit)) (now (bits .exit)) []) r ⌝ }
 {
     let m = stores(n, z.numbers, numbers.len(), bits.len());
     match put_doubles(s, at, m, numbers, bits, z) {

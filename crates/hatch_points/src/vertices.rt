@@ -47,7 +47,8 @@ fn pass_vertex(s: &[u8], at: usize) -> Passed
 // Stores the point at `at`, which is there, and the double behind it.
 fn put_vertex(s: &[u8], at: usize, extra: u64, numbers: &mut [f64], bits: &mut [u64], from: usize)
     requires { ⌜ (length (now s) ≤ limit) × ((at + 128 ≤ 8 * length (now s)) × (from + 3 < 2 ^ 64)) ⌝ }
-    ensures { λ _. ⌜ (now (numbers .exit) ≡ sets (now (numbers .entry)) from (doublesOf (vertexAt (now (s .entry)) at extra))) × (now (bits .exit) ≡ sets (now (bits .entry)) from (vertexAt (now (s .entry)) at extra)) ⌝ }
+    ensures { λ _. ⌜ (now (numbers .exit) ≡ sets (now (numbers .entry)) from (doublesOf (vertexAt (now (s .entry)) at extra)))
+        × (now (bits .exit) ≡ sets (now (bits .entry)) from (vertexAt (now (s .entry)) at extra)) ⌝ }
 {
     lists::put_number(numbers, bits, from, words::low_at(s, at, 8));
     lists::put_number(numbers, bits, from + 1, words::low_at(s, at + 64, 8));
@@ -64,7 +65,8 @@ fn put_vertices(
     z: Sizes,
 ) -> Walk
     requires { ⌜ Ready (now s) at z ⌝ }
-    ensures { λ r. ⌜ Walks (now (s .entry)) ((repeated n vertex-walk) .read (now (s .entry)) at) (lists (now (numbers .entry)) (now (bits .entry)) []) z (lists (now (numbers .exit)) (now (bits .exit)) []) r ⌝ }
+    ensures { λ r. ⌜ Walks (now (s .entry)) ((repeated n vertex-walk) .read (now (s .entry)) at)
+        (lists (now (numbers .entry)) (now (bits .entry)) []) z (lists (now (numbers .exit)) (now (bits .exit)) []) r ⌝ }
 {
     let mut p = at;
     let mut used = z.numbers;
@@ -132,7 +134,8 @@ pub fn decode_vertices(
     z: Sizes,
 ) -> Walk
     requires { ⌜ Ready (now s) at z × (n < 2 ^ 31) ⌝ }
-    ensures { λ r. ⌜ Walks (now (s .entry)) ((repeated n vertex-walk) .read (now (s .entry)) at) (lists (now (numbers .entry)) (now (bits .entry)) []) z (lists (now (numbers .exit)) (now (bits .exit)) []) r ⌝ }
+    ensures { λ r. ⌜ Walks (now (s .entry)) ((repeated n vertex-walk) .read (now (s .entry)) at)
+        (lists (now (numbers .entry)) (now (bits .entry)) []) z (lists (now (numbers .exit)) (now (bits .exit)) []) r ⌝ }
 {
     let m = (runs::stores(3 * n, z.numbers, numbers.len(), bits.len()) + 2) / 3;
     match put_vertices(s, at, m, numbers, bits, z) {
@@ -152,7 +155,8 @@ pub fn decode_points(
     z: Sizes,
 ) -> Walk
     requires { ⌜ Ready (now s) at z × (n < 2 ^ 31) ⌝ }
-    ensures { λ r. ⌜ Walks (now (s .entry)) ((vertices-walk more n) .read (now (s .entry)) at) (lists (now (numbers .entry)) (now (bits .entry)) []) z (lists (now (numbers .exit)) (now (bits .exit)) []) r ⌝ }
+    ensures { λ r. ⌜ Walks (now (s .entry)) ((vertices-walk more n) .read (now (s .entry)) at)
+        (lists (now (numbers .entry)) (now (bits .entry)) []) z (lists (now (numbers .exit)) (now (bits .exit)) []) r ⌝ }
 {
     if more {
         return decode_vertices(s, at, n, numbers, bits, z);

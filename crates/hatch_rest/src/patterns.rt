@@ -71,7 +71,8 @@ fn decode_pattern_line(
     z: Sizes,
 ) -> Walk
     requires { ⌜ Ready (now s) at z ⌝ }
-    ensures { λ r. ⌜ Walks (now (s .entry)) ((line-walk cap) .read (now (s .entry)) at) (lists (now (numbers .entry)) (now (bits .entry)) (now (words .entry))) z (lists (now (numbers .exit)) (now (bits .exit)) (now (words .exit))) r ⌝ }
+    ensures { λ r. ⌜ Walks (now (s .entry)) ((line-walk cap) .read (now (s .entry)) at)
+        (lists (now (numbers .entry)) (now (bits .entry)) (now (words .entry))) z (lists (now (numbers .exit)) (now (bits .exit)) (now (words .exit))) r ⌝ }
 {
     match runs::double_run(s, at, 5, numbers, bits, z) {
         Walk::Done(p, y) => match counts::read_short_count(s, p, cap) {
@@ -102,7 +103,8 @@ fn decode_pattern_lines(
     z: Sizes,
 ) -> Walk
     requires { ⌜ Ready (now s) at z ⌝ }
-    ensures { λ r. ⌜ Walks (now (s .entry)) ((repeated n (line-walk cap)) .read (now (s .entry)) at) (lists (now (numbers .entry)) (now (bits .entry)) (now (words .entry))) z (lists (now (numbers .exit)) (now (bits .exit)) (now (words .exit))) r ⌝ }
+    ensures { λ r. ⌜ Walks (now (s .entry)) ((repeated n (line-walk cap)) .read (now (s .entry)) at)
+        (lists (now (numbers .entry)) (now (bits .entry)) (now (words .entry))) z (lists (now (numbers .exit)) (now (bits .exit)) (now (words .exit))) r ⌝ }
 {
     let mut p = at;
     let mut y = z;
@@ -133,7 +135,9 @@ fn decode_open_pattern(
     z: Sizes,
 ) -> PatternWalk
     requires { ⌜ Ready (now s) at z ⌝ }
-    ensures { λ r. ⌜ (r ≡ patternWalk z ((pattern caps false) .read (now (s .entry)) at)) × Gives (now (s .entry)) patternEntries ((pattern caps false) .read (now (s .entry)) at) (lists (now (numbers .entry)) (now (bits .entry)) (now (words .entry))) z (lists (now (numbers .exit)) (now (bits .exit)) (now (words .exit))) ⌝ }
+    ensures { λ r. ⌜ (r ≡ patternWalk z ((pattern caps false) .read (now (s .entry)) at))
+        × Gives (now (s .entry)) patternEntries ((pattern caps false) .read (now (s .entry)) at)
+        (lists (now (numbers .entry)) (now (bits .entry)) (now (words .entry))) z (lists (now (numbers .exit)) (now (bits .exit)) (now (words .exit))) ⌝ }
 {
     let angle = sequence::then_bd_bits(s, Read::Value(0, at));
     let scale = sequence::then_bd_bits(s, angle);
@@ -169,7 +173,9 @@ fn decode_pattern(
     z: Sizes,
 ) -> PatternWalk
     requires { ⌜ Ready (now s) at z ⌝ }
-    ensures { λ r. ⌜ (r ≡ patternWalk z ((pattern caps solid) .read (now (s .entry)) at)) × Gives (now (s .entry)) patternEntries ((pattern caps solid) .read (now (s .entry)) at) (lists (now (numbers .entry)) (now (bits .entry)) (now (words .entry))) z (lists (now (numbers .exit)) (now (bits .exit)) (now (words .exit))) ⌝ }
+    ensures { λ r. ⌜ (r ≡ patternWalk z ((pattern caps solid) .read (now (s .entry)) at))
+        × Gives (now (s .entry)) patternEntries ((pattern caps solid) .read (now (s .entry)) at)
+        (lists (now (numbers .entry)) (now (bits .entry)) (now (words .entry))) z (lists (now (numbers .exit)) (now (bits .exit)) (now (words .exit))) ⌝ }
 {
     if solid {
         let a = Pattern {
@@ -205,7 +211,9 @@ fn decode_ending(
     z: Sizes,
 ) -> EndingWalk
     requires { ⌜ Ready (now s) at z ⌝ }
-    ensures { λ r. ⌜ (r ≡ endingWalk z ((ending caps has) .read (now (s .entry)) at)) × Gives (now (s .entry)) endingEntries ((ending caps has) .read (now (s .entry)) at) (lists (now (numbers .entry)) (now (bits .entry)) []) z (lists (now (numbers .exit)) (now (bits .exit)) []) ⌝ }
+    ensures { λ r. ⌜ (r ≡ endingWalk z ((ending caps has) .read (now (s .entry)) at))
+        × Gives (now (s .entry)) endingEntries ((ending caps has) .read (now (s .entry)) at)
+        (lists (now (numbers .entry)) (now (bits .entry)) []) z (lists (now (numbers .exit)) (now (bits .exit)) []) ⌝ }
 {
     let pixel = read_pixel_size(s, at, has);
     match counts::then_count(s, pixel, caps.seed_points) {
@@ -238,7 +246,9 @@ pub fn decode_tail(
     z: Sizes,
 ) -> TailWalk
     requires { ⌜ Ready (now s) at z ⌝ }
-    ensures { λ r. ⌜ (r ≡ tailWalk z ((tail caps solid has) .read (now (s .entry)) at)) × Gives (now (s .entry)) tailEntries ((tail caps solid has) .read (now (s .entry)) at) (lists (now (numbers .entry)) (now (bits .entry)) (now (words .entry))) z (lists (now (numbers .exit)) (now (bits .exit)) (now (words .exit))) ⌝ }
+    ensures { λ r. ⌜ (r ≡ tailWalk z ((tail caps solid has) .read (now (s .entry)) at))
+        × Gives (now (s .entry)) tailEntries ((tail caps solid has) .read (now (s .entry)) at)
+        (lists (now (numbers .entry)) (now (bits .entry)) (now (words .entry))) z (lists (now (numbers .exit)) (now (bits .exit)) (now (words .exit))) ⌝ }
 {
     let style = within::read_bs_u(s, at);
     match sequence::then_bs(s, style) {

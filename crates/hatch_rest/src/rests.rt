@@ -45,7 +45,9 @@ pub fn decode_rest(
     words: &mut [u32],
 ) -> RestWalk
     requires { ⌜ (length (now s) ≤ limit) × ((at ≤ 8 * length (now s)) × NowhereAbove caps documentCaps) ⌝ }
-    ensures { λ r. ⌜ (r ≡ restWalk ((rest caps in-payload v) .read (now (s .entry)) at)) × Gives (now (s .entry)) restEntries ((rest caps in-payload v) .read (now (s .entry)) at) (lists (now (numbers .entry)) (now (bits .entry)) (now (words .entry))) noSizes (lists (now (numbers .exit)) (now (bits .exit)) (now (words .exit))) ⌝ }
+    ensures { λ r. ⌜ (r ≡ restWalk ((rest caps in-payload v) .read (now (s .entry)) at))
+        × Gives (now (s .entry)) restEntries ((rest caps in-payload v) .read (now (s .entry)) at)
+        (lists (now (numbers .entry)) (now (bits .entry)) (now (words .entry))) noSizes (lists (now (numbers .exit)) (now (bits .exit)) (now (words .exit))) ⌝ }
 {
     let fits = version::is_r2010_plus(v);
     let solid = bitcursor::within::read_bits(s, at, 1);

@@ -6,7 +6,8 @@ use Rattle.bitcursor.specs.Format.{_>>=_, pure, then-got, then-refused}
 use Rattle.hatch_points.specs.Gathered.{Entries, plus}
 use Rattle.hatch_points.specs.Walks.{raw-run, double-run}
 use Rattle.hatch_paths.specs.PathWalks.{bit-walk, curve-walk}
-use Rattle.hatch_points.proofs.Laws.{Step, _⊕_, walk-finished, walk-ready, walk-refused, walks-as, refuses, behind, words-kept, numbers-kept, plus-again, kept-then, kept-numbers, walk-kept}
+use Rattle.hatch_points.proofs.Laws.{Step, _⊕_, walk-finished, walk-ready, walk-refused, walks-as, refuses, behind, words-kept, numbers-kept}
+use Rattle.hatch_points.proofs.Laws.{plus-again, kept-then, kept-numbers, walk-kept}
 use Rattle.hatch_points.proofs.NoWords.{raw-wordless, double-wordless}
 use Rattle.hatch_paths.proofs.EdgeLaws.{bit-numberless}
 use borrow.Author.Needs.{needs}

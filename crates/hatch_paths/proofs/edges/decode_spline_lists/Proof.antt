@@ -11,7 +11,8 @@ use Rattle.hatch_points.specs.Gathered.{Entries, plus}
 use Rattle.hatch_points.specs.Walks.{double-run, vertices-walk}
 use Rattle.hatch_paths.specs.PathWalks.{fits-walk, spline-lists-walk}
 use Rattle.hatch_format.specs.Takes.{takes-none}
-use Rattle.hatch_points.proofs.Laws.{words-still, Step, _⊕_, walk-finished, walk-ready, walk-refused, walks-as, refuses, behind, words-kept, plus-again, onward, kept-then, kept-numbers, walk-kept}
+use Rattle.hatch_points.proofs.Laws.{words-still, Step, _⊕_, walk-finished, walk-ready, walk-refused, walks-as, refuses, behind, words-kept}
+use Rattle.hatch_points.proofs.Laws.{plus-again, onward, kept-then, kept-numbers, walk-kept}
 use Rattle.hatch_points.proofs.NoWords.{double-wordless, vertices-wordless}
 use borrow.Author.Needs.{needs}
 use Rattle.hatch_paths.proofs.edges.decode_spline_lists.Statement.{statement}

@@ -46,16 +46,22 @@ value-of-requires-4 c κs = search needs
 returns : tie.Need-returns
 unfolding splineHead held
 returns c =
+    let values = c .before .before .before in
+    let controls = values .before in
+    let knots = controls .before in
+    let periodic = knots .before in
+    let rational = periodic .before in
+    let degree = rational .before in
     rw (
-      (c .value-of4) .ensures,
-      (c .before .value-of3) .ensures,
-      (c .before .before .value-of2) .ensures,
-      (c .before .before .before .value-of) .ensures,
-      (c .before .before .before .before .then-count2) .ensures,
-      (c .before .before .before .before .before .then-count) .ensures,
-      (c .before .before .before .before .before .before .then-bits2) .ensures,
-      (c .before .before .before .before .before .before .before .then-bits) .ensures,
-      (c .before .before .before .before .before .before .before .before .read-bl-u) .ensures,
+      c .value-of4 .ensures,
+      c .before .value-of3 .ensures,
+      c .before .before .value-of2 .ensures,
+      values .value-of .ensures,
+      controls .then-count2 .ensures,
+      knots .then-count .ensures,
+      periodic .then-bits2 .ensures,
+      rational .then-bits .ensures,
+      degree .read-bl-u .ensures,
     )
 
 pub read-spline-head-spec : {M : Type 1} → statement M

@@ -50,8 +50,9 @@ returns c =
     let after-k = c .before in
     let after-pass-bd = after-k .before .before in
     let called = after-pass-bd in
-    let l = called .before .before .loop in
-    let s = now (called .before .before .before .before .args .s) in
+    let looped = called .before .before in
+    let l = looped .loop in
+    let s = now (looped .before .before .args .s) in
     let o = single-refused s (l .p) (passed-refused _ (called .pass-bd .ensures) (after-k .k .given .1)) in
     loop-refuses single-walk s (l .inv) (called .before .loop-test .taken) o kept-same
 
@@ -66,8 +67,9 @@ loop-again c =
     let after-q = c .before in
     let after-pass-bd = after-q .before .before in
     let called = after-pass-bd in
-    let l = called .before .before .loop in
-    let a = called .before .before .before .before .args in
+    let looped = called .before .before in
+    let l = looped .loop in
+    let a = looped .before .before .args in
     let s = now (a .s) in
     let y : Sizes = record { numbers = l .used; words = a .z .words; derived = a .z .derived } in
     let t = passed-value _ (called .pass-bd .ensures) (after-q .q .given .1) in

@@ -48,8 +48,9 @@ returns c =
     let after-k = c .before in
     let after-pass-vertex = after-k .before .before in
     let called = after-pass-vertex in
-    let l = called .before .before .loop in
-    let s = now (called .before .before .before .before .args .s) in
+    let looped = called .before .before in
+    let l = looped .loop in
+    let s = now (looped .before .before .args .s) in
     let o = subst (ExtraPassed s (l .p)) (after-k .k .given .1) (called .pass-vertex .ensures) in
     loop-refuses vertex-walk s (l .inv) (called .before .loop-test .taken) o kept-same
 
@@ -64,8 +65,9 @@ loop-again c =
     let after-q = c .before in
     let after-pass-vertex = after-q .before .before in
     let called = after-pass-vertex in
-    let l = called .before .before .loop in
-    let a = called .before .before .before .before .args in
+    let looped = called .before .before in
+    let l = looped .loop in
+    let a = looped .before .before .args in
     let s = now (a .s) in
     let y : Sizes = record { numbers = l .used; words = a .z .words; derived = a .z .derived } in
     let t = subst (ExtraPassed s (l .p)) (after-q .q .given .1) (called .pass-vertex .ensures) in

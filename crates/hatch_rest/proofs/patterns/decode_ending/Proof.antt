@@ -24,11 +24,43 @@ then-count-requires c κs = search needs
 enum-known-n : tie.Need-enum-known-n
 enum-known-n c = search needs
 
+-- ---- the stages of the function, each from a later one
+abbrev entry-from-after-read-pixel-size : tie.After-read-pixel-size → tie.Start
+entry-from-after-read-pixel-size s =
+    let after-shared-slice-known = s .before .before .before in
+    after-shared-slice-known .before
+
+abbrev after-raw-run-from-after-slice-known4 : tie.After-slice-known4 → tie.After-raw-run
+after-raw-run-from-after-slice-known4 s =
+    let after-numbers = s .before .before .before in
+    after-numbers .before
+
+abbrev after-n-from-after-raw-run : tie.After-raw-run → tie.After-n
+after-n-from-after-raw-run s =
+    let after-known-told = s .before .before .before in
+    after-known-told .before
+
 mul-raw-run : tie.Need-mul-raw-run
-mul-raw-run c = let h = ending-ready (now ((c .before .before .before .before .before .before .before .before .args) .s)) ((c .before .before .before .before .before .before .before .before .args) .caps) ((c .before .before .before .before .before .before .before .before .args) .has) ((c .before .before .before .before .before .before .before .before .args) .at) ((c .before .before .before .before .read-pixel-size) .result) ((c .before .before .before .then-count) .result) ((c .before .before .before .before .read-pixel-size) .ensures) ((c .before .before .before .then-count) .ensures) ((c .before .before .before .before .before .before .before .before .args) .z) ((c .before .n) .given .1) (c .before .before .before .before .before .before .before .before .pre) in omega (arith, h .1)
+mul-raw-run c =
+    let after-n = c .before in
+    let after-then-count = after-n .before .before in
+    let after-read-pixel-size = after-then-count .before in
+    let entry = entry-from-after-read-pixel-size after-read-pixel-size in
+    let args = entry .args in
+    let h = ending-ready (now (args .s)) (args .caps) (args .has) (args .at) (after-read-pixel-size .read-pixel-size .result)
+    (after-then-count .then-count .result) (after-read-pixel-size .read-pixel-size .ensures) (after-then-count .then-count .ensures) (args .z)
+    (after-n .n .given .1) (entry .pre) in omega (arith, h .1)
 
 raw-run-requires : tie.Need-raw-run-requires
-raw-run-requires c κs = ending-ready (now ((c .before .before .before .before .before .before .before .before .before .before .args) .s)) ((c .before .before .before .before .before .before .before .before .before .before .args) .caps) ((c .before .before .before .before .before .before .before .before .before .before .args) .has) ((c .before .before .before .before .before .before .before .before .before .before .args) .at) ((c .before .before .before .before .before .before .read-pixel-size) .result) ((c .before .before .before .before .before .then-count) .result) ((c .before .before .before .before .before .before .read-pixel-size) .ensures) ((c .before .before .before .before .before .then-count) .ensures) ((c .before .before .before .before .before .before .before .before .before .before .args) .z) ((c .before .before .before .n) .given .1) (c .before .before .before .before .before .before .before .before .before .before .pre)
+raw-run-requires c κs =
+    let after-n = c .before .before .before in
+    let after-then-count = after-n .before .before in
+    let after-read-pixel-size = after-then-count .before in
+    let entry = entry-from-after-read-pixel-size after-read-pixel-size in
+    let args = entry .args in
+    ending-ready (now (args .s)) (args .caps) (args .has) (args .at) (after-read-pixel-size .read-pixel-size .result)
+    (after-then-count .then-count .result) (after-read-pixel-size .read-pixel-size .ensures) (after-then-count .then-count .ensures) (args .z)
+    (after-n .n .given .1) (entry .pre)
 
 enum-known-q : tie.Need-enum-known-q
 enum-known-q c = search needs
@@ -49,7 +81,18 @@ same-length-2 : tie.Need-same-length-2
 same-length-2 c = search needs
 
 returns : tie.Need-returns
-returns c = ending-done (now ((c .before .before .before .before .before .before .before .before .before .before .before .before .before .before .before .before .before .before .before .args) .s)) ((c .before .before .before .before .before .before .before .before .before .before .before .before .before .before .before .before .before .before .before .args) .caps) ((c .before .before .before .before .before .before .before .before .before .before .before .before .before .before .before .before .before .before .before .args) .has) ((c .before .before .before .before .before .before .before .before .before .before .before .before .before .before .before .before .before .before .before .args) .at) ((c .before .before .before .before .before .before .before .before .before .before .before .before .before .before .before .read-pixel-size) .result) ((c .before .before .before .before .before .before .before .before .before .before .before .before .before .before .then-count) .result) ((c .before .before .before .before .before .before .before .before .before .before .before .before .before .before .before .read-pixel-size) .ensures) ((c .before .before .before .before .before .before .before .before .before .before .before .before .before .before .then-count) .ensures) ((c .before .before .before .before .before .before .before .before .before .before .before .before .n) .given .1) ((c .before .before .before .before .before .before .before .before .raw-run) .ensures) ((c .before .before .q) .given .1) ((c .value-of) .ensures)
+returns c =
+    let after-q = c .before .before in
+    let after-slice-known4 = after-q .before .before in
+    let after-raw-run = after-raw-run-from-after-slice-known4 after-slice-known4 in
+    let after-n = after-n-from-after-raw-run after-raw-run in
+    let after-then-count = after-n .before .before in
+    let after-read-pixel-size = after-then-count .before in
+    let entry = entry-from-after-read-pixel-size after-read-pixel-size in
+    let args = entry .args in
+    ending-done (now (args .s)) (args .caps) (args .has) (args .at) (after-read-pixel-size .read-pixel-size .result)
+    (after-then-count .then-count .result) (after-read-pixel-size .read-pixel-size .ensures) (after-then-count .then-count .ensures)
+    (after-n .n .given .1) (after-raw-run .raw-run .ensures) (after-q .q .given .1) (c .value-of .ensures)
 
 same-length-3 : tie.Need-same-length-3
 same-length-3 c = search needs
@@ -59,11 +102,28 @@ same-length-4 c = search needs
 
 returns-2 : tie.Need-returns-2
 returns-2 c =
-    ending-seeds-refused (now ((c .before .before .before .before .before .before .before .before .before .before .before .before .before .before .before .before .before .before .args) .s)) ((c .before .before .before .before .before .before .before .before .before .before .before .before .before .before .before .before .before .before .args) .caps) ((c .before .before .before .before .before .before .before .before .before .before .before .before .before .before .before .before .before .before .args) .has) ((c .before .before .before .before .before .before .before .before .before .before .before .before .before .before .before .before .before .before .args) .at) ((c .before .before .before .before .before .before .before .before .before .before .before .before .before .before .read-pixel-size) .result) ((c .before .before .before .before .before .before .before .before .before .before .before .before .before .then-count) .result) ((c .before .before .before .before .before .before .before .before .before .before .before .before .before .before .read-pixel-size) .ensures) ((c .before .before .before .before .before .before .before .before .before .before .before .before .before .then-count) .ensures) ((c .before .before .before .before .before .before .before .before .before .before .before .n) .given .1) ((c .before .before .before .before .before .before .before .raw-run) .ensures) ((c .before .k) .given .1)
+    let after-k = c .before in
+    let after-slice-known4 = after-k .before .before in
+    let after-raw-run = after-raw-run-from-after-slice-known4 after-slice-known4 in
+    let after-n = after-n-from-after-raw-run after-raw-run in
+    let after-then-count = after-n .before .before in
+    let after-read-pixel-size = after-then-count .before in
+    let entry = entry-from-after-read-pixel-size after-read-pixel-size in
+    let args = entry .args in
+    ending-seeds-refused (now (args .s)) (args .caps) (args .has) (args .at) (after-read-pixel-size .read-pixel-size .result)
+    (after-then-count .then-count .result) (after-read-pixel-size .read-pixel-size .ensures) (after-then-count .then-count .ensures)
+    (after-n .n .given .1) (after-raw-run .raw-run .ensures) (after-k .k .given .1)
 
 returns-3 : tie.Need-returns-3
 returns-3 c =
-    ending-fields-refused (now ((c .before .before .before .before .before .before .before .before .args) .s)) ((c .before .before .before .before .before .before .before .before .args) .caps) ((c .before .before .before .before .before .before .before .before .args) .has) ((c .before .before .before .before .before .before .before .before .args) .at) ((c .before .before .before .before .read-pixel-size) .result) ((c .before .before .before .then-count) .result) ((c .before .before .before .before .read-pixel-size) .ensures) ((c .before .before .before .then-count) .ensures) ((c .before .k2) .given .1)
+    let after-k2 = c .before in
+    let after-then-count = after-k2 .before .before in
+    let after-read-pixel-size = after-then-count .before in
+    let entry = entry-from-after-read-pixel-size after-read-pixel-size in
+    let args = entry .args in
+    ending-fields-refused (now (args .s)) (args .caps) (args .has) (args .at) (after-read-pixel-size .read-pixel-size .result)
+    (after-then-count .then-count .result) (after-read-pixel-size .read-pixel-size .ensures) (after-then-count .then-count .ensures)
+    (after-k2 .k2 .given .1)
 
 pub decode-ending-spec : {M : Type 1} → statement M
 decode-ending-spec =

@@ -31,8 +31,40 @@ then-short-count-requires c κs = search needs
 enum-known-n : tie.Need-enum-known-n
 enum-known-n c = search needs
 
+-- ---- the stages of the function, each from a later one
+abbrev after-n-from-after-decode-pattern-lines-arg3 : tie.After-decode-pattern-lines-arg3 → tie.After-n
+after-n-from-after-decode-pattern-lines-arg3 s =
+    let after-known-told = s .before .before .before in
+    after-known-told .before
+
+abbrev entry-from-after-then-bd-bits : tie.After-then-bd-bits → tie.Start
+entry-from-after-then-bd-bits s =
+    let after-slice-known = s .before .before .before in
+    after-slice-known .before .before
+
+abbrev after-decode-pattern-lines-from-after-slice-known6 : tie.After-slice-known6 → tie.After-decode-pattern-lines
+after-decode-pattern-lines-from-after-slice-known6 s =
+    let after-bits = s .before .before .before in
+    after-bits .before .before .before
+
+abbrev after-n-from-after-decode-pattern-lines : tie.After-decode-pattern-lines → tie.After-n
+after-n-from-after-decode-pattern-lines s =
+    let after-decode-pattern-lines-arg = s .before .before .before in
+    after-decode-pattern-lines-arg .before .before
+
 decode-pattern-lines-requires : tie.Need-decode-pattern-lines-requires
-decode-pattern-lines-requires c κs = pattern-ready (now ((c .before .before .before .before .before .before .before .before .before .before .before .before .before .before .args) .s)) ((c .before .before .before .before .before .before .before .before .before .before .before .before .before .before .args) .caps) ((c .before .before .before .before .before .before .before .before .before .before .before .before .before .before .args) .at) ((c .before .before .before .before .before .before .before .before .before .then-bd-bits) .result) ((c .before .before .before .before .before .before .before .before .then-bd-bits2) .result) ((c .before .before .before .before .before .before .before .then-bits) .result) ((c .before .before .before .before .before .before .then-short-count) .result) ((c .before .before .before .before .before .before .before .before .before .then-bd-bits) .ensures) ((c .before .before .before .before .before .before .before .before .then-bd-bits2) .ensures) ((c .before .before .before .before .before .before .before .then-bits) .ensures) ((c .before .before .before .before .before .before .then-short-count) .ensures) ((c .before .before .before .before .before .before .before .before .before .before .before .before .before .before .args) .z) ((c .before .before .before .before .n) .given .1) (c .before .before .before .before .before .before .before .before .before .before .before .before .before .before .pre)
+decode-pattern-lines-requires c κs =
+    let after-n = after-n-from-after-decode-pattern-lines-arg3 c in
+    let after-then-short-count = after-n .before .before in
+    let after-then-bits = after-then-short-count .before in
+    let after-then-bd-bits2 = after-then-bits .before in
+    let after-then-bd-bits = after-then-bd-bits2 .before in
+    let entry = entry-from-after-then-bd-bits after-then-bd-bits in
+    let args = entry .args in
+    pattern-ready (now (args .s)) (args .caps) (args .at) (after-then-bd-bits .then-bd-bits .result) (after-then-bd-bits2 .then-bd-bits2 .result)
+    (after-then-bits .then-bits .result) (after-then-short-count .then-short-count .result) (after-then-bd-bits .then-bd-bits .ensures)
+    (after-then-bd-bits2 .then-bd-bits2 .ensures) (after-then-bits .then-bits .ensures) (after-then-short-count .then-short-count .ensures) (args .z)
+    (after-n .n .given .1) (entry .pre)
 
 enum-known-q : tie.Need-enum-known-q
 enum-known-q c = search needs
@@ -62,7 +94,24 @@ same-length-3 : tie.Need-same-length-3
 same-length-3 c = search needs
 
 returns : tie.Need-returns
-returns c = pattern-done (now ((c .before .before .before .before .before .before .before .before .before .before .before .before .before .before .before .before .before .before .before .before .before .before .before .before .before .before .before .args) .s)) ((c .before .before .before .before .before .before .before .before .before .before .before .before .before .before .before .before .before .before .before .before .before .before .before .before .before .before .before .args) .caps) ((c .before .before .before .before .before .before .before .before .before .before .before .before .before .before .before .before .before .before .before .before .before .before .before .before .before .before .before .args) .at) ((c .before .before .before .before .before .before .before .before .before .before .before .before .before .before .before .before .before .before .before .before .before .before .then-bd-bits) .result) ((c .before .before .before .before .before .before .before .before .before .before .before .before .before .before .before .before .before .before .before .before .before .then-bd-bits2) .result) ((c .before .before .before .before .before .before .before .before .before .before .before .before .before .before .before .before .before .before .before .before .then-bits) .result) ((c .before .before .before .before .before .before .before .before .before .before .before .before .before .before .before .before .before .before .before .then-short-count) .result) ((c .before .before .before .before .before .before .before .before .before .before .before .before .before .before .before .before .before .before .before .before .before .before .then-bd-bits) .ensures) ((c .before .before .before .before .before .before .before .before .before .before .before .before .before .before .before .before .before .before .before .before .before .then-bd-bits2) .ensures) ((c .before .before .before .before .before .before .before .before .before .before .before .before .before .before .before .before .before .before .before .before .then-bits) .ensures) ((c .before .before .before .before .before .before .before .before .before .before .before .before .before .before .before .before .before .before .before .then-short-count) .ensures) ((c .before .before .before .before .before .before .before .before .before .before .before .before .before .before .before .before .before .n) .given .1) ((c .before .before .before .before .before .before .before .before .before .before .before .before .decode-pattern-lines) .ensures) ((c .before .before .before .before .q) .given .1) ((c .before .before .value-of) .ensures) ((c .before .value-of2) .ensures) ((c .value-of3) .ensures)
+returns c =
+    let after-value-of2 = c .before in
+    let after-value-of = after-value-of2 .before in
+    let after-q = after-value-of .before .before in
+    let after-slice-known6 = after-q .before .before in
+    let after-decode-pattern-lines = after-decode-pattern-lines-from-after-slice-known6 after-slice-known6 in
+    let after-n = after-n-from-after-decode-pattern-lines after-decode-pattern-lines in
+    let after-then-short-count = after-n .before .before in
+    let after-then-bits = after-then-short-count .before in
+    let after-then-bd-bits2 = after-then-bits .before in
+    let after-then-bd-bits = after-then-bd-bits2 .before in
+    let entry = entry-from-after-then-bd-bits after-then-bd-bits in
+    let args = entry .args in
+    pattern-done (now (args .s)) (args .caps) (args .at) (after-then-bd-bits .then-bd-bits .result) (after-then-bd-bits2 .then-bd-bits2 .result)
+    (after-then-bits .then-bits .result) (after-then-short-count .then-short-count .result) (after-then-bd-bits .then-bd-bits .ensures)
+    (after-then-bd-bits2 .then-bd-bits2 .ensures) (after-then-bits .then-bits .ensures) (after-then-short-count .then-short-count .ensures)
+    (after-n .n .given .1) (after-decode-pattern-lines .decode-pattern-lines .ensures) (after-q .q .given .1) (after-value-of .value-of .ensures)
+    (after-value-of2 .value-of2 .ensures) (c .value-of3 .ensures)
 
 same-length-4 : tie.Need-same-length-4
 same-length-4 c = search needs
@@ -75,11 +124,35 @@ same-length-6 c = search needs
 
 returns-2 : tie.Need-returns-2
 returns-2 c =
-    pattern-lines-refused (now ((c .before .before .before .before .before .before .before .before .before .before .before .before .before .before .before .before .before .before .before .before .before .before .before .before .args) .s)) ((c .before .before .before .before .before .before .before .before .before .before .before .before .before .before .before .before .before .before .before .before .before .before .before .before .args) .caps) ((c .before .before .before .before .before .before .before .before .before .before .before .before .before .before .before .before .before .before .before .before .before .before .before .before .args) .at) ((c .before .before .before .before .before .before .before .before .before .before .before .before .before .before .before .before .before .before .before .then-bd-bits) .result) ((c .before .before .before .before .before .before .before .before .before .before .before .before .before .before .before .before .before .before .then-bd-bits2) .result) ((c .before .before .before .before .before .before .before .before .before .before .before .before .before .before .before .before .before .then-bits) .result) ((c .before .before .before .before .before .before .before .before .before .before .before .before .before .before .before .before .then-short-count) .result) ((c .before .before .before .before .before .before .before .before .before .before .before .before .before .before .before .before .before .before .before .then-bd-bits) .ensures) ((c .before .before .before .before .before .before .before .before .before .before .before .before .before .before .before .before .before .before .then-bd-bits2) .ensures) ((c .before .before .before .before .before .before .before .before .before .before .before .before .before .before .before .before .before .then-bits) .ensures) ((c .before .before .before .before .before .before .before .before .before .before .before .before .before .before .before .before .then-short-count) .ensures) ((c .before .before .before .before .before .before .before .before .before .before .before .before .before .before .n) .given .1) ((c .before .before .before .before .before .before .before .before .before .decode-pattern-lines) .ensures) ((c .before .k) .given .1)
+    let after-k = c .before in
+    let after-slice-known6 = after-k .before .before in
+    let after-decode-pattern-lines = after-decode-pattern-lines-from-after-slice-known6 after-slice-known6 in
+    let after-n = after-n-from-after-decode-pattern-lines after-decode-pattern-lines in
+    let after-then-short-count = after-n .before .before in
+    let after-then-bits = after-then-short-count .before in
+    let after-then-bd-bits2 = after-then-bits .before in
+    let after-then-bd-bits = after-then-bd-bits2 .before in
+    let entry = entry-from-after-then-bd-bits after-then-bd-bits in
+    let args = entry .args in
+    pattern-lines-refused (now (args .s)) (args .caps) (args .at) (after-then-bd-bits .then-bd-bits .result)
+    (after-then-bd-bits2 .then-bd-bits2 .result) (after-then-bits .then-bits .result) (after-then-short-count .then-short-count .result)
+    (after-then-bd-bits .then-bd-bits .ensures) (after-then-bd-bits2 .then-bd-bits2 .ensures) (after-then-bits .then-bits .ensures)
+    (after-then-short-count .then-short-count .ensures) (after-n .n .given .1) (after-decode-pattern-lines .decode-pattern-lines .ensures)
+    (after-k .k .given .1)
 
 returns-3 : tie.Need-returns-3
 returns-3 c =
-    pattern-fields-refused (now ((c .before .before .before .before .before .before .before .before .before .before .before .args) .s)) ((c .before .before .before .before .before .before .before .before .before .before .before .args) .caps) ((c .before .before .before .before .before .before .before .before .before .before .before .args) .at) ((c .before .before .before .before .before .before .then-bd-bits) .result) ((c .before .before .before .before .before .then-bd-bits2) .result) ((c .before .before .before .before .then-bits) .result) ((c .before .before .before .then-short-count) .result) ((c .before .before .before .before .before .before .then-bd-bits) .ensures) ((c .before .before .before .before .before .then-bd-bits2) .ensures) ((c .before .before .before .before .then-bits) .ensures) ((c .before .before .before .then-short-count) .ensures) ((c .before .k2) .given .1)
+    let after-k2 = c .before in
+    let after-then-short-count = after-k2 .before .before in
+    let after-then-bits = after-then-short-count .before in
+    let after-then-bd-bits2 = after-then-bits .before in
+    let after-then-bd-bits = after-then-bd-bits2 .before in
+    let entry = entry-from-after-then-bd-bits after-then-bd-bits in
+    let args = entry .args in
+    pattern-fields-refused (now (args .s)) (args .caps) (args .at) (after-then-bd-bits .then-bd-bits .result)
+    (after-then-bd-bits2 .then-bd-bits2 .result) (after-then-bits .then-bits .result) (after-then-short-count .then-short-count .result)
+    (after-then-bd-bits .then-bd-bits .ensures) (after-then-bd-bits2 .then-bd-bits2 .ensures) (after-then-bits .then-bits .ensures)
+    (after-then-short-count .then-short-count .ensures) (after-k2 .k2 .given .1)
 
 pub decode-open-pattern-spec : {M : Type 1} → statement M
 decode-open-pattern-spec =

@@ -15,11 +15,30 @@ use Rattle.hatch_rest.proofs.patterns.decode_pattern.Reads as reads
 use Rattle.hatch_rest.proofs.patterns.decode_pattern.Lts as lts
 use Rattle.hatch_rest.proofs.patterns.decode_open_pattern.Reads as decode-open-pattern-reads
 
+-- ---- the stages of the function, each from a later one
+abbrev entry-from-after-slice-known3 : tie.After-slice-known3 → tie.Start
+entry-from-after-slice-known3 s =
+    let after-shared-slice-known = s .before .before .before in
+    after-shared-slice-known .before
+
+abbrev after-decode-open-pattern-from-after-slice-known6 : tie.After-slice-known6 → tie.After-decode-open-pattern
+after-decode-open-pattern-from-after-slice-known6 s =
+    let after-bits = s .before .before .before in
+    after-bits .before .before .before
+
+abbrev else1-from-after-decode-open-pattern : tie.After-decode-open-pattern → tie.Else1
+else1-from-after-decode-open-pattern s =
+    let after-decode-open-pattern-arg = s .before .before .before in
+    after-decode-open-pattern-arg .before
+
 returns : tie.Need-returns
 returns c =
-    let a = (c .before .before .before .before .before .args) in
-    let o = pattern-solid (now (a .s)) (a .caps) (a .solid) (a .at) ((c .if1) .taken) in
-    (ap (Done (patternOf no-pattern) (a .at)) (sym (grow-none (a .z))) ∙ ap (patternWalk (a .z)) (sym o), gives-got patternEntries ((pattern (a .caps) (a .solid)) .read (now (a .s)) (a .at)) o refl (subst (Ready (now (a .s)) (a .at)) (sym (grow-none (a .z))) (c .before .before .before .before .before .pre)))
+    let after-slice-known3 = c .before in
+    let entry = entry-from-after-slice-known3 after-slice-known3 in
+    let a = entry .args in
+    let o = pattern-solid (now (a .s)) (a .caps) (a .solid) (a .at) (c .if1 .taken) in
+    (ap (Done (patternOf no-pattern) (a .at)) (sym (grow-none (a .z))) ∙ ap (patternWalk (a .z)) (sym o), gives-got patternEntries
+    ((pattern (a .caps) (a .solid)) .read (now (a .s)) (a .at)) o refl (subst (Ready (now (a .s)) (a .at)) (sym (grow-none (a .z))) (entry .pre)))
 
 decode-open-pattern-requires : tie.Need-decode-open-pattern-requires
 decode-open-pattern-requires c κs = search needs
@@ -34,7 +53,13 @@ same-length-3 : tie.Need-same-length-3
 same-length-3 c = search needs
 
 returns-2 : tie.Need-returns-2
-returns-2 c = pattern-open (now ((c .before .before .before .before .before .before .before .before .before .before .before .before .before .before .before .args) .s)) ((c .before .before .before .before .before .before .before .before .before .before .before .before .before .before .before .args) .caps) ((c .before .before .before .before .before .before .before .before .before .before .before .before .before .before .before .args) .solid) ((c .before .before .before .before .before .before .before .before .before .before .before .before .before .before .before .args) .at) ((c .before .before .before .before .before .before .before .before .before .before .if1) .left) ((c .before .before .before .before .before .before .decode-open-pattern) .ensures)
+returns-2 c =
+    let after-decode-open-pattern = after-decode-open-pattern-from-after-slice-known6 c in
+    let else1 = else1-from-after-decode-open-pattern after-decode-open-pattern in
+    let after-slice-known3 = else1 .before in
+    let entry = entry-from-after-slice-known3 after-slice-known3 in
+    let args = entry .args in
+    pattern-open (now (args .s)) (args .caps) (args .solid) (args .at) (else1 .if1 .left) (after-decode-open-pattern .decode-open-pattern .ensures)
 
 pub decode-pattern-spec : {M : Type 1} → statement M
 decode-pattern-spec =

@@ -34,21 +34,72 @@ read-short-count-requires c κs = search needs
 enum-known-n : tie.Need-enum-known-n
 enum-known-n c = search needs
 
+-- ---- the stages of the function, each from a later one
+abbrev after-double-run-from-after-slice-known5 : tie.After-slice-known5 → tie.After-double-run
+after-double-run-from-after-slice-known5 s =
+    let after-numbers = s .before .before .before in
+    after-numbers .before
+
+abbrev entry-from-after-double-run : tie.After-double-run → tie.Start
+entry-from-after-double-run s =
+    let after-slice-known3 = s .before .before .before in
+    let after-shared-slice-known = after-slice-known3 .before .before .before in
+    after-shared-slice-known .before
+
+abbrev after-put-word-from-after-double-run-arg4 : tie.After-double-run-arg4 → tie.After-put-word
+after-put-word-from-after-double-run-arg4 s =
+    let after-slice-known6 = s .before .before .before in
+    after-slice-known6 .before .before
+
+abbrev after-double-run2-from-after-slice-known8 : tie.After-slice-known8 → tie.After-double-run2
+after-double-run2-from-after-slice-known8 s =
+    let after-numbers2 = s .before .before .before in
+    after-numbers2 .before
+
+abbrev after-put-word-from-after-double-run2 : tie.After-double-run2 → tie.After-put-word
+after-put-word-from-after-double-run2 s =
+    let after-struct-known = s .before .before .before in
+    after-struct-known .before .before .before
+
 put-word-requires : tie.Need-put-word-requires
 put-word-requires c κs =
-    let o = read-value ((bounded ((c .before .before .before .before .before .before .before .before .before .before .before .before .before .before .before .before .before .before .before .args) .cap) BS) .read (now ((c .before .before .before .before .before .before .before .before .before .before .before .before .before .before .before .before .before .before .before .args) .s)) ((c .before .before .before .before .before .before .p) .given .0 .0)) ((c .before .before .before .before .read-short-count) .ensures) ((c .before .before .n) .given .1) in
-    let b = bounded-below ((c .before .before .before .before .before .before .before .before .before .before .before .before .before .before .before .before .before .before .before .args) .cap) BS BS-below (now ((c .before .before .before .before .before .before .before .before .before .before .before .before .before .before .before .before .before .before .before .args) .s)) ((c .before .before .before .before .before .before .p) .given .0 .0) o in
+    let after-n = c .before .before in
+    let after-read-short-count = after-n .before .before in
+    let after-p = after-read-short-count .before .before in
+    let after-slice-known5 = after-p .before .before in
+    let after-double-run = after-double-run-from-after-slice-known5 after-slice-known5 in
+    let entry = entry-from-after-double-run after-double-run in
+    let args = entry .args in
+    let o = read-value ((bounded (args .cap) BS) .read (now (args .s)) (after-p .p .given .0 .0)) (after-read-short-count .read-short-count .ensures)
+    (after-n .n .given .1) in
+    let b = bounded-below (args .cap) BS BS-below (now (args .s)) (after-p .p .given .0 .0) o in
     omega (arith, b)
 
 add-double-run : tie.Need-add-double-run
 add-double-run c =
-    let h = walk-ready ((c .before .before .before .before .before .before .before .before .before .before .before .before .before .before .before .before .double-run) .ensures) ((c .before .before .before .before .before .before .before .before .before .before .p) .given .1) in
+    let after-put-word = c .before .before .before in
+    let after-n = after-put-word .before .before .before in
+    let after-read-short-count = after-n .before .before in
+    let after-p = after-read-short-count .before .before in
+    let after-slice-known5 = after-p .before .before in
+    let after-double-run = after-double-run-from-after-slice-known5 after-slice-known5 in
+    let h = walk-ready (after-double-run .double-run .ensures) (after-p .p .given .1) in
     omega (arith, h .0, h .1 .0, h .1 .1 .1)
 
 double-run-requires-2 : tie.Need-double-run-requires-2
 double-run-requires-2 c κs =
-    let o = read-value ((bounded ((c .before .before .before .before .before .before .before .before .before .before .before .before .before .before .before .before .before .before .before .before .before .before .before .before .before .args) .cap) BS) .read (now ((c .before .before .before .before .before .before .before .before .before .before .before .before .before .before .before .before .before .before .before .before .before .before .before .before .before .args) .s)) ((c .before .before .before .before .before .before .before .before .before .before .before .before .p) .given .0 .0)) ((c .before .before .before .before .before .before .before .before .before .before .read-short-count) .ensures) ((c .before .before .before .before .before .before .before .before .n) .given .1) in
-    ready-word (bounded ((c .before .before .before .before .before .before .before .before .before .before .before .before .before .before .before .before .before .before .before .before .before .before .before .before .before .args) .cap) BS) 2 (takes-bounded ((c .before .before .before .before .before .before .before .before .before .before .before .before .before .before .before .before .before .before .before .before .before .before .before .before .before .args) .cap) BS 2 takes-BS) (omega arith) (now ((c .before .before .before .before .before .before .before .before .before .before .before .before .before .before .before .before .before .before .before .before .before .before .before .before .before .args) .s)) ((c .before .before .before .before .before .before .before .before .before .before .before .before .p) .given .0 .0) ((c .before .before .before .before .before .before .before .before .before .before .before .before .p) .given .0 .1 .0) o (walk-ready ((c .before .before .before .before .before .before .before .before .before .before .before .before .before .before .before .before .before .before .double-run) .ensures) ((c .before .before .before .before .before .before .before .before .before .before .before .before .p) .given .1))
+    let after-put-word = after-put-word-from-after-double-run-arg4 c in
+    let after-n = after-put-word .before .before .before in
+    let after-read-short-count = after-n .before .before in
+    let after-p = after-read-short-count .before .before in
+    let after-slice-known5 = after-p .before .before in
+    let after-double-run = after-double-run-from-after-slice-known5 after-slice-known5 in
+    let entry = entry-from-after-double-run after-double-run in
+    let args = entry .args in
+    let o = read-value ((bounded (args .cap) BS) .read (now (args .s)) (after-p .p .given .0 .0)) (after-read-short-count .read-short-count .ensures)
+    (after-n .n .given .1) in
+    ready-word (bounded (args .cap) BS) 2 (takes-bounded (args .cap) BS 2 takes-BS) (omega arith) (now (args .s)) (after-p .p .given .0 .0)
+    (after-p .p .given .0 .1 .0) o (walk-ready (after-double-run .double-run .ensures) (after-p .p .given .1))
 
 enum-known-k : tie.Need-enum-known-k
 enum-known-k c = search needs
@@ -68,15 +119,26 @@ same-length-3 c = search needs
 returns : tie.Need-returns
 unfolding line-walk
 returns c =
-    let s = now ((c .before .before .before .before .before .before .before .before .before .before .before .before .before .before .before .before .before .before .before .before .before .before .before .before .before .before .before .before .before .before .args) .s) in
-    let cap = (c .before .before .before .before .before .before .before .before .before .before .before .before .before .before .before .before .before .before .before .before .before .before .before .before .before .before .before .before .before .before .args) .cap in
-    let y = (c .before .before .before .before .before .before .before .before .before .before .before .before .before .before .before .before .before .p) .given .0 .1 .0 in
-    let n = (c .before .before .before .before .before .before .before .before .before .before .before .before .before .n) .given .0 .0 in
-    let t = walk-finished (double-words 5 ((c .before .before .before .before .before .before .before .before .before .before .before .before .before .before .before .before .before .before .before .before .before .before .before .before .before .before .before .before .before .before .args) .at) (now ((c .before .before .before .before .before .before .before .before .before .before .before .before .before .before .before .before .before .before .before .before .before .before .before .before .before .before .before .before .before .before .args) .words)) ((c .before .before .before .before .before .before .before .before .before .before .before .before .before .before .before .before .before .before .before .before .before .before .before .double-run) .ensures)) ((c .before .before .before .before .before .before .before .before .before .before .before .before .before .before .before .before .before .p) .given .1) in
-    let o = read-value ((bounded cap BS) .read s ((c .before .before .before .before .before .before .before .before .before .before .before .before .before .before .before .before .before .p) .given .0 .0)) ((c .before .before .before .before .before .before .before .before .before .before .before .before .before .before .before .read-short-count) .ensures) ((c .before .before .before .before .before .before .before .before .before .before .before .before .before .n) .given .1) in
-    let w = word-step y n ((c .before .before .before .before .before .before .before .before .before .before .put-word) .ensures) in
+    let after-double-run2 = after-double-run2-from-after-slice-known8 c in
+    let after-put-word = after-put-word-from-after-double-run2 after-double-run2 in
+    let after-n = after-put-word .before .before .before in
+    let after-read-short-count = after-n .before .before in
+    let after-p = after-read-short-count .before .before in
+    let after-slice-known5 = after-p .before .before in
+    let after-double-run = after-double-run-from-after-slice-known5 after-slice-known5 in
+    let entry = entry-from-after-double-run after-double-run in
+    let args = entry .args in
+    let s = now (args .s) in
+    let cap = args .cap in
+    let y = after-p .p .given .0 .1 .0 in
+    let n = after-n .n .given .0 .0 in
+    let t = walk-finished (double-words 5 (args .at) (now (args .words)) (after-double-run .double-run .ensures)) (after-p .p .given .1) in
+    let o = read-value ((bounded cap BS) .read s (after-p .p .given .0 .0)) (after-read-short-count .read-short-count .ensures) (after-n .n .given .1)
+    in
+    let w = word-step y n (after-put-word .put-word .ensures) in
     walks-as
-    (behind (double-run n) (λ e. plus (t .entries) (plus (word n) e)) (t .step ⊕ w) (plus-again (t .entries) (word n)) (double-words n ((c .before .before .before .before .before .before .before .before .before .before .before .before .before .n) .given .0 .1 .0) _ ((c .before .before .before .before .double-run2) .ensures)))
+    (behind (double-run n) (λ e. plus (t .entries) (plus (word n) e)) (t .step ⊕ w) (plus-again (t .entries) (word n))
+    (double-words n (after-n .n .given .0 .1 .0) _ (after-double-run2 .double-run2 .ensures)))
     (sym
     (then-got (double-run 5) (λ a. bounded cap BS >>= λ m. double-run m >>= λ b. pure (plus a (plus (word m) b))) s (t .read)
     ∙ then-got (bounded cap BS) (λ m. double-run m >>= λ b. pure (plus (t .entries) (plus (word m) b))) s o))
@@ -90,10 +152,18 @@ same-length-5 c = search needs
 returns-2 : tie.Need-returns-2
 unfolding line-walk
 returns-2 c =
-    let s = now ((c .before .before .before .before .before .before .before .before .before .before .before .before .before .before .before .before .before .before .args) .s) in
-    let cap = (c .before .before .before .before .before .before .before .before .before .before .before .before .before .before .before .before .before .before .args) .cap in
-    let t = walk-finished (double-words 5 ((c .before .before .before .before .before .before .before .before .before .before .before .before .before .before .before .before .before .before .args) .at) (now ((c .before .before .before .before .before .before .before .before .before .before .before .before .before .before .before .before .before .before .args) .words)) ((c .before .before .before .before .before .before .before .before .before .before .before .double-run) .ensures)) ((c .before .before .before .before .before .p) .given .1) in
-    let o = read-refused ((bounded cap BS) .read s ((c .before .before .before .before .before .p) .given .0 .0)) ((c .before .before .before .read-short-count) .ensures) ((c .before .k) .given .1) in
+    let after-k = c .before in
+    let after-read-short-count = after-k .before .before in
+    let after-p = after-read-short-count .before .before in
+    let after-slice-known5 = after-p .before .before in
+    let after-double-run = after-double-run-from-after-slice-known5 after-slice-known5 in
+    let entry = entry-from-after-double-run after-double-run in
+    let args = entry .args in
+    let s = now (args .s) in
+    let cap = args .cap in
+    let t = walk-finished (double-words 5 (args .at) (now (args .words)) (after-double-run .double-run .ensures)) (after-p .p .given .1) in
+    let o = read-refused ((bounded cap BS) .read s (after-p .p .given .0 .0)) (after-read-short-count .read-short-count .ensures)
+    (after-k .k .given .1) in
     refuses
     (then-got (double-run 5) (λ a. bounded cap BS >>= λ m. double-run m >>= λ b. pure (plus a (plus (word m) b))) s (t .read)
     ∙ then-refused (bounded cap BS) (λ m. double-run m >>= λ b. pure (plus (t .entries) (plus (word m) b))) s o)
@@ -108,11 +178,16 @@ same-length-7 c = search needs
 returns-3 : tie.Need-returns-3
 unfolding line-walk
 returns-3 c =
-    let a = (c .before .before .before .before .before .before .before .before .before .before .before .before .before .before .args) in
+    let after-k2 = c .before in
+    let after-slice-known5 = after-k2 .before .before in
+    let after-double-run = after-double-run-from-after-slice-known5 after-slice-known5 in
+    let entry = entry-from-after-double-run after-double-run in
+    let a = entry .args in
     let s = now (a .s) in
-    let walk = (c .before .before .before .before .before .before .before .double-run) .ensures in
-    let stop = (c .before .k2) .given .1 in
-    refuses (then-refused (double-run 5) (λ b. bounded (a .cap) BS >>= λ m. double-run m >>= λ d. pure (plus b (plus (word m) d))) s (walk-refused walk stop))
+    let walk = after-double-run .double-run .ensures in
+    let stop = after-k2 .k2 .given .1 in
+    refuses (then-refused (double-run 5) (λ b. bounded (a .cap) BS >>= λ m. double-run m >>= λ d. pure (plus b (plus (word m) d))) s
+    (walk-refused walk stop))
     (kept-numbers (now (a .words)) (walk-kept walk stop))
 
 pub decode-pattern-line-spec : {M : Type 1} → statement M

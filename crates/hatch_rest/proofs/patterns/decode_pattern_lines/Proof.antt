@@ -19,11 +19,38 @@ Inv-loop s at n cap numbers₀ bits₀ words₀ p₀ y₀ i₀ numbers bits word
 abbrev μ-loop : tie.MeasureT-loop
 μ-loop s at n cap numbers₀ bits₀ words₀ p₀ y₀ i₀ numbers bits words p y i = n - i
 
+-- ---- the stages of the function, each from a later one
+abbrev entry-from-after-slice-known3 : tie.After-slice-known3 Inv-loop μ-loop → tie.Start Inv-loop μ-loop
+entry-from-after-slice-known3 s =
+    let after-shared-slice-known = s .before .before .before in
+    after-shared-slice-known .before
+
+abbrev after-decode-pattern-line-from-after-slice-known6 : tie.After-slice-known6 Inv-loop μ-loop → tie.After-decode-pattern-line Inv-loop μ-loop
+after-decode-pattern-line-from-after-slice-known6 s =
+    let after-bits = s .before .before .before in
+    after-bits .before .before .before
+
+abbrev in-loop-from-after-decode-pattern-line : tie.After-decode-pattern-line Inv-loop μ-loop → tie.In-loop Inv-loop μ-loop
+in-loop-from-after-decode-pattern-line s =
+    let after-decode-pattern-line-arg = s .before .before .before in
+    after-decode-pattern-line-arg .before
+
+abbrev entry-from-at-loop : tie.At-loop Inv-loop μ-loop → tie.Start Inv-loop μ-loop
+entry-from-at-loop s =
+    let after-slice-known = s .before .before .before in
+    after-slice-known .before .before
+
 loop-holds : tie.Need-loop-holds Inv-loop μ-loop
-loop-holds c = start (line-walk ((c .before .before .before .before .args) .cap)) (now ((c .before .before .before .before .args) .s)) (c .before .before .before .before .pre)
+loop-holds c =
+    let entry = entry-from-after-slice-known3 c in
+    let args = entry .args in
+    start (line-walk (args .cap)) (now (args .s)) (entry .pre)
 
 decode-pattern-line-requires : tie.Need-decode-pattern-line-requires Inv-loop μ-loop
-decode-pattern-line-requires c κs = (c .before .before .before .before .loop) .inv .ready
+decode-pattern-line-requires c κs =
+    let in-loop = c .before .before .before in
+    let at-loop = in-loop .before in
+    at-loop .loop .inv .ready
 
 enum-known-q : tie.Need-enum-known-q Inv-loop μ-loop
 enum-known-q c = search needs
@@ -32,18 +59,46 @@ enum-known-k : tie.Need-enum-known-k Inv-loop μ-loop
 enum-known-k c = search needs
 
 same-length : tie.Need-same-length Inv-loop μ-loop
-same-length c = search (needs, long-doubles (line-walk ((c .before .before .before .before .before .before .before .before .before .before .before .before .before .before .before .before .before .before .before .args) .cap)) (now ((c .before .before .before .before .before .before .before .before .before .before .before .before .before .before .before .before .before .before .before .args) .s)) ((c .before .before .before .before .before .before .before .before .before .before .before .before .before .before .loop) .inv))
+same-length c =
+    let after-slice-known6 = c .before .before .before in
+    let after-decode-pattern-line = after-decode-pattern-line-from-after-slice-known6 after-slice-known6 in
+    let in-loop = in-loop-from-after-decode-pattern-line after-decode-pattern-line in
+    let at-loop = in-loop .before in
+    let entry = entry-from-at-loop at-loop in
+    let args = entry .args in
+    search (needs, long-doubles (line-walk (args .cap)) (now (args .s)) (at-loop .loop .inv))
 
 same-length-2 : tie.Need-same-length-2 Inv-loop μ-loop
-same-length-2 c = search (needs, long-bits (line-walk ((c .before .before .before .before .before .before .before .before .before .before .before .before .before .before .before .before .before .before .before .args) .cap)) (now ((c .before .before .before .before .before .before .before .before .before .before .before .before .before .before .before .before .before .before .before .args) .s)) ((c .before .before .before .before .before .before .before .before .before .before .before .before .before .before .loop) .inv))
+same-length-2 c =
+    let after-slice-known6 = c .before .before .before in
+    let after-decode-pattern-line = after-decode-pattern-line-from-after-slice-known6 after-slice-known6 in
+    let in-loop = in-loop-from-after-decode-pattern-line after-decode-pattern-line in
+    let at-loop = in-loop .before in
+    let entry = entry-from-at-loop at-loop in
+    let args = entry .args in
+    search (needs, long-bits (line-walk (args .cap)) (now (args .s)) (at-loop .loop .inv))
 
 same-length-3 : tie.Need-same-length-3 Inv-loop μ-loop
-same-length-3 c = search (needs, long-words (line-walk ((c .before .before .before .before .before .before .before .before .before .before .before .before .before .before .before .before .before .before .before .args) .cap)) (now ((c .before .before .before .before .before .before .before .before .before .before .before .before .before .before .before .before .before .before .before .args) .s)) ((c .before .before .before .before .before .before .before .before .before .before .before .before .before .before .loop) .inv))
+same-length-3 c =
+    let after-slice-known6 = c .before .before .before in
+    let after-decode-pattern-line = after-decode-pattern-line-from-after-slice-known6 after-slice-known6 in
+    let in-loop = in-loop-from-after-decode-pattern-line after-decode-pattern-line in
+    let at-loop = in-loop .before in
+    let entry = entry-from-at-loop at-loop in
+    let args = entry .args in
+    search (needs, long-words (line-walk (args .cap)) (now (args .s)) (at-loop .loop .inv))
 
 returns : tie.Need-returns Inv-loop μ-loop
 returns c =
-    let a = (c .before .before .before .before .before .before .before .before .before .before .before .before .before .before .before .before .before .before .before .args) in
-    walk-refuses (line-walk (a .cap)) (now (a .s)) ((c .before .before .before .before .before .before .before .before .before .before .before .before .before .before .loop) .inv) ((c .before .before .before .before .before .before .before .before .before .before .before .before .before .loop-test) .taken) ((c .before .before .before .before .before .before .before .before .before .decode-pattern-line) .ensures) ((c .before .k) .given .1)
+    let after-k = c .before in
+    let after-slice-known6 = after-k .before .before in
+    let after-decode-pattern-line = after-decode-pattern-line-from-after-slice-known6 after-slice-known6 in
+    let in-loop = in-loop-from-after-decode-pattern-line after-decode-pattern-line in
+    let at-loop = in-loop .before in
+    let entry = entry-from-at-loop at-loop in
+    let a = entry .args in
+    walk-refuses (line-walk (a .cap)) (now (a .s)) (at-loop .loop .inv) (in-loop .loop-test .taken)
+    (after-decode-pattern-line .decode-pattern-line .ensures) (after-k .k .given .1)
 
 add-i : tie.Need-add-i Inv-loop μ-loop
 add-i c = omega arith
@@ -53,22 +108,43 @@ loop-less c = omega arith
 
 loop-again : tie.Need-loop-again Inv-loop μ-loop
 loop-again c =
-    let a = (c .before .before .before .before .before .before .before .before .before .before .before .before .before .before .before .before .before .before .before .args) in
-    walk-next (line-walk (a .cap)) (now (a .s)) ((c .before .before .before .before .before .before .before .before .before .before .before .before .before .before .loop) .inv) ((c .before .before .before .before .before .before .before .before .before .before .before .before .before .loop-test) .taken) ((c .before .before .before .before .before .before .before .before .before .decode-pattern-line) .ensures) ((c .before .q) .given .1)
+    let after-q = c .before in
+    let after-slice-known6 = after-q .before .before in
+    let after-decode-pattern-line = after-decode-pattern-line-from-after-slice-known6 after-slice-known6 in
+    let in-loop = in-loop-from-after-decode-pattern-line after-decode-pattern-line in
+    let at-loop = in-loop .before in
+    let entry = entry-from-at-loop at-loop in
+    let a = entry .args in
+    walk-next (line-walk (a .cap)) (now (a .s)) (at-loop .loop .inv) (in-loop .loop-test .taken)
+    (after-decode-pattern-line .decode-pattern-line .ensures) (after-q .q .given .1)
 
 same-length-4 : tie.Need-same-length-4 Inv-loop μ-loop
-same-length-4 c = long-doubles (line-walk ((c .before .before .before .before .before .before .args) .cap)) (now ((c .before .before .before .before .before .before .args) .s)) ((c .before .loop) .inv)
+same-length-4 c =
+    let at-loop = c .before in
+    let entry = entry-from-at-loop at-loop in
+    let args = entry .args in
+    long-doubles (line-walk (args .cap)) (now (args .s)) (at-loop .loop .inv)
 
 same-length-5 : tie.Need-same-length-5 Inv-loop μ-loop
-same-length-5 c = long-bits (line-walk ((c .before .before .before .before .before .before .args) .cap)) (now ((c .before .before .before .before .before .before .args) .s)) ((c .before .loop) .inv)
+same-length-5 c =
+    let at-loop = c .before in
+    let entry = entry-from-at-loop at-loop in
+    let args = entry .args in
+    long-bits (line-walk (args .cap)) (now (args .s)) (at-loop .loop .inv)
 
 same-length-6 : tie.Need-same-length-6 Inv-loop μ-loop
-same-length-6 c = long-words (line-walk ((c .before .before .before .before .before .before .args) .cap)) (now ((c .before .before .before .before .before .before .args) .s)) ((c .before .loop) .inv)
+same-length-6 c =
+    let at-loop = c .before in
+    let entry = entry-from-at-loop at-loop in
+    let args = entry .args in
+    long-words (line-walk (args .cap)) (now (args .s)) (at-loop .loop .inv)
 
 returns-2 : tie.Need-returns-2 Inv-loop μ-loop
 returns-2 c =
-    let a = (c .before .before .before .before .before .before .args) in
-    loop-ends (line-walk (a .cap)) (now (a .s)) ((c .before .loop) .inv) ((c .loop-test) .left)
+    let at-loop = c .before in
+    let entry = entry-from-at-loop at-loop in
+    let a = entry .args in
+    loop-ends (line-walk (a .cap)) (now (a .s)) (at-loop .loop .inv) (c .loop-test .left)
 
 pub decode-pattern-lines-spec : {M : Type 1} → statement M
 decode-pattern-lines-spec =

@@ -25,14 +25,63 @@ then-bs-requires c κs = search needs
 enum-known-kind : tie.Need-enum-known-kind
 enum-known-kind c = search needs
 
+-- ---- the stages of the function, each from a later one
+abbrev after-kind-from-after-decode-pattern-arg3 : tie.After-decode-pattern-arg3 → tie.After-kind
+after-kind-from-after-decode-pattern-arg3 s =
+    let after-known-told = s .before .before .before in
+    after-known-told .before
+
+abbrev entry-from-after-read-bs-u : tie.After-read-bs-u → tie.Start
+entry-from-after-read-bs-u s =
+    let after-slice-known = s .before .before .before in
+    after-slice-known .before .before
+
+abbrev after-decode-pattern-from-after-slice-known6 : tie.After-slice-known6 → tie.After-decode-pattern
+after-decode-pattern-from-after-slice-known6 s =
+    let after-bits = s .before .before .before in
+    after-bits .before .before .before
+
+abbrev after-kind-from-after-decode-pattern : tie.After-decode-pattern → tie.After-kind
+after-kind-from-after-decode-pattern s =
+    let after-decode-pattern-arg = s .before .before .before in
+    after-decode-pattern-arg .before .before
+
+abbrev after-decode-ending-from-after-slice-known8 : tie.After-slice-known8 → tie.After-decode-ending
+after-decode-ending-from-after-slice-known8 s =
+    let after-numbers2 = s .before .before .before in
+    after-numbers2 .before
+
+abbrev after-a-from-after-decode-ending : tie.After-decode-ending → tie.After-a
+after-a-from-after-decode-ending s =
+    let after-known-told2 = s .before .before .before in
+    after-known-told2 .before
+
 decode-pattern-requires : tie.Need-decode-pattern-requires
-decode-pattern-requires c κs = tail-ready (now ((c .before .before .before .before .before .before .before .before .before .before .before .before .args) .s)) ((c .before .before .before .before .before .before .before .before .before .before .before .before .args) .caps) ((c .before .before .before .before .before .before .before .before .before .before .before .before .args) .solid) ((c .before .before .before .before .before .before .before .before .before .before .before .before .args) .has) ((c .before .before .before .before .before .before .before .before .before .before .before .before .args) .at) ((c .before .before .before .before .before .before .before .read-bs-u) .result) ((c .before .before .before .before .before .before .then-bs) .result) ((c .before .before .before .before .before .before .before .read-bs-u) .ensures) ((c .before .before .before .before .before .before .then-bs) .ensures) ((c .before .before .before .before .before .before .before .before .before .before .before .before .args) .z) ((c .before .before .before .before .kind) .given .1) (c .before .before .before .before .before .before .before .before .before .before .before .before .pre)
+decode-pattern-requires c κs =
+    let after-kind = after-kind-from-after-decode-pattern-arg3 c in
+    let after-then-bs = after-kind .before .before in
+    let after-read-bs-u = after-then-bs .before in
+    let entry = entry-from-after-read-bs-u after-read-bs-u in
+    let args = entry .args in
+    tail-ready (now (args .s)) (args .caps) (args .solid) (args .has) (args .at) (after-read-bs-u .read-bs-u .result) (after-then-bs .then-bs .result)
+    (after-read-bs-u .read-bs-u .ensures) (after-then-bs .then-bs .ensures) (args .z) (after-kind .kind .given .1) (entry .pre)
 
 enum-known-a : tie.Need-enum-known-a
 enum-known-a c = search needs
 
 decode-ending-requires : tie.Need-decode-ending-requires
-decode-ending-requires c κs = ending-asks (now ((c .before .before .before .before .before .before .before .before .before .before .before .before .before .before .before .before .before .before .before .before .before .before .before .before .args) .s)) ((c .before .before .before .before .before .before .before .before .before .before .before .before .before .before .before .before .before .before .before .before .before .before .before .before .args) .caps) ((c .before .before .before .before .before .before .before .before .before .before .before .before .before .before .before .before .before .before .before .before .before .before .before .before .args) .solid) ((c .before .before .before .before .before .before .before .before .before .before .before .before .before .before .before .before .before .before .before .before .before .before .before .before .args) .has) ((c .before .before .before .before .before .before .before .before .before .before .before .before .before .before .before .before .before .before .before .before .before .before .before .before .args) .at) ((c .before .before .before .before .before .before .before .before .before .before .before .before .before .before .before .before .before .before .before .read-bs-u) .result) ((c .before .before .before .before .before .before .before .before .before .before .before .before .before .before .before .before .before .before .then-bs) .result) ((c .before .before .before .before .before .before .before .before .before .before .before .before .before .before .before .before .before .before .before .read-bs-u) .ensures) ((c .before .before .before .before .before .before .before .before .before .before .before .before .before .before .before .before .before .before .then-bs) .ensures) ((c .before .before .before .before .before .before .before .before .before .before .before .before .before .before .before .before .kind) .given .1) ((c .before .before .before .before .before .before .before .before .before .before .before .decode-pattern) .ensures) ((c .before .before .before .a) .given .1)
+decode-ending-requires c κs =
+    let after-a = c .before .before .before in
+    let after-slice-known6 = after-a .before .before in
+    let after-decode-pattern = after-decode-pattern-from-after-slice-known6 after-slice-known6 in
+    let after-kind = after-kind-from-after-decode-pattern after-decode-pattern in
+    let after-then-bs = after-kind .before .before in
+    let after-read-bs-u = after-then-bs .before in
+    let entry = entry-from-after-read-bs-u after-read-bs-u in
+    let args = entry .args in
+    ending-asks (now (args .s)) (args .caps) (args .solid) (args .has) (args .at) (after-read-bs-u .read-bs-u .result)
+    (after-then-bs .then-bs .result) (after-read-bs-u .read-bs-u .ensures) (after-then-bs .then-bs .ensures) (after-kind .kind .given .1)
+    (after-decode-pattern .decode-pattern .ensures) (after-a .a .given .1)
 
 enum-known-e : tie.Need-enum-known-e
 enum-known-e c = search needs
@@ -59,7 +108,22 @@ same-length-3 : tie.Need-same-length-3
 same-length-3 c = search needs
 
 returns : tie.Need-returns
-returns c = tail-done (now ((c .before .before .before .before .before .before .before .before .before .before .before .before .before .before .before .before .before .before .before .before .before .before .before .before .before .before .before .before .before .before .before .before .before .args) .s)) ((c .before .before .before .before .before .before .before .before .before .before .before .before .before .before .before .before .before .before .before .before .before .before .before .before .before .before .before .before .before .before .before .before .before .args) .caps) ((c .before .before .before .before .before .before .before .before .before .before .before .before .before .before .before .before .before .before .before .before .before .before .before .before .before .before .before .before .before .before .before .before .before .args) .solid) ((c .before .before .before .before .before .before .before .before .before .before .before .before .before .before .before .before .before .before .before .before .before .before .before .before .before .before .before .before .before .before .before .before .before .args) .has) ((c .before .before .before .before .before .before .before .before .before .before .before .before .before .before .before .before .before .before .before .before .before .before .before .before .before .before .before .before .before .before .before .before .before .args) .at) ((c .before .before .before .before .before .before .before .before .before .before .before .before .before .before .before .before .before .before .before .before .before .before .before .before .before .before .before .before .read-bs-u) .result) ((c .before .before .before .before .before .before .before .before .before .before .before .before .before .before .before .before .before .before .before .before .before .before .before .before .before .before .before .then-bs) .result) ((c .before .before .before .before .before .before .before .before .before .before .before .before .before .before .before .before .before .before .before .before .before .before .before .before .before .before .before .before .read-bs-u) .ensures) ((c .before .before .before .before .before .before .before .before .before .before .before .before .before .before .before .before .before .before .before .before .before .before .before .before .before .before .before .then-bs) .ensures) ((c .before .before .before .before .before .before .before .before .before .before .before .before .before .before .before .before .before .before .before .before .before .before .before .before .before .kind) .given .1) ((c .before .before .before .before .before .before .before .before .before .before .before .before .before .before .before .before .before .before .before .before .decode-pattern) .ensures) ((c .before .before .before .before .before .before .before .before .before .before .before .before .a) .given .1) refl ((c .before .before .before .before .before .before .before .before .decode-ending) .ensures) ((c .before .before .e) .given .1) ((c .value-of) .ensures)
+returns c =
+    let after-e = c .before .before in
+    let after-slice-known8 = after-e .before .before in
+    let after-decode-ending = after-decode-ending-from-after-slice-known8 after-slice-known8 in
+    let after-a = after-a-from-after-decode-ending after-decode-ending in
+    let after-slice-known6 = after-a .before .before in
+    let after-decode-pattern = after-decode-pattern-from-after-slice-known6 after-slice-known6 in
+    let after-kind = after-kind-from-after-decode-pattern after-decode-pattern in
+    let after-then-bs = after-kind .before .before in
+    let after-read-bs-u = after-then-bs .before in
+    let entry = entry-from-after-read-bs-u after-read-bs-u in
+    let args = entry .args in
+    tail-done (now (args .s)) (args .caps) (args .solid) (args .has) (args .at) (after-read-bs-u .read-bs-u .result) (after-then-bs .then-bs .result)
+    (after-read-bs-u .read-bs-u .ensures) (after-then-bs .then-bs .ensures) (after-kind .kind .given .1)
+    (after-decode-pattern .decode-pattern .ensures) (after-a .a .given .1) refl (after-decode-ending .decode-ending .ensures) (after-e .e .given .1)
+    (c .value-of .ensures)
 
 same-length-4 : tie.Need-same-length-4
 same-length-4 c = search needs
@@ -72,7 +136,20 @@ same-length-6 c = search needs
 
 returns-2 : tie.Need-returns-2
 returns-2 c =
-    tail-ending-refused (now ((c .before .before .before .before .before .before .before .before .before .before .before .before .before .before .before .before .before .before .before .before .before .before .before .before .before .before .before .before .before .before .before .before .args) .s)) ((c .before .before .before .before .before .before .before .before .before .before .before .before .before .before .before .before .before .before .before .before .before .before .before .before .before .before .before .before .before .before .before .before .args) .caps) ((c .before .before .before .before .before .before .before .before .before .before .before .before .before .before .before .before .before .before .before .before .before .before .before .before .before .before .before .before .before .before .before .before .args) .solid) ((c .before .before .before .before .before .before .before .before .before .before .before .before .before .before .before .before .before .before .before .before .before .before .before .before .before .before .before .before .before .before .before .before .args) .has) ((c .before .before .before .before .before .before .before .before .before .before .before .before .before .before .before .before .before .before .before .before .before .before .before .before .before .before .before .before .before .before .before .before .args) .at) ((c .before .before .before .before .before .before .before .before .before .before .before .before .before .before .before .before .before .before .before .before .before .before .before .before .before .before .before .read-bs-u) .result) ((c .before .before .before .before .before .before .before .before .before .before .before .before .before .before .before .before .before .before .before .before .before .before .before .before .before .before .then-bs) .result) ((c .before .before .before .before .before .before .before .before .before .before .before .before .before .before .before .before .before .before .before .before .before .before .before .before .before .before .before .read-bs-u) .ensures) ((c .before .before .before .before .before .before .before .before .before .before .before .before .before .before .before .before .before .before .before .before .before .before .before .before .before .before .then-bs) .ensures) ((c .before .before .before .before .before .before .before .before .before .before .before .before .before .before .before .before .before .before .before .before .before .before .before .before .kind) .given .1) ((c .before .before .before .before .before .before .before .before .before .before .before .before .before .before .before .before .before .before .before .decode-pattern) .ensures) ((c .before .before .before .before .before .before .before .before .before .before .before .a) .given .1) refl ((c .before .before .before .before .before .before .before .decode-ending) .ensures) ((c .before .k) .given .1)
+    let after-k = c .before in
+    let after-slice-known8 = after-k .before .before in
+    let after-decode-ending = after-decode-ending-from-after-slice-known8 after-slice-known8 in
+    let after-a = after-a-from-after-decode-ending after-decode-ending in
+    let after-slice-known6 = after-a .before .before in
+    let after-decode-pattern = after-decode-pattern-from-after-slice-known6 after-slice-known6 in
+    let after-kind = after-kind-from-after-decode-pattern after-decode-pattern in
+    let after-then-bs = after-kind .before .before in
+    let after-read-bs-u = after-then-bs .before in
+    let entry = entry-from-after-read-bs-u after-read-bs-u in
+    let args = entry .args in
+    tail-ending-refused (now (args .s)) (args .caps) (args .solid) (args .has) (args .at) (after-read-bs-u .read-bs-u .result)
+    (after-then-bs .then-bs .result) (after-read-bs-u .read-bs-u .ensures) (after-then-bs .then-bs .ensures) (after-kind .kind .given .1)
+    (after-decode-pattern .decode-pattern .ensures) (after-a .a .given .1) refl (after-decode-ending .decode-ending .ensures) (after-k .k .given .1)
 
 same-length-7 : tie.Need-same-length-7
 same-length-7 c = search needs
@@ -85,11 +162,27 @@ same-length-9 c = search needs
 
 returns-3 : tie.Need-returns-3
 returns-3 c =
-    tail-pattern-refused (now ((c .before .before .before .before .before .before .before .before .before .before .before .before .before .before .before .before .before .before .before .before .before .before .args) .s)) ((c .before .before .before .before .before .before .before .before .before .before .before .before .before .before .before .before .before .before .before .before .before .before .args) .caps) ((c .before .before .before .before .before .before .before .before .before .before .before .before .before .before .before .before .before .before .before .before .before .before .args) .solid) ((c .before .before .before .before .before .before .before .before .before .before .before .before .before .before .before .before .before .before .before .before .before .before .args) .has) ((c .before .before .before .before .before .before .before .before .before .before .before .before .before .before .before .before .before .before .before .before .before .before .args) .at) ((c .before .before .before .before .before .before .before .before .before .before .before .before .before .before .before .before .before .read-bs-u) .result) ((c .before .before .before .before .before .before .before .before .before .before .before .before .before .before .before .before .then-bs) .result) ((c .before .before .before .before .before .before .before .before .before .before .before .before .before .before .before .before .before .read-bs-u) .ensures) ((c .before .before .before .before .before .before .before .before .before .before .before .before .before .before .before .before .then-bs) .ensures) ((c .before .before .before .before .before .before .before .before .before .before .before .before .before .before .kind) .given .1) ((c .before .before .before .before .before .before .before .before .before .decode-pattern) .ensures) ((c .before .k2) .given .1)
+    let after-k2 = c .before in
+    let after-slice-known6 = after-k2 .before .before in
+    let after-decode-pattern = after-decode-pattern-from-after-slice-known6 after-slice-known6 in
+    let after-kind = after-kind-from-after-decode-pattern after-decode-pattern in
+    let after-then-bs = after-kind .before .before in
+    let after-read-bs-u = after-then-bs .before in
+    let entry = entry-from-after-read-bs-u after-read-bs-u in
+    let args = entry .args in
+    tail-pattern-refused (now (args .s)) (args .caps) (args .solid) (args .has) (args .at) (after-read-bs-u .read-bs-u .result)
+    (after-then-bs .then-bs .result) (after-read-bs-u .read-bs-u .ensures) (after-then-bs .then-bs .ensures) (after-kind .kind .given .1)
+    (after-decode-pattern .decode-pattern .ensures) (after-k2 .k2 .given .1)
 
 returns-4 : tie.Need-returns-4
 returns-4 c =
-    tail-fields-refused (now ((c .before .before .before .before .before .before .before .before .before .args) .s)) ((c .before .before .before .before .before .before .before .before .before .args) .caps) ((c .before .before .before .before .before .before .before .before .before .args) .solid) ((c .before .before .before .before .before .before .before .before .before .args) .has) ((c .before .before .before .before .before .before .before .before .before .args) .at) ((c .before .before .before .before .read-bs-u) .result) ((c .before .before .before .then-bs) .result) ((c .before .before .before .before .read-bs-u) .ensures) ((c .before .before .before .then-bs) .ensures) ((c .before .k3) .given .1)
+    let after-k3 = c .before in
+    let after-then-bs = after-k3 .before .before in
+    let after-read-bs-u = after-then-bs .before in
+    let entry = entry-from-after-read-bs-u after-read-bs-u in
+    let args = entry .args in
+    tail-fields-refused (now (args .s)) (args .caps) (args .solid) (args .has) (args .at) (after-read-bs-u .read-bs-u .result)
+    (after-then-bs .then-bs .result) (after-read-bs-u .read-bs-u .ensures) (after-then-bs .then-bs .ensures) (after-k3 .k3 .given .1)
 
 pub decode-tail-spec : {M : Type 1} → statement M
 decode-tail-spec =

@@ -17,11 +17,18 @@ read-bd-bits-requires : tie.Need-read-bd-bits-requires
 read-bd-bits-requires c κs = search needs
 
 returns : tie.Need-returns
-returns c = (c .read-bd-bits) .ensures ∙ sym (ap (λ (d : Code ℕ). asRead (d .read (now ((c .before .before .before .args) .s)) ((c .before .before .before .args) .at))) (held-yes BD 0 ((c .before .if1) .taken)))
+returns c =
+    let then1 = c .before in
+    let entry = then1 .before .before in
+    let args = entry .args in
+    c .read-bd-bits .ensures ∙ sym (ap (λ (d : Code ℕ). asRead (d .read (now (args .s)) (args .at))) (held-yes BD 0 (then1 .if1 .taken)))
 
 returns-2 : tie.Need-returns-2
 unfolding give
-returns-2 c = sym (ap (λ (d : Code ℕ). asRead (d .read (now ((c .before .before .args) .s)) ((c .before .before .args) .at))) (held-no BD 0 ((c .if1) .left)))
+returns-2 c =
+    let entry = c .before .before in
+    let args = entry .args in
+    sym (ap (λ (d : Code ℕ). asRead (d .read (now (args .s)) (args .at))) (held-no BD 0 (c .if1 .left)))
 
 pub read-pixel-size-spec : {M : Type 1} → statement M
 read-pixel-size-spec = tie.close (tie.spec read-bd-bits-requires returns returns-2)
