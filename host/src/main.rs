@@ -2,6 +2,7 @@
 
 mod commands;
 mod jobs;
+mod progress;
 mod protocol;
 
 use std::env;
@@ -15,6 +16,7 @@ use commands::help::TRY_HELP;
 use commands::options::{counted_jobs, Asked, Command};
 use commands::streams::{self, NamedInput};
 use commands::{cut, draw, help, read};
+use progress::{Counted, Progress};
 
 fn main() -> ExitCode {
     let words: Vec<OsString> = env::args_os().skip(1).collect();
@@ -63,21 +65,28 @@ fn help_about(words: &[OsString]) -> Result<&'static str, Failure> {
 fn reads(command: &Command, help: &str, words: &[OsString]) -> Result<u8, Failure> {
     match command.parse(words)? {
         Asked::Help => print(help),
-        Asked::Run { options, input } => read::run(command, &options, &input, streams::output(), io::stderr().lock()),
+        Asked::Run { options, input } => {
+            let _progress = Progress::start(input.length(), true);
+            read::run(command, &options, &input, streams::output(), io::stderr())
+        }
     }
 }
 
 fn draws(words: &[OsString]) -> Result<u8, Failure> {
     match draw::DRAW.parse(words)? {
         Asked::Help => print(help::DRAW_HELP),
-        Asked::Run { options, input } => draw::run(&options, &input, streams::output(), io::stderr().lock()),
+        Asked::Run { options, input } => {
+            // A file is read twice, and a picture may have a file of its own.
+            let _progress = Progress::start(input.length().map(|length| 2 * length), draw::writes_to_stdout(&options));
+            draw::run(&options, &input, streams::output(), io::stderr())
+        }
     }
 }
 
 fn cuts(words: &[OsString]) -> Result<u8, Failure> {
     match cut::CUT.parse(words)? {
         Asked::Help => print(help::CUT_HELP),
-        Asked::Run { options, input } => cut::run(&options, &input, streams::output(), io::stderr().lock()),
+        Asked::Run { options, input } => cut::run(&options, &input, streams::output(), io::stderr()),
     }
 }
 
@@ -97,7 +106,8 @@ fn answer(words: &[OsString]) -> Result<u8, Failure> {
             word => return Err(usage(format!("answer takes no \"{}\"", shown(word)))),
         }
     }
-    protocol::answer::run(NamedInput(streams::input()), streams::output(), f64_entries, jobs)?;
+    let _progress = Progress::start(progress::length_of_stdin(), true);
+    protocol::answer::run(Counted(NamedInput(streams::input())), streams::output(), f64_entries, jobs)?;
     Ok(0)
 }
 

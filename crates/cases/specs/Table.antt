@@ -28,7 +28,8 @@ use Rattle.common_entity.specs.Call.{prefixCall}
 use Rattle.hatch_format.specs.Caps.{documentCaps}
 use Rattle.hatch_format.specs.HandleRule.{in-payload}
 use Rattle.hatch_format.specs.Values.{Body}
-use Rattle.hatch_format.specs.Counts.{summed, times-read, times, capped-read, capped, bounded-read, bounded, counted, listed-by-read, listed-by, listed-read, listed}
+use Rattle.hatch_format.specs.Counts.{summed, times-read, times, capped-read, capped, bounded-read, bounded, counted}
+use Rattle.hatch_format.specs.Counts.{listed-by-read, listed-by, listed-read, listed}
 use Rattle.hatch_format.specs.Points.{point-read, point, vertex-read, vertex, arc-read, arc-edge, ellipse-read, ellipse-edge}
 use Rattle.hatch_format.specs.Splines.{fitted-by, fits-read, fits, spline-lists, spline-controls, spline-counts, spline-read, spline-edge}
 use Rattle.hatch_format.specs.Edges.{edge-of, edge-read, edge}

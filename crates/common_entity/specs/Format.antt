@@ -19,7 +19,8 @@ use Rattle.common_entity.specs.Values.{modeOf, maybe, hasRgb, hasAlpha, 
 use Rattle.common_entity.specs.Layouts.{ModesLaid, ColourLaid, VisualLaid, StylesLaid, FieldsLaid}
 use Rattle.common_entity.specs.Prefix.{prefixBy, fieldsOf}
 use Rattle.common_entity.specs.Joins.{apart, joined, no-bits, of-no-bits}
-use Rattle.common_entity.specs.FieldLaws.{eqb-bit, held-to, held-from, held-bit-to, held-bit-from, signed-to, signed-from, name-to, name-from, graphics-to, graphics-from, xdata-to, xdata-from}
+use Rattle.common_entity.specs.FieldLaws.{eqb-bit, held-to, held-from, held-bit-to, held-bit-from, signed-to, signed-from}
+use Rattle.common_entity.specs.FieldLaws.{name-to, name-from, graphics-to, graphics-from, xdata-to, xdata-from}
 
 module _ (row : Row) (xs : List ℕ) (d : CommonEntityBits) (p q : ℕ) where
   pub prefix-to : Laid ((prefixBy row) .codes) xs d p q → FieldsLaid xs row d p q
@@ -89,7 +90,8 @@ module _ (row : Row) (xs : List ℕ) (d : CommonEntityBits) (p q : ℕ) where
       (d .«shadow_flags») (bit full) (bit face) (bit edge) invisible (d .lineweight)
   same full face edge invisible mode on-layer end rgb alpha visual signed =
       let fixed = sym (ap not (eqb-bit (not (d .«non_fixed_ltype»))) ∙ Bool·not-not (d .«non_fixed_ltype»)) in
-      let flags : d .«visual_style_flags» ≡ eqb 1 (bit full) ∷ (eqb 1 (bit face) ∷ (eqb 1 (bit edge) ∷ [])) = visual ∙ rw (eqb-bit full, eqb-bit face, eqb-bit edge) in
+      let flags : d .«visual_style_flags» ≡ eqb 1 (bit full) ∷ (eqb 1 (bit face) ∷ (eqb 1 (bit edge) ∷ [])) =
+      visual ∙ rw (eqb-bit full, eqb-bit face, eqb-bit edge) in
       λ i.
       record {
         «raw_mode» = d .«raw_mode»;
@@ -134,7 +136,8 @@ module _ (row : Row) (xs : List ℕ) (d : CommonEntityBits) (p q : ℕ) where
       let invisible = signed-from (last .1) in
       let v = row .«visual_styles» in
       let k = d .«color_raw» in
-      let e = same (visual .0) (visual .1) (visual .2) (invisible .0) (l .mode) (l .on-layer) (end .1 .0) (colours .1 .0) (colours .2 .1 .0) (visual .3) (invisible .2) in
+      let e = same (visual .0) (visual .1) (visual .2) (invisible .0) (l .mode) (l .on-layer) (end .1 .0) (colours .1 .0) (colours .2 .1 .0)
+      (visual .3) (invisible .2) in
       joined _ _ (bit (d .«had_extended_data»)) (xdata-from xs (h .1))
       (joined _ _ (bit (d .«had_graphics»)) (graphics-from (row .«graphics_bll») (d .«had_graphics») (h .2 .1))
       (joined _ _ (d .«data_end_bits» .value) (held-from (row .«data_end») RL 0 (end .1 .1))

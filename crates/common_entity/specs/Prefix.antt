@@ -56,7 +56,8 @@ name wide-units = mapped (λ (t : Written). 0) (TV (widthBy wide-units))
 
 -- the record of the fields' numbers
 abbrev pub fieldsOf : Row → ℕ → ℕ → ℕ → ℕ → ℕ → ℕ → ℕ → ℕ → ℕ → ℕ → ℕ → ℕ → ℕ → ℕ → ℕ → ℕ → ℕ → ℕ → ℕ → ℕ → ℕ → ℕ → CommonEntityBits
-fieldsOf row xdata drawn end mode reactors no-dictionary binary by-layer links colour rgb alpha scale linetype plot material shadow full face edge invisible weight =
+fieldsOf row xdata drawn end mode reactors no-dictionary binary by-layer links colour rgb alpha scale linetype plot material shadow
+    full face edge invisible weight =
     record {
       «raw_mode» = mode;
       mode = modeOf mode;
@@ -109,4 +110,5 @@ prefixBy row = do
   edge ← held (row .«visual_styles») BIT 0
   invisible ← BS
   weight ← held (row .lineweight) RC 0
-  give (fieldsOf row xdata drawn end mode reactors no-dictionary binary by-layer links colour rgb alpha scale linetype plot material shadow full face edge invisible weight)
+  give (fieldsOf row xdata drawn end mode reactors no-dictionary binary by-layer links colour rgb alpha scale linetype plot material shadow
+      full face edge invisible weight)

@@ -140,6 +140,16 @@ pub fn read_colours(s: &[u8], prior: Read, row: Row) -> Colours
 {
     let colour = sequence::then_bs(s, prior);
     let value = sequence::value_of(colour);
+    if value < 0x2000 {
+        // none of 80, 40 and 20 is set, so nothing follows
+        return Colours {
+            colour: value,
+            rgb: 0,
+            alpha: 0,
+            named: 0,
+            last: sequence::then_bits(s, colour, 1, false, 0),
+        };
+    }
     let has = announced_by(row, value);
     let rgb = sequence::then_bl(s, colour, has.rgb, 0);
     let alpha = sequence::then_bl(s, rgb, has.alpha, 0);
@@ -160,15 +170,15 @@ pub fn read_styles(s: &[u8], prior: Read, row: Row) -> Styles
     ensures { λ r. ⌜ r ≡ stylesOf row (now (s .entry)) prior ⌝ }
 {
     let scale = sequence::then_bd_bits(s, prior);
-    let linetype = sequence::then_bits(s, scale, 2, row.ltype_and_plotstyle, 0);
-    let plot = sequence::then_bits(s, linetype, 2, row.ltype_and_plotstyle, 0);
-    let material = sequence::then_bits(s, plot, 2, row.material_and_shadow, 0);
-    let shadow = sequence::then_low(s, material, 1, row.material_and_shadow, 0);
+    let has = row.material_and_shadow;
+    let flags = steps::then_three(s, scale, row.ltype_and_plotstyle, has);
+    let behind_flags = flags.last;
+    let shadow = sequence::then_low(s, behind_flags, 1, has, 0);
     Styles {
         scale: sequence::value_of(scale),
-        linetype: sequence::value_of(linetype),
-        plot: sequence::value_of(plot),
-        material: sequence::value_of(material),
+        linetype: flags.first,
+        plot: flags.second,
+        material: flags.third,
         shadow: sequence::value_of(shadow),
         last: shadow,
     }

@@ -17,7 +17,7 @@ use Rattle.hatch_format.specs.Counts.{bounded}
 use Rattle.hatch_format.specs.Paths.{handle-count, handles-bounded}
 use Rattle.hatch_points.specs.Gathered.{word}
 use Rattle.hatch_points.proofs.Laws.{Numberless}
-use Rattle.hatch_points.proofs.Lacking.{numberless}
+use Rattle.hatch_points.proofs.NoWords.{numberless}
 use Rattle.hatch_paths.specs.PathWalks.{bit-walk, fitted-raw, edge-of-walk, handles-walk}
 
 -- a bit that is a word

@@ -26,31 +26,31 @@ use Rattle.hatch_points.specs.Walks.{vertices-walk}
 use Rattle.hatch_paths.specs.PathWalks.{polyline-walk}
 use Rattle.hatch_points.specs.Heads.{resumed, one-more, bit-more, then-value, count-capped}
 use Rattle.hatch_points.proofs.Laws.{onward}
-use Rattle.hatch_points.proofs.Lacking.{bit-of, takes-raw}
+use Rattle.hatch_points.proofs.NoWords.{bit-of, takes-raw}
 
--- x, y and w are the answers for the bulge, closed and count
+-- x, y and w are the answers for bulge, closed and count
 module _ (xs : List ℕ) (caps : Caps) (p : ℕ) {x y w : Read} (e₁ : x ≡ asRead ((raw 1) .read xs p)) (e₂ : y ≡ thenRead ((held true (raw 1) 0) .read xs) x)
     (e₃ : w ≡ thenRead ((bounded (caps .vertices) BL) .read xs) y) where
-  abbrev pub polyline-rest : ℕ → Format one Entries
-  polyline-rest n = do
+  abbrev pub polyline-after-count : ℕ → Format one Entries
+  polyline-after-count n = do
     vertices ← vertices-walk (eqb 1 (valueOf x)) n
     pure (plus (words (bit (eqb 1 (valueOf x)) ∷ (bit (eqb 1 (valueOf y)) ∷ (n ∷ [])))) vertices)
 
-  pub polyline-reads : (polyline-walk caps) .read xs p ≡ resumed xs polyline-rest w
+  pub polyline-reads : (polyline-walk caps) .read xs p ≡ resumed xs polyline-after-count w
   unfolding polyline-walk held
   polyline-reads =
-      bit-more xs (λ v. bulged) (Value 0 p) e₁
-      ∙ bit-more xs (λ v. closed (eqb 1 v)) x e₂
-      ∙ one-more xs (λ v. bounded (caps .vertices) BL) (λ v. counted (eqb 1 (valueOf x)) (eqb 1 v)) y e₃
+      bit-more xs (λ v. after-bulge) (Value 0 p) e₁
+      ∙ bit-more xs (λ v. after-closed (eqb 1 v)) x e₂
+      ∙ one-more xs (λ v. bounded (caps .vertices) BL) (λ v. after-count (eqb 1 (valueOf x)) (eqb 1 v)) y e₃
     where
-      counted : Bool → Bool → ℕ → Format one Entries
-      counted bulge close n = vertices-walk bulge n >>= λ vertices. pure (plus (words (bit bulge ∷ (bit close ∷ (n ∷ [])))) vertices)
+      after-count : Bool → Bool → ℕ → Format one Entries
+      after-count bulge close n = vertices-walk bulge n >>= λ vertices. pure (plus (words (bit bulge ∷ (bit close ∷ (n ∷ [])))) vertices)
 
-      closed : Bool → Bool → Format one Entries
-      closed bulge close = bounded (caps .vertices) BL >>= counted bulge close
+      after-closed : Bool → Bool → Format one Entries
+      after-closed bulge close = bounded (caps .vertices) BL >>= after-count bulge close
 
-      bulged : Bool → Format one Entries
-      bulged bulge = coded B >>= closed bulge
+      after-bulge : Bool → Format one Entries
+      after-bulge bulge = coded B >>= after-closed bulge
 
   pub bulge-below : valueOf x < 2
   bulge-below = step-below 2 (raw 1) (omega arith) (raw-below 1) xs (Value 0 p) e₁
@@ -62,14 +62,14 @@ module _ (xs : List ℕ) (caps : Caps) (p : ℕ) {x y w : Read} (e₁ : x ≡ as
   pub stored-words : (n : ℕ) → valueOf x ∷ (valueOf y ∷ (n ∷ [])) ≡ bit (eqb 1 (valueOf x)) ∷ (bit (eqb 1 (valueOf y)) ∷ (n ∷ []))
   stored-words n = sym (ap₂ (λ (i j : ℕ). i ∷ (j ∷ (n ∷ []))) (bit-of (valueOf x) bulge-below) (bit-of (valueOf y) closed-below))
 
-  pub record Headed (n q : ℕ) : Type 0 where
+  pub record HeadEnd (n q : ℕ) : Type 0 where
     pub capped : n ≤ caps .vertices
     pub onward : p + 4 ≤ q
     pub inside : q ≤ 8 * length xs
 
-  pub headed : {n q : ℕ} → w ≡ Value n q → p ≤ 8 * length xs → Headed n q
+  pub head-end : {n q : ℕ} → w ≡ Value n q → p ≤ 8 * length xs → HeadEnd n q
   unfolding held
-  headed {n} {q} e h =
+  head-end {n} {q} e h =
       let t₃ = then-value ((bounded (caps .vertices) BL) .read xs) y (sym e₃ ∙ e) in
       let t₂ = then-value ((raw 1) .read xs) x (sym e₂ ∙ t₃ .2) in
       let t₁ = then-value ((raw 1) .read xs) (Value 0 p) (sym e₁ ∙ t₂ .2) in

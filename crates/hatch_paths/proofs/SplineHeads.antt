@@ -17,13 +17,13 @@ use Rattle.bitcursor.specs.Fields.{coded}
 use Rattle.hatch_format.specs.declared.Caps.{Caps}
 use Rattle.hatch_format.specs.Takes.{takes-BL}
 use Rattle.hatch_format.specs.Counts.{bounded, takes-bounded}
-use Rattle.hatch_paths.specs.Splines.{splineHead, spline-rest, spline-reads}
+use Rattle.hatch_paths.specs.Splines.{splineHead, spline-after-counts, spline-reads}
 use Rattle.hatch_points.specs.Heads.{then-value, then-capped, count-capped, resumed}
 use Rattle.hatch_paths.specs.PathWalks.{spline-walk}
 use Rattle.hatch_paths.specs.declared.edges.SplineHead.{SplineHead}
 use mathlib.Core.Bool.{Bool}
 use Rattle.hatch_points.proofs.Laws.{onward}
-use Rattle.hatch_points.proofs.Lacking.{bit-of, takes-raw}
+use Rattle.hatch_points.proofs.NoWords.{bit-of, takes-raw}
 
 module _ (xs : List ℕ) (caps : Caps) (p : ℕ) where
   pub degree-below : splineHead xs caps p .degree < 2 ^ 32
@@ -42,14 +42,14 @@ module _ (xs : List ℕ) (caps : Caps) (p : ℕ) where
   unfolding splineHead
   knots-capped = then-capped (caps .knots) BL xs (thenRead ((raw 1) .read xs) (thenRead ((raw 1) .read xs) (asRead (BL .read xs p))))
 
-  pub record Headed (n q : ℕ) : Type 0 where
+  pub record HeadEnd (n q : ℕ) : Type 0 where
     pub controls : n ≤ caps .«control_points»
     pub onward : p + 8 ≤ q
     pub inside : q ≤ 8 * length xs
 
-  pub headed : {n q : ℕ} → splineHead xs caps p .last ≡ Value n q → p ≤ 8 * length xs → Headed n q
+  pub head-end : {n q : ℕ} → splineHead xs caps p .last ≡ Value n q → p ≤ 8 * length xs → HeadEnd n q
   unfolding splineHead
-  headed {n} {q} e h =
+  head-end {n} {q} e h =
       let x₁ = asRead (BL .read xs p) in
       let x₂ = thenRead ((raw 1) .read xs) x₁ in
       let x₃ = thenRead ((raw 1) .read xs) x₂ in
@@ -87,8 +87,8 @@ pub record Reads (xs : List ℕ) (caps : Caps) (p : ℕ) (h : SplineHead) : Type
   pub rational : h .rational < 2 ^ 32
   pub periodic : h .periodic < 2 ^ 32
   pub knots : h .knots ≤ caps .knots
-  pub headed : {n q : ℕ} → h .last ≡ Value n q → p ≤ 8 * length xs → Headed xs caps p n q
-  pub reads : (b : Bool) → (spline-walk caps b) .read xs p ≡ resumed xs (spline-rest caps b h) (h .last)
+  pub head-end : {n q : ℕ} → h .last ≡ Value n q → p ≤ 8 * length xs → HeadEnd xs caps p n q
+  pub reads : (b : Bool) → (spline-walk caps b) .read xs p ≡ resumed xs (spline-after-counts caps b h) (h .last)
   pub stored : (n : ℕ)
       → h .degree ∷ (h .rational ∷ (h .periodic ∷ (h .knots ∷ (n ∷ [])))) ≡ h .degree ∷ (bit (eqb 1 (h .rational)) ∷ (bit (eqb 1 (h .periodic)) ∷ (h .knots ∷ (n ∷ []))))
 
@@ -100,7 +100,7 @@ head-read xs caps p e =
       rational = let r = rational-below xs caps p in omega (arith, r);
       periodic = let r = periodic-below xs caps p in omega (arith, r);
       knots = knots-capped xs caps p;
-      headed = λ i k. headed xs caps p i k;
+      head-end = λ i k. head-end xs caps p i k;
       reads = λ b. spline-reads xs caps b p;
       stored = stored-words xs caps p;
     })

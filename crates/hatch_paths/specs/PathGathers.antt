@@ -20,9 +20,9 @@ use Rattle.hatch_format.specs.Counts.{times}
 use Rattle.hatch_format.specs.Points.{vertex, takes-vertex}
 use Rattle.hatch_format.specs.Edges.{edge, takes-edge}
 use Rattle.hatch_format.specs.Paths.{handle-count, segments-read, segments, path-read, path}
-use Rattle.hatch_points.specs.Gathered.{Entries, none, word, words, numbers, flagged, plus, all, gathered, same-first, first-gathers, last-gathers, more-gathers, repeated}
+use Rattle.hatch_points.specs.Gathered.{Entries, none, word, words, numbers, flagEntries, plus, all, gathered, same-first, first-gathers, last-gathers, more-gathers, repeated}
 use Rattle.hatch_points.specs.Walks.{vertices-walk}
-use Rattle.hatch_paths.specs.PathWalks.{edge-walk, polyline-walk, edges-walk, segments-walk, handles-walk, flagged-walk, path-walk}
+use Rattle.hatch_paths.specs.PathWalks.{edge-walk, polyline-walk, edges-walk, segments-walk, handles-walk, after-flags-walk, path-walk}
 use Rattle.hatch_points.specs.Runs.{vertexEntries, vertices-gather, times-gather}
 use Rattle.hatch_points.specs.Gathers.{all-numbers, all-both, listed-gathers}
 use Rattle.hatch_paths.specs.EdgeGathers.{edgeEntries, fit-release, edge-gathers}
@@ -74,18 +74,18 @@ module _ (xs : List ℕ) (caps : Caps) (v : Version) where
       go (got n r) = refl
       go (refused k r) = refl
 
-  flagged-gathers : (flags : ℕ) (p : ℕ)
+  after-flags-gathers : (flags : ℕ) (p : ℕ)
       → gathered behindFlags ((segments caps v (polylined flags) >>= λ a. handles-of >>= λ n. pure {M = one} (record { flags = flags; segments = a; boundary-handles = n })) .read xs p)
-      ≡ (flagged-walk caps (fit-release xs caps v) (polylined flags)) .read xs p
-  unfolding flagged-walk
-  flagged-gathers flags p =
+      ≡ (after-flags-walk caps (fit-release xs caps v) (polylined flags)) .read xs p
+  unfolding after-flags-walk
+  after-flags-gathers flags p =
       first-gathers behindFlags xs p segmentEntries (segments caps v (polylined flags)) (segments-walk caps (fit-release xs caps v) (polylined flags)) _ _ (segments-gather (polylined flags) p) (λ a q h.
       same-first behindFlags xs q handles-of _ (λ n. pure (plus (segmentEntries a) (word n))) (λ n q h. last-gathers behindFlags xs q _ refl)
       ∙ handle-word (plus (segmentEntries a)) q)
 
   path-made : (flags : ℕ) (a : Path) (q r : ℕ)
       → (segments caps v (polylined flags) >>= λ b. handles-of >>= λ n. pure {M = one} (record { flags = flags; segments = b; boundary-handles = n })) .read xs q ≡ got a r
-      → pathEntries a ≡ plus (flagged flags) (behindFlags a)
+      → pathEntries a ≡ plus (flagEntries flags) (behindFlags a)
   unfolding _>>=_ pure
   path-made flags a q r e =
       let f : Format one Path = segments caps v (polylined flags) >>= λ b. handles-of >>= λ n. pure (record { flags = flags; segments = b; boundary-handles = n }) in
@@ -99,8 +99,8 @@ module _ (xs : List ℕ) (caps : Caps) (v : Version) where
   unfolding path path-read path-walk relay
   path-gathers p =
       same-first pathEntries xs p (coded BL) _ _ (λ flags q h.
-      more-gathers pathEntries behindFlags (flagged flags) (segments caps v (polylined flags) >>= λ a. handles-of >>= λ n. pure (record { flags = flags; segments = a; boundary-handles = n })) _ xs q
-      (flagged-gathers flags q) (λ a r e. path-made flags a q r e))
+      more-gathers pathEntries behindFlags (flagEntries flags) (segments caps v (polylined flags) >>= λ a. handles-of >>= λ n. pure (record { flags = flags; segments = a; boundary-handles = n })) _ xs q
+      (after-flags-gathers flags q) (λ a r e. path-made flags a q r e))
 
   pub paths-gather : (n p : ℕ) → gathered (all pathEntries) ((times n (path caps in-payload v 0)) .read xs p) ≡ (repeated n (path-walk caps (fit-release xs caps v))) .read xs p
   paths-gather = times-gather (path caps in-payload v 0) xs pathEntries (path-walk caps (fit-release xs caps v)) path-gathers

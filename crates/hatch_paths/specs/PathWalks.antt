@@ -13,7 +13,7 @@ use Rattle.hatch_format.specs.Values.{polylined}
 use Rattle.hatch_format.specs.HandleRule.{in-payload}
 use Rattle.hatch_format.specs.Counts.{bounded}
 use Rattle.hatch_format.specs.Paths.{handle-count}
-use Rattle.hatch_points.specs.Gathered.{Entries, word, words, flagged, plus, repeated}
+use Rattle.hatch_points.specs.Gathered.{Entries, word, words, flagEntries, plus, repeated}
 use Rattle.hatch_points.specs.Walks.{raw-run, double-run, vertices-walk}
 
 -- a B that is a word
@@ -100,8 +100,8 @@ module _ (caps : Caps) (has-fits : Bool) where
   segments-walk false = edges-walk
 
   -- what follows a path's flags
-  unfoldable pub flagged-walk : Bool → Format one Entries
-  flagged-walk b = do
+  unfoldable pub after-flags-walk : Bool → Format one Entries
+  after-flags-walk b = do
     a ← segments-walk b
     n ← handles-walk (caps .«boundary_handles»)
     pure (plus a n)
@@ -109,5 +109,5 @@ module _ (caps : Caps) (has-fits : Bool) where
   unfoldable pub path-walk : Format one Entries
   path-walk = do
     flags ← coded BL
-    a ← flagged-walk (polylined flags)
-    pure (plus (flagged flags) a)
+    a ← after-flags-walk (polylined flags)
+    pure (plus (flagEntries flags) a)

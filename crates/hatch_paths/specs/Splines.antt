@@ -30,37 +30,37 @@ splineHead xs caps p =
     record { degree = valueOf x₁; rational = valueOf x₂; periodic = valueOf x₃; knots = valueOf x₄; last = x₅ }
 
 -- behind them
-abbrev pub spline-rest : Caps → Bool → SplineHead → ℕ → Format one Entries
-spline-rest caps b h n = do
+abbrev pub spline-after-counts : Caps → Bool → SplineHead → ℕ → Format one Entries
+spline-after-counts caps b h n = do
   lists ← spline-lists-walk caps b (eqb 1 (h .rational)) (h .knots) n
   pure (plus (words (h .degree ∷ (bit (eqb 1 (h .rational)) ∷ (bit (eqb 1 (h .periodic)) ∷ (h .knots ∷ (n ∷ [])))))) lists)
 
 module _ (xs : List ℕ) (caps : Caps) (b : Bool) (p : ℕ) where
-  pub spline-reads : (spline-walk caps b) .read xs p ≡ resumed xs (spline-rest caps b (splineHead xs caps p)) (splineHead xs caps p .last)
+  pub spline-reads : (spline-walk caps b) .read xs p ≡ resumed xs (spline-after-counts caps b (splineHead xs caps p)) (splineHead xs caps p .last)
   unfolding spline-walk splineHead
   spline-reads =
       let x₁ = asRead (BL .read xs p) in
       let x₂ = thenRead ((raw 1) .read xs) x₁ in
       let x₃ = thenRead ((raw 1) .read xs) x₂ in
       let x₄ = thenRead ((bounded (caps .knots) BL) .read xs) x₃ in
-      one-more xs (λ v. coded BL) (λ v. degreed) (Value 0 p) refl
-      ∙ bit-more xs rationed x₁ refl
-      ∙ bit-more xs (λ v. perioded (valueOf x₁) (eqb 1 v)) x₂ refl
-      ∙ one-more xs (λ v. bounded (caps .knots) BL) (λ v. knotted (valueOf x₁) (eqb 1 (valueOf x₂)) (eqb 1 v)) x₃ refl
-      ∙ one-more xs (λ v. bounded (caps .«control_points») BL) (λ v. controlled (valueOf x₁) (eqb 1 (valueOf x₂)) (eqb 1 (valueOf x₃)) v) x₄ refl
+      one-more xs (λ v. coded BL) (λ v. after-degree) (Value 0 p) refl
+      ∙ bit-more xs after-rational x₁ refl
+      ∙ bit-more xs (λ v. after-periodic (valueOf x₁) (eqb 1 v)) x₂ refl
+      ∙ one-more xs (λ v. bounded (caps .knots) BL) (λ v. after-knots (valueOf x₁) (eqb 1 (valueOf x₂)) (eqb 1 v)) x₃ refl
+      ∙ one-more xs (λ v. bounded (caps .«control_points») BL) (λ v. after-controls (valueOf x₁) (eqb 1 (valueOf x₂)) (eqb 1 (valueOf x₃)) v) x₄ refl
     where
-      controlled : ℕ → Bool → Bool → ℕ → ℕ → Format one Entries
-      controlled degree rational periodic knots n =
+      after-controls : ℕ → Bool → Bool → ℕ → ℕ → Format one Entries
+      after-controls degree rational periodic knots n =
           spline-lists-walk caps b rational knots n >>= λ lists. pure (plus (words (degree ∷ (bit rational ∷ (bit periodic ∷ (knots ∷ (n ∷ [])))))) lists)
 
-      knotted : ℕ → Bool → Bool → ℕ → Format one Entries
-      knotted degree rational periodic knots = bounded (caps .«control_points») BL >>= controlled degree rational periodic knots
+      after-knots : ℕ → Bool → Bool → ℕ → Format one Entries
+      after-knots degree rational periodic knots = bounded (caps .«control_points») BL >>= after-controls degree rational periodic knots
 
-      perioded : ℕ → Bool → Bool → Format one Entries
-      perioded degree rational periodic = bounded (caps .knots) BL >>= knotted degree rational periodic
+      after-periodic : ℕ → Bool → Bool → Format one Entries
+      after-periodic degree rational periodic = bounded (caps .knots) BL >>= after-knots degree rational periodic
 
-      rationed : ℕ → Bool → Format one Entries
-      rationed degree rational = coded B >>= perioded degree rational
+      after-rational : ℕ → Bool → Format one Entries
+      after-rational degree rational = coded B >>= after-periodic degree rational
 
-      degreed : ℕ → Format one Entries
-      degreed degree = coded B >>= rationed degree
+      after-degree : ℕ → Format one Entries
+      after-degree degree = coded B >>= after-rational degree

@@ -5,7 +5,7 @@ ghost use Prim.Native.Nat.{_+_, _/_, _^_, _≤_, _<_};
 ghost use lib.Seq.{sets};
 ghost use Rattle.bitcursor.specs.Bits.{odd};
 ghost use Rattle.hatch_points.specs.Gathered.{repeated};
-ghost use Rattle.hatch_paths.specs.PathWalks.{polyline-walk, edges-walk, segments-walk, handles-walk, flagged-walk, path-walk};
+ghost use Rattle.hatch_paths.specs.PathWalks.{polyline-walk, edges-walk, segments-walk, handles-walk, after-flags-walk, path-walk};
 ghost use Rattle.hatch_points.specs.Lists.{lists, Ready, Walks};
 ghost use Rattle.hatch_format.specs.Caps.{documentCaps, NowhereAbove};
 use crate::edges;
@@ -108,7 +108,7 @@ fn decode_segments(
 }
 
 // A value in the flags, 2 or 4, as a test.
-fn flagged(flags: u64, value: u64) -> bool
+fn has_flag(flags: u64, value: u64) -> bool
     requires { ⌜ 0 < value ⌝ }
     ensures { λ r. ⌜ r ≡ odd (flags / value) ⌝ }
 {
@@ -137,7 +137,7 @@ fn put_handle_count(s: &[u8], at: usize, cap: usize, words: &mut [u32], z: Sizes
 }
 
 // What follows a path's flags: segments and handle count.
-fn decode_flagged(
+fn decode_after_flags(
     s: &[u8],
     at: usize,
     polyline: bool,
@@ -149,7 +149,7 @@ fn decode_flagged(
     z: Sizes,
 ) -> Walk
     requires { ⌜ Ready (now s) at z × NowhereAbove caps documentCaps ⌝ }
-    ensures { λ r. ⌜ Walks (now (s .entry)) ((flagged-walk caps fits polyline) .read (now (s .entry)) at) (lists (now (numbers .entry)) (now (bits .entry)) (now (words .entry))) z (lists (now (numbers .exit)) (now (bits .exit)) (now (words .exit))) r ⌝ }
+    ensures { λ r. ⌜ Walks (now (s .entry)) ((after-flags-walk caps fits polyline) .read (now (s .entry)) at) (lists (now (numbers .entry)) (now (bits .entry)) (now (words .entry))) z (lists (now (numbers .exit)) (now (bits .exit)) (now (words .exit))) r ⌝ }
 {
     match decode_segments(s, at, polyline, caps, fits, numbers, bits, words, z) {
         Walk::Done(p, y) => put_handle_count(s, p, caps.boundary_handles, words, y),
@@ -177,9 +177,19 @@ fn decode_path(
             let y = Sizes {
                 numbers: z.numbers,
                 words: z.words + 1,
-                derived: z.derived | flagged(flags, 4),
+                derived: z.derived | has_flag(flags, 4),
             };
-            decode_flagged(s, p, flagged(flags, 2), caps, fits, numbers, bits, words, y)
+            decode_after_flags(
+                s,
+                p,
+                has_flag(flags, 2),
+                caps,
+                fits,
+                numbers,
+                bits,
+                words,
+                y,
+            )
         }
         Read::Refused(k, p) => Walk::Refused(k, p),
     }

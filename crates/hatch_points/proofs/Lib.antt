@@ -2,6 +2,6 @@ pub mod Laws
 pub mod Loops
 pub mod RawRuns
 pub mod VertexLaws
-pub mod Lacking
+pub mod NoWords
 pub mod Words
 pub mod Rows

@@ -5,6 +5,8 @@ use Prim.Native.Nat.{ℕ, zero, suc, _+_, _-_, _*_, _≤_, _<_, max}
 use native.Mathlib.Nat.{sub-zero}
 use native.Mathlib.Omega.{arith}
 use Rattle.bitcursor.specs.declared.Refusal.{Refusal}
+use Rattle.bitcursor.specs.declared.Passed.{Passed}
+use Rattle.bitcursor.specs.declared.Passed.the-variants.{To, Refused as RefusedPassed}
 use Rattle.bitcursor.specs.Reading.{Out, got, refused, andThen, never}
 use Rattle.bitcursor.specs.Format.{Format, pure, _>>=_}
 use Rattle.bitcursor.specs.Inputs.{one}
@@ -17,8 +19,10 @@ use Rattle.bitcursor.specs.Doubles.{BD}
 use Rattle.hatch_points.specs.Walks.{single-walk}
 use Rattle.hatch_points.specs.declared.lists.Walk.{Walk}
 use Rattle.hatch_points.specs.declared.lists.Walk.the-variants.{Done, Refused}
-use Rattle.hatch_points.specs.Lists.{Lists, lists, doublesOf, lay, Kept, Ready, Walks}
-use Rattle.hatch_points.proofs.Laws.{Step, no-step, _⊕_, plus-none, plus-again, kept-then, walk-told, walk-ready, walk-no, walk-kept, walks-as, walks-unstored, refuses, ends, behind, sets-out}
+use Rattle.hatch_points.specs.Stores.{passedBy}
+use Rattle.hatch_points.specs.Lists.{Lists, lists, doublesOf, store, Kept, Ready, Walks}
+use Rattle.hatch_points.proofs.Laws.{Step, no-step, _⊕_, plus-none, plus-again, kept-then, walk-finished, walk-ready, walk-refused, walk-kept}
+use Rattle.hatch_points.proofs.Laws.{walks-as, walks-unstored, refuses, ends, behind, sets-out}
 
 -- the entries a, and then what the rest has
 abbrev pub onto : Entries → Out ℕ Entries → Out ℕ Entries
@@ -85,7 +89,8 @@ module _ (d : Format one Entries) (xs : List ℕ) where
         sym (ap (λ (x : Entries). length (x .numbers)) g)
     numbers-long (suc n) p e q i = go (λ r e₂ t j. numbers-long n r e₂ t j) (d .read xs p) refl (sym (left-more n p) ∙ i)
       where
-        last : ((r : ℕ) (e₂ : Entries) (t : ℕ) → left n r ≡ got e₂ t → length (e₂ .numbers) ≡ many n k) → (e₁ : Entries) → length (e₁ .numbers) ≡ k → (r : ℕ) (o : Out ℕ Entries) → left n r ≡ o → onto e₁ o ≡ got e q → length (e .numbers) ≡ many (suc n) k
+        last : ((r : ℕ) (e₂ : Entries) (t : ℕ) → left n r ≡ got e₂ t → length (e₂ .numbers) ≡ many n k) → (e₁ : Entries) → length (e₁ .numbers) ≡ k
+            → (r : ℕ) (o : Out ℕ Entries) → left n r ≡ o → onto e₁ o ≡ got e q → length (e .numbers) ≡ many (suc n) k
         last ih e₁ h r (got e₂ t) j f =
             let g : plus e₁ e₂ ≡ e = cc in
             sym (ap (λ (x : Entries). length (x .numbers)) g) ∙ length-append (e₁ .numbers) (e₂ .numbers)
@@ -102,7 +107,7 @@ module _ (d : Format one Entries) (xs : List ℕ) where
         → {q : ℕ} {y : Sizes} → r ≡ Done q y → y .numbers ≡ z .numbers + many n k
     unfolding left
     used-after n p {z = z} h {q} e =
-        let t = walk-told h e in
+        let t = walk-finished h e in
         ap (λ (x : Sizes). x .numbers) (t .step .sizes) ∙ ap (λ (m : ℕ). z .numbers + m) (numbers-long n p (t .entries) q (t .read))
 
   -- of n turns the first m are one walk, and the others another behind it
@@ -114,14 +119,14 @@ module _ (d : Format one Entries) (xs : List ℕ) where
         → Walks xs ((repeated n d) .read xs p) l z l₂ r₂
     unfolding left _>>=_ pure
     parts-walk {q} e k =
-        let t = walk-told h e in
+        let t = walk-finished h e in
         walks-as (behind (repeated (n - m) d) (plus (t .entries)) (t .step) (λ a. refl) k)
         (sym (parts ∙ ap (λ (o : Out ℕ Entries). andThen o (λ a q. onto a (left (n - m) q))) (t .read)))
 
     pub parts-refuse : {k : Refusal} {q : ℕ} → r ≡ Refused k q → Walks xs ((repeated n d) .read xs p) l z l₁ (Refused k q)
     unfolding left
     parts-refuse e =
-        refuses (parts ∙ ap (λ (o : Out ℕ Entries). andThen o (λ a q. onto a (left (n - m) q))) (walk-no h e)) (walk-kept h e)
+        refuses (parts ∙ ap (λ (o : Out ℕ Entries). andThen o (λ a q. onto a (left (n - m) q))) (walk-refused h e)) (walk-kept h e)
 
   -- i of the n turns are done
   pub record Along (n p₀ : ℕ) (l₀ : Lists) (z₀ : Sizes) (i p : ℕ) (l : Lists) (z : Sizes) : Type 0 where
@@ -151,7 +156,8 @@ module _ (d : Format one Entries) (xs : List ℕ) where
     next {q} e lt r s y =
         record {
           gathered = plus (h .gathered) e;
-          whole = turn lt ∙ ap (λ (o : Out ℕ Entries). onto (h .gathered) (andThen o (λ e q. onto e (left (n - (i + 1)) q)))) r ∙ onto-onto (h .gathered) e (left (n - (i + 1)) q);
+          whole = turn lt ∙ ap (λ (o : Out ℕ Entries). onto (h .gathered) (andThen o (λ e q. onto e (left (n - (i + 1)) q)))) r
+              ∙ onto-onto (h .gathered) e (left (n - (i + 1)) q);
           step = h .step ⊕ s;
           ready = y;
         }
@@ -164,7 +170,8 @@ module _ (d : Format one Entries) (xs : List ℕ) where
     finish : n ≤ i → left n p₀ ≡ got (h .gathered) p
     finish le =
         let e : n - i ≡ 0 = omega arith in
-        h .whole ∙ ap (λ (k : ℕ). onto (h .gathered) (left k p)) e ∙ ap (onto (h .gathered)) (left-none p) ∙ ap (λ (x : Entries). got x p) (plus-none (h .gathered))
+        h .whole ∙ ap (λ (k : ℕ). onto (h .gathered) (left k p)) e ∙ ap (onto (h .gathered)) (left-none p)
+        ∙ ap (λ (x : Entries). got x p) (plus-none (h .gathered))
 
     -- what the loop answers: a turn's refusal, or its end
     pub loop-refuses : {k : Refusal} {q : ℕ} {l′ : Lists} → i < n → d .read xs p ≡ refused k q → Kept l z l′
@@ -179,10 +186,10 @@ module _ (d : Format one Entries) (xs : List ℕ) where
     -- a turn that is a walk by itself
     module _ {l′ : Lists} {r : Walk} (lt : i < n) (w : Walks xs (d .read xs p) l z l′ r) where
       pub walk-next : {q : ℕ} {y : Sizes} → r ≡ Done q y → Along n p₀ l₀ z₀ (i + 1) q l′ y
-      walk-next e = let t = walk-told w e in next (t .entries) lt (t .read) (t .step) (walk-ready w e)
+      walk-next e = let t = walk-finished w e in next (t .entries) lt (t .read) (t .step) (walk-ready w e)
 
       pub walk-refuses : {k : Refusal} {q : ℕ} → r ≡ Refused k q → Walks xs ((repeated n d) .read xs p₀) l₀ z₀ l′ (Refused k q)
-      walk-refuses e = loop-refuses lt (walk-no w e) (walk-kept w e)
+      walk-refuses e = loop-refuses lt (walk-refused w e) (walk-kept w e)
 
     -- the lists are as long as they were
     pub long-doubles : length (l .doubles) ≡ length (l₀ .doubles)
@@ -201,15 +208,24 @@ module _ (d : Format one Entries) (xs : List ℕ) (n p : ℕ) {z : Sizes} {r : W
   unfolding repeated pure
   past-room h k = walks-unstored ((repeated n d) .read xs p) (λ e q i. unstored n refl e q i) k
     where
-      unstored : (m : ℕ) → n ≡ m → (e : Entries) (q : ℕ) → (repeated n d) .read xs p ≡ got e q → lists a b [] ≡ lay (lists a b []) z e
+      unstored : (m : ℕ) → n ≡ m → (e : Entries) (q : ℕ) → (repeated n d) .read xs p ≡ got e q → lists a b [] ≡ store (lists a b []) z e
       unstored zero j e q i =
           let f : got none p ≡ got e q = sym (ap (λ (m : ℕ). (repeated m d) .read xs p) j) ∙ i in
           let g : none ≡ e = cc in
-          ap (lay (lists a b []) z) g
+          ap (store (lists a b []) z) g
       unstored (suc m) j e q i =
           let room = h (omega arith) in
           λ t. lists (sym (sets-out a (z .numbers) (doublesOf (e .numbers)) (omega arith)) t) (sym (sets-out b (z .numbers) (e .numbers) (omega arith)) t)
           (sym (sets-out [] (z .words) (e .words) (omega arith)) t)
+
+-- what was read, from the place that it left
+pub passed-value : (o : Out ℕ ℕ) {x : Passed} {q : ℕ} → x ≡ passedBy o → x ≡ To q → (v : ℕ) × (o ≡ got v q)
+passed-value (got v p) {x} {q} e h = let i : p ≡ q = cc in (v, ap (got v) i)
+passed-value (refused k p) e h = let z : _≡_ {A = ℕ} 0 1 = cc in absurd (omega arith)
+
+pub passed-refused : (o : Out ℕ ℕ) {x : Passed} {k : Refusal} {q : ℕ} → x ≡ passedBy o → x ≡ RefusedPassed k q → o ≡ refused k q
+passed-refused (got v p) e h = let z : _≡_ {A = ℕ} 0 1 = cc in absurd (omega arith)
+passed-refused (refused k p) e h = cc
 
 -- one BD
 pub single-read : (xs : List ℕ) (p : ℕ) {v q : ℕ} → BD .read xs p ≡ got v q → single-walk .read xs p ≡ got (numbers (v ∷ [])) q
@@ -227,4 +243,3 @@ single-long xs p e q i = go (BD .read xs p) i
 pub single-refused : (xs : List ℕ) (p : ℕ) {k : Refusal} {q : ℕ} → BD .read xs p ≡ refused k q → single-walk .read xs p ≡ refused k q
 unfolding single-walk _>>=_ pure
 single-refused xs p e = rw e
-

@@ -39,15 +39,19 @@ raw-snoc xs p (suc n) =
     ∙ ap (λ (q : ℕ). lowNumber (bytesAt xs p 8) ∷ (rawAt xs (p + 64) n ++ (lowNumber (bytesAt xs q 8) ∷ []))) f
 
 -- so one more is stored behind the first n
-pub one-more-bits : (xs : List ℕ) (p n i : ℕ) (b : List ℕ) → set (sets b i (rawAt xs p n)) (i + n) (lowNumber (bytesAt xs (p + 64 * n) 8)) ≡ sets b i (rawAt xs p (n + 1))
+pub one-more-bits : (xs : List ℕ) (p n i : ℕ) (b : List ℕ)
+    → set (sets b i (rawAt xs p n)) (i + n) (lowNumber (bytesAt xs (p + 64 * n) 8)) ≡ sets b i (rawAt xs p (n + 1))
 one-more-bits xs p n i b =
-    sym (ap (sets b i) (raw-snoc xs p n) ∙ sets-append b i (rawAt xs p n) _ ∙ ap (λ (k : ℕ). set (sets b i (rawAt xs p n)) (i + k) (lowNumber (bytesAt xs (p + 64 * n) 8))) (length-raw xs p n))
+    sym (ap (sets b i) (raw-snoc xs p n) ∙ sets-append b i (rawAt xs p n) _
+    ∙ ap (λ (k : ℕ). set (sets b i (rawAt xs p n)) (i + k) (lowNumber (bytesAt xs (p + 64 * n) 8))) (length-raw xs p n))
 
 pub one-more-double : (xs : List ℕ) (p n i : ℕ) (l : List Float)
     → set (sets l i (doublesOf (rawAt xs p n))) (i + n) (ofBits binary64 (lowNumber (bytesAt xs (p + 64 * n) 8))) ≡ sets l i (doublesOf (rawAt xs p (n + 1)))
 one-more-double xs p n i l =
-    sym (ap (λ (ns : List ℕ). sets l i (doublesOf ns)) (raw-snoc xs p n) ∙ ap (sets l i) (doubles-append (rawAt xs p n) _) ∙ sets-append l i (doublesOf (rawAt xs p n)) _
-    ∙ ap (λ (k : ℕ). set (sets l i (doublesOf (rawAt xs p n))) (i + k) (ofBits binary64 (lowNumber (bytesAt xs (p + 64 * n) 8)))) (length-doubles (rawAt xs p n) ∙ length-raw xs p n))
+    sym (ap (λ (ns : List ℕ). sets l i (doublesOf ns)) (raw-snoc xs p n) ∙ ap (sets l i) (doubles-append (rawAt xs p n) _)
+    ∙ sets-append l i (doublesOf (rawAt xs p n)) _
+    ∙ ap (λ (k : ℕ). set (sets l i (doublesOf (rawAt xs p n))) (i + k) (ofBits binary64 (lowNumber (bytesAt xs (p + 64 * n) 8))))
+    (length-doubles (rawAt xs p n) ∙ length-raw xs p n))
 
 -- ---- n RD, and where they end or stop
 RD-there : (xs : List ℕ) (p : ℕ) → 64 ≤ size xs - p → RD .read xs p ≡ got (lowNumber (bytesAt xs p 8)) (p + 64)
@@ -126,6 +130,7 @@ module _ (xs : List ℕ) (p n m i : ℕ) (l : List Float) (b : List ℕ) (h : m 
       ⊎-elim
       (λ (e : m ≡ n). ap (λ (k : ℕ). sets l i (doublesOf (rawAt xs p k))) e)
       (λ (w : (length l ≤ i + m) × (length b ≤ i + m)).
-      sets-enough l i (doublesOf (rawAt xs p m)) (doublesOf (rawAt xs (p + 64 * m) (n - m))) (omega (arith, w .0, length-doubles (rawAt xs p m), length-raw xs p m))
+      sets-enough l i (doublesOf (rawAt xs p m)) (doublesOf (rawAt xs (p + 64 * m) (n - m)))
+      (omega (arith, w .0, length-doubles (rawAt xs p m), length-raw xs p m))
       ∙ ap (sets l i) (sym (ap doublesOf split ∙ doubles-append (rawAt xs p m) (rawAt xs (p + 64 * m) (n - m)))))
       enough

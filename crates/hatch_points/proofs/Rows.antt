@@ -43,7 +43,8 @@ module _ (xs : List ℕ) (p : ℕ) where
       (r .0, (on .1, (omega (arith, on .0, r .1 .1 .0), omega (arith, on .0, r .1 .1 .1))))
 
 -- a count is not above the bits after it, and has bits of its own
-pub count-left : (cap : ℕ) (c : Code ℕ) (m : ℕ) → Takes m (coded c) → (xs : List ℕ) (x : Read) {y : Read} {n q : ℕ} → y ≡ thenRead ((bounded cap c) .read xs) x → y ≡ Value n q → Ends xs 0 x
+pub count-left : (cap : ℕ) (c : Code ℕ) (m : ℕ) → Takes m (coded c) → (xs : List ℕ) (x : Read) {y : Read} {n q : ℕ}
+    → y ≡ thenRead ((bounded cap c) .read xs) x → y ≡ Value n q → Ends xs 0 x
     → (n ≤ size xs - q) × (m ≤ q)
 count-left cap c m t xs (Refused k p) e i h = let z : _≡_ {A = ℕ} 0 1 = cc in absurd (omega arith)
 count-left cap c m t xs (Value v p) e i h =
@@ -66,6 +67,8 @@ module _ {A : Type 0} (xs : List ℕ) where
   unfolding listed listed-read counted relay _>>=_
   listed-row cap c f t g p = go ((bounded cap c) .read xs p)
     where
-      go : (o : Out ℕ ℕ) → andThen (andThen o (λ n q. (times n f) .read xs q)) (λ items r. (g items) .read xs r) ≡ andThen o (λ n q. andThen ((times n f) .read xs q) (λ items r. (g items) .read xs r))
+      go : (o : Out ℕ ℕ)
+          → andThen (andThen o (λ n q. (times n f) .read xs q)) (λ items r. (g items) .read xs r)
+          ≡ andThen o (λ n q. andThen ((times n f) .read xs q) (λ items r. (g items) .read xs r))
       go (got n q) = refl
       go (refused k q) = refl

@@ -8,6 +8,7 @@ use lib.Seq.{sets}
 use Rattle.bitcursor.specs.declared.Refusal.{Refusal}
 use Rattle.bitcursor.specs.declared.Refusal.the-variants.{TooFewBits}
 use Rattle.bitcursor.specs.declared.Read.{Read}
+use Rattle.bitcursor.specs.declared.Passed.{Passed}
 use Rattle.bitcursor.specs.Answers.{asRead}
 use Rattle.bitcursor.specs.Bits.{size}
 use Rattle.bitcursor.specs.Reading.{Out, got, refused, andThen, never}
@@ -19,8 +20,8 @@ use Rattle.hatch_format.specs.Counts.{times, times-read}
 use Rattle.hatch_format.specs.Takes.{takes-BD}
 use Rattle.hatch_points.specs.Gathered.{Entries, numbers, plus}
 use Rattle.hatch_points.specs.Runs.{times-length}
-use Rattle.hatch_points.specs.Stores.{rawAt}
-use Rattle.hatch_points.specs.Vertices.{vertexAt, Extra}
+use Rattle.hatch_points.specs.Stores.{rawAt, passedBy}
+use Rattle.hatch_points.specs.Vertices.{vertexAt, Extra, ExtraPassed}
 use Rattle.hatch_points.specs.Walks.{raw-run, double-run, vertex-walk}
 use Rattle.hatch_points.proofs.Laws.{onward}
 use Rattle.hatch_points.proofs.RawRuns.{raw-there, raw-short}
@@ -60,6 +61,14 @@ module _ (xs : List ℕ) (p : ℕ) where
     pub extra-on : {q : ℕ} {r : Read} → q ≡ p + 128 → r ≡ asRead (BD .read xs q) → Extra xs p r
     extra-on {q} {r} e d = subst (Extra xs p) (sym (d ∙ ap (λ (k : ℕ). asRead (BD .read xs k)) e)) (on-double (BD .read xs (p + 128)) refl)
 
+    passed-on : (o : Out ℕ ℕ) → BD .read xs (p + 128) ≡ o → ExtraPassed xs p (passedBy o)
+    passed-on (got v q) e = (v, on-double (got v q) e)
+    passed-on (refused k q) e = on-double (refused k q) e
+
+    pub extra-passed : {q : ℕ} {r : Passed} → q ≡ p + 128 → r ≡ passedBy (BD .read xs q) → ExtraPassed xs p r
+    extra-passed {q} {r} e d =
+        subst (ExtraPassed xs p) (sym (d ∙ ap (λ (k : ℕ). passedBy (BD .read xs k)) e)) (passed-on (BD .read xs (p + 128)) refl)
+
   -- the point is not there
   pub extra-short : size xs - p < 128 → vertex-walk .read xs p ≡ refused TooFewBits (p + (size xs - p) / 8 * 8)
   unfolding vertex-walk
@@ -79,13 +88,16 @@ vertex-long xs p e q i = first ((times 2 (coded RD)) .read xs p) refl i
     second ns h r (refused x t) j f = never f
 
     first : (o : Out ℕ (List ℕ)) → (times 2 (coded RD)) .read xs p ≡ o
-        → andThen (andThen o (λ ns r. got (numbers ns) r)) (λ a r. andThen (andThen ((times 1 (coded BD)) .read xs r) (λ ms t. got (numbers ms) t)) (λ b t. got (plus a b) t)) ≡ got e q
+        → andThen (andThen o (λ ns r. got (numbers ns) r))
+        (λ a r. andThen (andThen ((times 1 (coded BD)) .read xs r) (λ ms t. got (numbers ms) t)) (λ b t. got (plus a b) t))
+        ≡ got e q
         → length (e .numbers) ≡ 3
     first (got ns r) j f = second ns (times-length (coded RD) xs 2 p j) r ((times 1 (coded BD)) .read xs r) refl f
     first (refused x r) j f = never f
 
 -- three stores
-pub three : {A : Type 0} (f : ℕ → A) (l : List A) (i : ℕ) {a b : ℕ} (c : ℕ) {l₁ l₂ l₃ : List A} {a′ b′ : ℕ} → l₁ ≡ set l i (f a′) → a′ ≡ a → l₂ ≡ set l₁ (i + 1) (f b′) → b′ ≡ b → l₃ ≡ set l₂ (i + 2) (f c)
+pub three : {A : Type 0} (f : ℕ → A) (l : List A) (i : ℕ) {a b : ℕ} (c : ℕ) {l₁ l₂ l₃ : List A} {a′ b′ : ℕ} → l₁ ≡ set l i (f a′) → a′ ≡ a
+    → l₂ ≡ set l₁ (i + 1) (f b′) → b′ ≡ b → l₃ ≡ set l₂ (i + 2) (f c)
     → l₃ ≡ sets l i (f a ∷ (f b ∷ (f c ∷ [])))
 three {A} f l i {a} {b} c h₁ ha h₂ hb h₃ =
     let e : i + 1 ≡ suc i = omega arith in

@@ -1,4 +1,4 @@
--- Walks that lay words too: runs of doubles lay none, and a word that is put is one entry more. Assumes nothing.
+-- Walks that store words too: runs of doubles store none, and a word that is put is one entry more. Assumes nothing.
 use mathlib.Core.Path.{_≡_}
 use mathlib.Core.List.{List, []}
 use Prim.Native.Nat.{ℕ, _+_, _≤_}
@@ -20,9 +20,10 @@ use Rattle.hatch_points.specs.Walks.{raw-run, double-run}
 use Rattle.hatch_points.specs.Lists.{lists, Ready, Walks}
 use Rattle.hatch_points.proofs.Laws.{Step, one-word, with-words, onward}
 
--- runs lay no words
+-- runs store no words
 module _ {xs : List ℕ} (n p : ℕ) {a a′ : List Float} {b b′ : List ℕ} {z : Sizes} {r : Walk} (ws : List ℕ) where
-  pub double-words : Walks xs ((double-run n) .read xs p) (lists a b []) z (lists a′ b′ []) r → Walks xs ((double-run n) .read xs p) (lists a b ws) z (lists a′ b′ ws) r
+  pub double-words : Walks xs ((double-run n) .read xs p) (lists a b []) z (lists a′ b′ []) r
+      → Walks xs ((double-run n) .read xs p) (lists a b ws) z (lists a′ b′ ws) r
   unfolding double-run _>>=_ pure
   double-words h = with-words ((times n (coded BD)) .read xs p) ws h
 
@@ -36,14 +37,16 @@ pub word-step : {a : List Float} {b ws ws′ : List ℕ} (z : Sizes) (w : ℕ) �
 word-step {a} {b} z w e = record { lists = λ i. lists a b (e i); sizes = one-word z w }
 
 -- behind a field that takes a bit at least, there is room for one word more
-pub ready-word : {A : Type 0} (f : Format one A) (n : ℕ) → Takes n f → 1 ≤ n → (xs : List ℕ) (p : ℕ) {a : A} {q : ℕ} (z : Sizes) → f .read xs p ≡ got a q → Ready xs p z
+pub ready-word : {A : Type 0} (f : Format one A) (n : ℕ) → Takes n f → 1 ≤ n → (xs : List ℕ) (p : ℕ) {a : A} {q : ℕ} (z : Sizes)
+    → f .read xs p ≡ got a q → Ready xs p z
     → Ready xs q (record { numbers = z .numbers; words = z .words + 1; derived = z .derived })
 ready-word f n t le xs p z e h =
     let on = onward f n t xs p e (h .1 .0) in
     (h .0, (on .1, (omega (arith, on .0, h .1 .1 .0), omega (arith, on .0, le, h .1 .1 .1))))
 
 -- behind any field the walk can go on
-pub ready-on : {A : Type 0} (f : Format one A) (n : ℕ) → Takes n f → (xs : List ℕ) (p : ℕ) {a : A} {q : ℕ} (z : Sizes) → f .read xs p ≡ got a q → Ready xs p z → Ready xs q z
+pub ready-on : {A : Type 0} (f : Format one A) (n : ℕ) → Takes n f → (xs : List ℕ) (p : ℕ) {a : A} {q : ℕ} (z : Sizes) → f .read xs p ≡ got a q
+    → Ready xs p z → Ready xs q z
 ready-on f n t xs p z e h =
     let on = onward f n t xs p e (h .1 .0) in
     (h .0, (on .1, (omega (arith, on .0, h .1 .1 .0), omega (arith, on .0, h .1 .1 .1))))

@@ -27,8 +27,8 @@ abbrev pub numbers : List ℕ → Entries
 numbers ns = record { words = []; numbers = ns; derived = false }
 
 -- a path's flags, as a word, and whether they say that it came from a boundary object
-abbrev pub flagged : ℕ → Entries
-flagged flags = record { words = flags ∷ []; numbers = []; derived = odd (flags / 4) }
+abbrev pub flagEntries : ℕ → Entries
+flagEntries flags = record { words = flags ∷ []; numbers = []; derived = odd (flags / 4) }
 
 -- one behind the other
 abbrev pub plus : Entries → Entries → Entries

@@ -120,8 +120,10 @@ module _ (xs : List ℕ) where
         second v (refused k r) = refl
 
         first : (o : Out ℕ ℕ)
-            → andThen o (λ v q. andThen (andThen ((times n (coded BD)) .read xs q) (λ ns r. got (numbers ns) r)) (λ e r. (h (plus (numbers (v ∷ [])) e)) .read xs r))
-            ≡ andThen (andThen (andThen o (λ v q. andThen ((times n (coded BD)) .read xs q) (λ ns r. got (v ∷ ns) r))) (λ ns q. got (numbers ns) q)) (λ e r. (h e) .read xs r)
+            → andThen o (λ v q. andThen (andThen ((times n (coded BD)) .read xs q) (λ ns r. got (numbers ns) r))
+            (λ e r. (h (plus (numbers (v ∷ [])) e)) .read xs r))
+            ≡ andThen (andThen (andThen o (λ v q. andThen ((times n (coded BD)) .read xs q) (λ ns r. got (v ∷ ns) r))) (λ ns q. got (numbers ns) q))
+            (λ e r. (h e) .read xs r)
         first (got v q) = second v ((times n (coded BD)) .read xs q)
         first (refused k q) = refl
 

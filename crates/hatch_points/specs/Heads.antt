@@ -45,7 +45,8 @@ bounds-bounded cap c xs p = go (c .read xs p)
 
     go : (o : Out ℕ ℕ)
         → boundsOf xs cap (asRead o)
-        ≡ asRead (andThen (andThen o (λ n q. (either {M = one} (leb n cap) (pure n) (refuse CountTooLarge)) .read xs q)) (λ m r. andThen ((at-least m) .read xs r) (λ u t. got m t)))
+        ≡ asRead (andThen (andThen o (λ n q. (either {M = one} (leb n cap) (pure n) (refuse CountTooLarge)) .read xs q))
+        (λ m r. andThen ((at-least m) .read xs r) (λ u t. got m t)))
     go (refused k q) = refl
     go (got n q) = cap-test n q (leb n cap)
 

@@ -36,8 +36,8 @@ length-doubles [] = refl
 length-doubles (x ∷ xs) = ap suc (length-doubles xs)
 
 -- entries laid over the lists from the lengths used so far, so far as there is room; and the lengths used then
-abbrev pub lay : Lists → Sizes → Entries → Lists
-lay l z e =
+abbrev pub store : Lists → Sizes → Entries → Lists
+store l z e =
     lists (sets (l .doubles) (z .numbers) (doublesOf (e .numbers))) (sets (l .bits) (z .numbers) (e .numbers)) (sets (l .words) (z .words) (e .words))
 
 abbrev pub grow : Sizes → Entries → Sizes
@@ -60,9 +60,9 @@ pub record Kept (l : Lists) (z : Sizes) (l′ : Lists) : Type 0 where
   pub bits : KeptFront (z .numbers) (l .bits) (l′ .bits)
   pub words : KeptFront (z .words) (l .words) (l′ .words)
 
-abbrev pub Laid : Out ℕ Entries → Lists → Sizes → Lists → Type 0
-Laid (got e p) l z l′ = l′ ≡ lay l z e
-Laid (refused k p) l z l′ = Kept l z l′
+abbrev pub Stored : Out ℕ Entries → Lists → Sizes → Lists → Type 0
+Stored (got e p) l z l′ = l′ ≡ store l z e
+Stored (refused k p) l z l′ = Kept l z l′
 
 -- the payload is within the limit, the place within the payload, and no more entries have come than bits
 abbrev pub Ready : List ℕ → ℕ → Sizes → Type 0
@@ -75,5 +75,5 @@ ReadyAfter xs (Refused k p) = Unit {0}
 -- o is what the definition gathers
 pub record Walks (xs : List ℕ) (o : Out ℕ Entries) (l : Lists) (z : Sizes) (l′ : Lists) (r : Walk) : Type 0 where
   pub is : r ≡ walkOf z o
-  pub laid : Laid o l z l′
+  pub stored : Stored o l z l′
   pub ready : ReadyAfter xs r

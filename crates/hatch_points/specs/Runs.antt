@@ -30,10 +30,10 @@ module _ {A : Type 0} (f : Format one A) (xs : List ℕ) where
   times-length n p {items} {q} e = (times n f) .sound xs items p q e .0
 
   -- m items and then n
-  abbrev pub rest : ℕ → List A → ℕ → Out ℕ (List A)
-  rest n items q = andThen ((times n f) .read xs q) (λ more r. got (items ++ more) r)
+  abbrev pub then-items : ℕ → List A → ℕ → Out ℕ (List A)
+  then-items n items q = andThen ((times n f) .read xs q) (λ more r. got (items ++ more) r)
 
-  pub times-add : (m n p : ℕ) → (times (m + n) f) .read xs p ≡ andThen ((times m f) .read xs p) (rest n)
+  pub times-add : (m n p : ℕ) → (times (m + n) f) .read xs p ≡ andThen ((times m f) .read xs p) (then-items n)
   unfolding times relay times-read _>>=_ pure
   times-add zero n p = ap (λ (k : ℕ). (times-read k f) .read xs p) (zero-add n) ∙ go ((times-read n f) .read xs p)
     where
@@ -55,10 +55,12 @@ module _ {A : Type 0} (f : Format one A) (xs : List ℕ) where
           last (got more r) = refl
           last (refused k r) = refl
 
-      one-more : ((q : ℕ) → (times-read (m + n) f) .read xs q ≡ andThen ((times-read m f) .read xs q) (λ items r. andThen ((times-read n f) .read xs r) (λ more t. got (items ++ more) t)))
+      one-more : ((q : ℕ) → (times-read (m + n) f) .read xs q ≡ andThen ((times-read m f) .read xs q)
+          (λ items r. andThen ((times-read n f) .read xs r) (λ more t. got (items ++ more) t)))
           → (o : Out ℕ A)
           → andThen o (λ a q. andThen ((times-read (m + n) f) .read xs q) (λ items r. got (a ∷ items) r))
-          ≡ andThen (andThen o (λ a q. andThen ((times-read m f) .read xs q) (λ items r. got (a ∷ items) r))) (λ items q. andThen ((times-read n f) .read xs q) (λ more r. got (items ++ more) r))
+          ≡ andThen (andThen o (λ a q. andThen ((times-read m f) .read xs q) (λ items r. got (a ∷ items) r)))
+          (λ items q. andThen ((times-read n f) .read xs q) (λ more r. got (items ++ more) r))
       one-more ih (refused k q) = refl
       one-more ih (got a q) = ap (λ (o : Out ℕ (List A)). andThen o (λ items r. got (a ∷ items) r)) (ih q) ∙ tail a ((times-read m f) .read xs q)
 
@@ -80,7 +82,8 @@ module _ (xs : List ℕ) where
   vertexEntries more a = numbers (vertexNumbers more a)
 
   -- a run and what follows it
-  pub raw-add : (m n p : ℕ) → (raw-run (m + n)) .read xs p ≡ andThen ((raw-run m) .read xs p) (λ a q. andThen ((raw-run n) .read xs q) (λ b r. got (plus a b) r))
+  pub raw-add : (m n p : ℕ)
+      → (raw-run (m + n)) .read xs p ≡ andThen ((raw-run m) .read xs p) (λ a q. andThen ((raw-run n) .read xs q) (λ b r. got (plus a b) r))
   unfolding raw-run _>>=_ pure
   raw-add m n p = ap (gathered numbers) (times-add (coded RD) xs m n p) ∙ go ((times m (coded RD)) .read xs p)
     where
@@ -90,8 +93,9 @@ module _ (xs : List ℕ) where
       second ms (refused k q) = refl
 
       go : (o : Out ℕ (List ℕ))
-          → gathered numbers (andThen o (rest (coded RD) xs n))
-          ≡ andThen (andThen o (λ ms q. got (numbers ms) q)) (λ a q. andThen (andThen ((times n (coded RD)) .read xs q) (λ ns r. got (numbers ns) r)) (λ b r. got (plus a b) r))
+          → gathered numbers (andThen o (then-items (coded RD) xs n))
+          ≡ andThen (andThen o (λ ms q. got (numbers ms) q))
+          (λ a q. andThen (andThen ((times n (coded RD)) .read xs q) (λ ns r. got (numbers ns) r)) (λ b r. got (plus a b) r))
       go (got ms q) = second ms ((times n (coded RD)) .read xs q)
       go (refused k q) = refl
 

@@ -5,6 +5,8 @@ use Prim.Native.Nat.{ℕ, _+_, _*_, _≤_}
 use lib.ListN.{length}
 use Rattle.bitcursor.specs.declared.Read.{Read}
 use Rattle.bitcursor.specs.declared.Read.the-variants.{Value, Refused}
+use Rattle.bitcursor.specs.declared.Passed.{Passed}
+use Rattle.bitcursor.specs.declared.Passed.the-variants.{To, Refused as RefusedPassed}
 use Rattle.bitcursor.specs.Bytes.{lowNumber, bytesAt}
 use Rattle.bitcursor.specs.Reading.{got, refused}
 use Rattle.hatch_points.specs.Gathered.{numbers}
@@ -15,11 +17,16 @@ abbrev pub vertexAt : List ℕ → ℕ → ℕ → List ℕ
 vertexAt xs p v = lowNumber (bytesAt xs p 8) ∷ (lowNumber (bytesAt xs (p + 64) 8) ∷ (v ∷ []))
 
 -- the double behind a point is read, so the vertex is, from bits that are there
-pub record There (xs : List ℕ) (p v q : ℕ) : Type 0 where
+pub record VertexThere (xs : List ℕ) (p v q : ℕ) : Type 0 where
   pub read : vertex-walk .read xs p ≡ got (numbers (vertexAt xs p v)) q
   pub onward : p + 130 ≤ q
   pub inside : q ≤ 8 * length xs
 
 abbrev pub Extra : List ℕ → ℕ → Read → Type 0
-Extra xs p (Value v q) = There xs p v q
+Extra xs p (Value v q) = VertexThere xs p v q
 Extra xs p (Refused k q) = vertex-walk .read xs p ≡ refused k q
+
+-- the same, where the double's value is not wanted
+abbrev pub ExtraPassed : List ℕ → ℕ → Passed → Type 0
+ExtraPassed xs p (To q) = (v : ℕ) × VertexThere xs p v q
+ExtraPassed xs p (RefusedPassed k q) = vertex-walk .read xs p ≡ refused k q

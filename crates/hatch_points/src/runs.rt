@@ -4,11 +4,12 @@ ghost use mathlib.Core.List.{[]};
 ghost use Prim.Native.Nat.{_+_, _*_, _^_, _≤_, _<_, max};
 ghost use lib.ListN.{length};
 ghost use lib.Seq.{sets};
-ghost use Rattle.bitcursor.specs.Answers.{limit};
+ghost use Rattle.bitcursor.specs.Answers.{limit, asRead};
+ghost use Rattle.bitcursor.specs.Doubles.{BD};
 ghost use Rattle.hatch_points.specs.Gathered.{repeated};
 ghost use Rattle.hatch_points.specs.Walks.{raw-run, single-walk, double-run};
 ghost use Rattle.hatch_points.specs.Lists.{lists, doublesOf, Ready, Walks};
-ghost use Rattle.hatch_points.specs.Stores.{rawAt, roomFor};
+ghost use Rattle.hatch_points.specs.Stores.{rawAt, roomFor, placeRead, passedBy};
 use crate::lists;
 use crate::lists::Sizes;
 use crate::lists::Walk;
@@ -80,6 +81,39 @@ pub fn raw_run(
     }
 }
 
+// A BD: where the ten bytes from its tag's on are there, by no other comparison with the payload's length. One loop calls it, so that
+// the compiler puts it there.
+fn read_knot(s: &[u8], at: usize) -> Read
+    requires { ⌜ (length (now s) ≤ limit) × (at ≤ 8 * length (now s)) ⌝ }
+    ensures { λ r. ⌜ r ≡ asRead (BD .read (now (s .entry)) at) ⌝ }
+{
+    if s.len() < at / 8 + 10 {
+        return bitcursor::within::read_bd_bits(s, at);
+    }
+    bitcursor::within::read_bd_there(s, at)
+}
+
+// Past a BD whose value no list has room for, and which is not made.
+pub fn pass_bd(s: &[u8], at: usize) -> Passed
+    requires { ⌜ (length (now s) ≤ limit) × (at ≤ 8 * length (now s)) ⌝ }
+    ensures { λ r. ⌜ r ≡ passedBy (BD .read (now (s .entry)) at) ⌝ }
+{
+    if s.len() < at / 8 + 10 {
+        return passed(bitcursor::within::read_bd_bits(s, at));
+    }
+    passed(bitcursor::within::read_bd_there(s, at))
+}
+
+// The place that an answer leaves.
+fn passed(read: Read) -> Passed
+    ensures { λ r. ⌜ r ≡ placeRead read ⌝ }
+{
+    match read {
+        Read::Value(_, p) => Passed::To(p),
+        Read::Refused(k, p) => Passed::Refused(k, p),
+    }
+}
+
 // n BD, read and stored.
 fn put_doubles(
     s: &[u8],
@@ -96,7 +130,7 @@ fn put_doubles(
     let mut used = z.numbers;
     let mut i: usize = 0;
     while i < n {
-        match bitcursor::within::read_bd_bits(s, p) {
+        match read_knot(s, p) {
             Read::Value(v, q) => {
                 lists::put_number(numbers, bits, used, v);
                 p = q;
@@ -127,12 +161,12 @@ fn pass_doubles(s: &[u8], at: usize, n: usize, z: Sizes) -> Walk
     let mut used = z.numbers;
     let mut i: usize = 0;
     while i < n {
-        match bitcursor::within::read_bd_bits(s, p) {
-            Read::Value(_, q) => {
+        match pass_bd(s, p) {
+            Passed::To(q) => {
                 p = q;
                 used += 1;
             }
-            Read::Refused(k, q) => {
+            Passed::Refused(k, q) => {
                 return Walk::Refused(k, q);
             }
         }

@@ -8,7 +8,7 @@ ghost use Rattle.bitcursor.specs.Answers.{limit};
 ghost use Rattle.hatch_points.specs.Gathered.{repeated};
 ghost use Rattle.hatch_points.specs.Walks.{vertex-walk, vertices-walk};
 ghost use Rattle.hatch_points.specs.Lists.{lists, doublesOf, Ready, Walks};
-ghost use Rattle.hatch_points.specs.Vertices.{vertexAt, Extra};
+ghost use Rattle.hatch_points.specs.Vertices.{vertexAt, Extra, ExtraPassed};
 use crate::lists;
 use crate::lists::Sizes;
 use crate::lists::Walk;
@@ -23,8 +23,24 @@ fn read_extra(s: &[u8], at: usize) -> Read
     ensures { λ r. ⌜ Extra (now (s .entry)) at r ⌝ }
 {
     match bitcursor::within::skip_bytes(s, at, 16) {
-        Passed::To(p) => bitcursor::within::read_bd_bits(s, p),
+        Passed::To(p) => {
+            if s.len() < p / 8 + 10 {
+                return bitcursor::within::read_bd_bits(s, p);
+            }
+            bitcursor::within::read_bd_there(s, p)
+        }
         Passed::Refused(k, p) => Read::Refused(k, p),
+    }
+}
+
+// Past a point and the double behind it.
+fn pass_vertex(s: &[u8], at: usize) -> Passed
+    requires { ⌜ (length (now s) ≤ limit) × (at ≤ 8 * length (now s)) ⌝ }
+    ensures { λ r. ⌜ ExtraPassed (now (s .entry)) at r ⌝ }
+{
+    match bitcursor::within::skip_bytes(s, at, 16) {
+        Passed::To(p) => runs::pass_bd(s, p),
+        Passed::Refused(k, p) => Passed::Refused(k, p),
     }
 }
 
@@ -85,12 +101,12 @@ fn pass_vertices(s: &[u8], at: usize, n: usize, z: Sizes) -> Walk
     let mut used = z.numbers;
     let mut i: usize = 0;
     while i < n {
-        match read_extra(s, p) {
-            Read::Value(_, q) => {
+        match pass_vertex(s, p) {
+            Passed::To(q) => {
                 p = q;
                 used += 3;
             }
-            Read::Refused(k, q) => {
+            Passed::Refused(k, q) => {
                 return Walk::Refused(k, q);
             }
         }

@@ -43,7 +43,7 @@ use Rattle.hatch_rest.specs.Tails.{Gives, tailOf, tailEntries, tailWalk}
 use Rattle.hatch_rest.specs.Rests.{noSizes, restOf, restEntries, restWalk}
 use Rattle.hatch_points.proofs.Laws.{Step, _⊕_, kept-same, kept-then, walk-kept, walks-as}
 use Rattle.hatch_points.proofs.Rows.{ends-next, ends-ready, resumed-same, listed-row}
-use Rattle.hatch_rest.proofs.TailLaws.{gives-got, gives-kept, answers-no, Gave, gave, gave-no, pure-read}
+use Rattle.hatch_rest.proofs.TailLaws.{gives-got, gives-kept, answers-refused, ValueRead, value-read, value-refused, pure-read}
 use Rattle.hatch_rest.proofs.TailEnds.{gives-step, gives-ready}
 
 tail-is : (o : Out ℕ TailValue) (z : Sizes) {v : Tail} {q : ℕ} {y : Sizes} → DoneTail v q y ≡ tailWalk z o
@@ -53,9 +53,9 @@ tail-is (got a p) z {v} {q} {y} e =
     (a, ap (got a) i, cc, cc)
 tail-is (refused k p) z e = let x : _≡_ {A = ℕ} 0 1 = cc in absurd (omega arith)
 
-tail-not : (o : Out ℕ TailValue) (z : Sizes) {k : Refusal} {q : ℕ} → RefusedTail k q ≡ tailWalk z o → o ≡ refused k q
-tail-not (got a p) z e = let x : _≡_ {A = ℕ} 0 1 = cc in absurd (omega arith)
-tail-not (refused k p) z e = cc
+tail-refused : (o : Out ℕ TailValue) (z : Sizes) {k : Refusal} {q : ℕ} → RefusedTail k q ≡ tailWalk z o → o ≡ refused k q
+tail-refused (got a p) z e = let x : _≡_ {A = ℕ} 0 1 = cc in absurd (omega arith)
+tail-refused (refused k p) z e = cc
 
 -- a tail by a switch that is known as another number
 pub tail-by : (xs : List ℕ) (caps : Caps) (has : Bool) (t : ℕ) {u : TailWalk} {z : Sizes} {l l′ : Lists} {m n : ℕ} → m ≡ n
@@ -84,10 +84,10 @@ module _ (xs : List ℕ) (caps : Caps) (v : Version) (p : ℕ) {x y w : Read} (e
   abbrev after-paths : Bool → Bool → List Path → Format one RestValue
   after-paths s t paths = tail caps s (derived paths) >>= λ a. pure (record { solid = s; associative = t; paths = paths; tail = a })
 
-  abbrev pub rest-rest : ℕ → Format one RestValue
-  rest-rest n = times n (path caps in-payload v 0) >>= after-paths solid associative
+  abbrev pub rest-after-count : ℕ → Format one RestValue
+  rest-after-count n = times n (path caps in-payload v 0) >>= after-paths solid associative
 
-  rest-row : (rest caps in-payload v) .read xs p ≡ resumed xs rest-rest w
+  rest-row : (rest caps in-payload v) .read xs p ≡ resumed xs rest-after-count w
   unfolding rest rest-read relay held
   rest-row =
       bit-more xs (λ n s. coded B >>= λ t. paths caps in-payload v >>= after-paths s t) (Value 0 p) e₁
@@ -105,58 +105,58 @@ module _ (xs : List ℕ) (caps : Caps) (v : Version) (p : ℕ) {x y w : Read} (e
       let s₃ = ends-next xs p (bounded (caps .paths) BL) y e₃ s₂ in
       ends-ready xs p noSizes s₃ i (k, (h, (omega arith, omega arith)))
 
-  pub rest-short : {l : Lists} {k : Refusal} {q : ℕ} → w ≡ Refused k q
+  pub rest-fields-refused : {l : Lists} {k : Refusal} {q : ℕ} → w ≡ Refused k q
       → (RefusedRest k q ≡ restWalk ((rest caps in-payload v) .read xs p)) × Gives xs restEntries ((rest caps in-payload v) .read xs p) l noSizes l
-  rest-short i = answers-no restEntries ((rest caps in-payload v) .read xs p) restWalk (rest-row ∙ ap (resumed xs rest-rest) i) kept-same
+  rest-fields-refused i = answers-refused restEntries ((rest caps in-payload v) .read xs p) restWalk (rest-row ∙ ap (resumed xs rest-after-count) i) kept-same
 
   -- r is the answer for the paths
   module _ {n q : ℕ} (i : w ≡ Value n q) {b : Bool} (fits : b ≡ leb 5 (releaseNumber v)) {r : Walk} {l l₁ : Lists}
       (h : Walks xs ((repeated n (path-walk caps b)) .read xs q) l noSizes l₁ r) where
-    behind-count : (rest caps in-payload v) .read xs p ≡ (rest-rest n) .read xs q
-    behind-count = rest-row ∙ ap (resumed xs rest-rest) i
+    behind-count : (rest caps in-payload v) .read xs p ≡ (rest-after-count n) .read xs q
+    behind-count = rest-row ∙ ap (resumed xs rest-after-count) i
 
     walked : Walks xs (gathered (all pathEntries) ((times n (path caps in-payload v 0)) .read xs q)) l noSizes l₁ r
     walked = walks-as h (ap (λ (t : Bool). (repeated n (path-walk caps t)) .read xs q) fits ∙ sym (paths-gather xs caps v n q))
 
-    pub rest-stops : {k : Refusal} {t : ℕ} → r ≡ RefusedWalk k t
+    pub rest-paths-refused : {k : Refusal} {t : ℕ} → r ≡ RefusedWalk k t
         → (RefusedRest k t ≡ restWalk ((rest caps in-payload v) .read xs p)) × Gives xs restEntries ((rest caps in-payload v) .read xs p) l noSizes l₁
-    rest-stops d =
-        let o = gave-no (all pathEntries) ((times n (path caps in-payload v 0)) .read xs q) walked d in
-        answers-no restEntries ((rest caps in-payload v) .read xs p) restWalk (behind-count ∙ then-refused (times n (path caps in-payload v 0)) _ xs o) (walk-kept h d)
+    rest-paths-refused d =
+        let o = value-refused (all pathEntries) ((times n (path caps in-payload v 0)) .read xs q) walked d in
+        answers-refused restEntries ((rest caps in-payload v) .read xs p) restWalk (behind-count ∙ then-refused (times n (path caps in-payload v 0)) _ xs o) (walk-kept h d)
 
     -- and u that for the tail
     module _ {t : ℕ} {z : Sizes} (d : r ≡ DoneWalk t z) where
-      told : Gave (all pathEntries) ((times n (path caps in-payload v 0)) .read xs q) l noSizes l₁ t z
-      told = gave (all pathEntries) ((times n (path caps in-payload v 0)) .read xs q) walked d
+      paths-value : ValueRead (all pathEntries) ((times n (path caps in-payload v 0)) .read xs q) l noSizes l₁ t z
+      paths-value = value-read (all pathEntries) ((times n (path caps in-payload v 0)) .read xs q) walked d
 
-      has : z .derived ≡ derived (told .value)
-      has = ap (λ (y : Sizes). y .derived) (told .step .sizes) ∙ ap (λ (e : Entries). e .derived) (all-paths (told .value))
+      has : z .derived ≡ derived (paths-value .value)
+      has = ap (λ (y : Sizes). y .derived) (paths-value .step .sizes) ∙ ap (λ (e : Entries). e .derived) (all-paths (paths-value .value))
 
       module _ {u : TailWalk} {l₂ : Lists}
           (j : (u ≡ tailWalk z ((tail caps solid (z .derived)) .read xs t)) × Gives xs tailEntries ((tail caps solid (z .derived)) .read xs t) l₁ z l₂) where
         behind-paths : (rest caps in-payload v) .read xs p
-            ≡ (tail caps solid (z .derived) >>= λ a. pure (record { solid = solid; associative = associative; paths = told .value; tail = a })) .read xs t
+            ≡ (tail caps solid (z .derived) >>= λ a. pure (record { solid = solid; associative = associative; paths = paths-value .value; tail = a })) .read xs t
         behind-paths =
-            behind-count ∙ then-got (times n (path caps in-payload v 0)) (after-paths solid associative) xs (told .read)
-            ∙ ap (λ (c : Bool). (tail caps solid c >>= λ a. pure {M = one} (record { solid = solid; associative = associative; paths = told .value; tail = a })) .read xs t) (sym has)
+            behind-count ∙ then-got (times n (path caps in-payload v 0)) (after-paths solid associative) xs (paths-value .read)
+            ∙ ap (λ (c : Bool). (tail caps solid c >>= λ a. pure {M = one} (record { solid = solid; associative = associative; paths = paths-value .value; tail = a })) .read xs t) (sym has)
 
-        pub rest-no : {k : Refusal} {m : ℕ} → u ≡ RefusedTail k m
+        pub rest-tail-refused : {k : Refusal} {m : ℕ} → u ≡ RefusedTail k m
             → (RefusedRest k m ≡ restWalk ((rest caps in-payload v) .read xs p)) × Gives xs restEntries ((rest caps in-payload v) .read xs p) l noSizes l₂
-        rest-no f =
-            let o = tail-not ((tail caps solid (z .derived)) .read xs t) z (sym f ∙ j .0) in
-            answers-no restEntries ((rest caps in-payload v) .read xs p) restWalk (behind-paths ∙ then-refused (tail caps solid (z .derived)) _ xs o)
-            (kept-then (told .step) (gives-kept tailEntries ((tail caps solid (z .derived)) .read xs t) (j .1) o))
+        rest-tail-refused f =
+            let o = tail-refused ((tail caps solid (z .derived)) .read xs t) z (sym f ∙ j .0) in
+            answers-refused restEntries ((rest caps in-payload v) .read xs p) restWalk (behind-paths ∙ then-refused (tail caps solid (z .derived)) _ xs o)
+            (kept-then (paths-value .step) (gives-kept tailEntries ((tail caps solid (z .derived)) .read xs t) (j .1) o))
 
-        pub rest-ends : {e : Tail} {m : ℕ} {o : Sizes} → u ≡ DoneTail e m o
+        pub rest-done : {e : Tail} {m : ℕ} {o : Sizes} → u ≡ DoneTail e m o
             → (Done (record { solid = solid; associative = associative; paths = n; tail = e }) m o ≡ restWalk ((rest caps in-payload v) .read xs p))
             × Gives xs restEntries ((rest caps in-payload v) .read xs p) l noSizes l₂
-        rest-ends {m = m} f =
+        rest-done {m = m} f =
             let c = tail-is ((tail caps solid (z .derived)) .read xs t) z (sym f ∙ j .0) in
-            let body : RestValue = record { solid = solid; associative = associative; paths = told .value; tail = c .0 } in
-            let o = behind-paths ∙ then-got (tail caps solid (z .derived)) (λ a. pure (record { solid = solid; associative = associative; paths = told .value; tail = a })) xs (c .1) ∙ pure-read body xs m in
-            let s = told .step ⊕ gives-step tailEntries ((tail caps solid (z .derived)) .read xs t) (j .1) (c .1) (c .3) in
+            let body : RestValue = record { solid = solid; associative = associative; paths = paths-value .value; tail = c .0 } in
+            let o = behind-paths ∙ then-got (tail caps solid (z .derived)) (λ a. pure (record { solid = solid; associative = associative; paths = paths-value .value; tail = a })) xs (c .1) ∙ pure-read body xs m in
+            let s = paths-value .step ⊕ gives-step tailEntries ((tail caps solid (z .derived)) .read xs t) (j .1) (c .1) (c .3) in
             let last = gives-ready tailEntries ((tail caps solid (z .derived)) .read xs t) (j .1) (c .1) (c .3) in
-            let many = times-length (path caps in-payload v 0) xs n q (told .read) in (
+            let many = times-length (path caps in-payload v 0) xs n q (paths-value .read) in (
               (λ i. Done (record { solid = solid; associative = associative; paths = sym many i; tail = c .2 i }) m (s .sizes i)) ∙ ap restWalk (sym o),
               gives-got restEntries ((rest caps in-payload v) .read xs p) o (s .lists) (subst (Ready xs m) (s .sizes) last),
             )

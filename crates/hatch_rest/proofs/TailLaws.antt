@@ -35,7 +35,7 @@ use Rattle.hatch_rest.specs.LineGathers.{line-walk}
 use Rattle.hatch_points.specs.Runs.{pointEntries, times-length, times-gather, points-gather}
 use Rattle.hatch_points.specs.Gathers.{all-numbers}
 use Rattle.hatch_rest.specs.LineGathers.{lineEntries, line-gathers}
-use Rattle.hatch_points.specs.Lists.{Lists, lists, lay, grow, Kept, Laid, Ready, Walks}
+use Rattle.hatch_points.specs.Lists.{Lists, lists, store, grow, Kept, Stored, Ready, Walks}
 use Rattle.hatch_points.specs.Heads.{resumed, one-more, bit-more}
 use Rattle.hatch_rest.specs.Tails.{Gives, patternEntries, patternWalk, endingEntries, endingWalk}
 use Rattle.hatch_points.proofs.Laws.{Step, step-as, kept-same, walk-ready, walk-kept, walks-as}
@@ -43,18 +43,18 @@ use Rattle.hatch_points.proofs.Rows.{ends-next, ends-ready, count-left, resumed
 
 -- ---- values and their entries
 module _ {A : Type 0} {xs : List ℕ} (e : A → Entries) (o : Out ℕ A) {l l′ : Lists} {z : Sizes} where
-  pub gives-got : {a : A} {q : ℕ} → o ≡ got a q → l′ ≡ lay l z (e a) → Ready xs q (grow z (e a)) → Gives xs e o l z l′
-  gives-got {a} {q} i j h = subst (λ (x : Out ℕ A). Gives xs e x l z l′) (sym i) (record { laid = j; ready = h })
+  pub gives-got : {a : A} {q : ℕ} → o ≡ got a q → l′ ≡ store l z (e a) → Ready xs q (grow z (e a)) → Gives xs e o l z l′
+  gives-got {a} {q} i j h = subst (λ (x : Out ℕ A). Gives xs e x l z l′) (sym i) (record { stored = j; ready = h })
 
   pub gives-kept : Gives xs e o l z l′ → {k : Refusal} {q : ℕ} → o ≡ refused k q → Kept l z l′
-  gives-kept h i = subst (λ (x : Out ℕ A). Laid (gathered e x) l z l′) i (h .laid)
+  gives-kept h i = subst (λ (x : Out ℕ A). Stored (gathered e x) l z l′) i (h .stored)
 
   -- the answer w for a refusal
-  pub answers-no : {W : Type 0} (w : Out ℕ A → W) {k : Refusal} {q : ℕ} → o ≡ refused k q → Kept l z l′ → (w (refused k q) ≡ w o) × Gives xs e o l z l′
-  answers-no w {k} {q} i h = (ap w (sym i), subst (λ (x : Out ℕ A). Gives xs e x l z l′) (sym i) (record { laid = h; ready = tt }))
+  pub answers-refused : {W : Type 0} (w : Out ℕ A → W) {k : Refusal} {q : ℕ} → o ≡ refused k q → Kept l z l′ → (w (refused k q) ≡ w o) × Gives xs e o l z l′
+  answers-refused w {k} {q} i h = (ap w (sym i), subst (λ (x : Out ℕ A). Gives xs e x l z l′) (sym i) (record { stored = h; ready = tt }))
 
 -- what a walk's answer tells of the values whose entries it gathers
-pub record Gave {A : Type 0} (e : A → Entries) (o : Out ℕ A) (l : Lists) (z : Sizes) (l′ : Lists) (q : ℕ) (y : Sizes) : Type 0 where
+pub record ValueRead {A : Type 0} (e : A → Entries) (o : Out ℕ A) (l : Lists) (z : Sizes) (l′ : Lists) (q : ℕ) (y : Sizes) : Type 0 where
   pub value : A
   pub read : o ≡ got value q
   pub step : Step l z (e value) l′ y
@@ -76,15 +76,15 @@ refused-is : {j k : Refusal} {p q : ℕ} → RefusedWalk k p ≡ RefusedWalk j q
 refused-is e = (cc, cc)
 
 module _ {A : Type 0} {xs : List ℕ} (e : A → Entries) {l l′ : Lists} {z : Sizes} {r : Walk} where
-  pub gave : (o : Out ℕ A) → Walks xs (gathered e o) l z l′ r → {q : ℕ} {y : Sizes} → r ≡ Done q y → Gave e o l z l′ q y
-  gave (got a p) h d =
+  pub value-read : (o : Out ℕ A) → Walks xs (gathered e o) l z l′ r → {q : ℕ} {y : Sizes} → r ≡ Done q y → ValueRead e o l z l′ q y
+  value-read (got a p) h d =
       let i = done-is (sym d ∙ h .is) in
-      record { value = a; read = ap (got a) (i .0); step = record { lists = h .laid; sizes = i .1 } }
-  gave (refused k p) h d = done-not (sym d ∙ h .is)
+      record { value = a; read = ap (got a) (i .0); step = record { lists = h .stored; sizes = i .1 } }
+  value-read (refused k p) h d = done-not (sym d ∙ h .is)
 
-  pub gave-no : (o : Out ℕ A) → Walks xs (gathered e o) l z l′ r → {k : Refusal} {q : ℕ} → r ≡ RefusedWalk k q → o ≡ refused k q
-  gave-no (got a p) h d = not-done (sym d ∙ h .is)
-  gave-no (refused k p) h d = let i = refused-is (sym d ∙ h .is) in ap₂ refused (i .0) (i .1)
+  pub value-refused : (o : Out ℕ A) → Walks xs (gathered e o) l z l′ r → {k : Refusal} {q : ℕ} → r ≡ RefusedWalk k q → o ≡ refused k q
+  value-refused (got a p) h d = not-done (sym d ∙ h .is)
+  value-refused (refused k p) h d = let i = refused-is (sym d ∙ h .is) in ap₂ refused (i .0) (i .1)
 
 pub pure-read : {A : Type 0} (a : A) (xs : List ℕ) (p : ℕ) → (pure {M = one} a) .read xs p ≡ got a p
 unfolding pure
@@ -92,20 +92,20 @@ pure-read a xs p = refl
 
 module _ (xs : List ℕ) (caps : Caps) where
   -- ---- the pattern, behind the count of its lines
-  abbrev pub pattern-rest : ℕ → ℕ → Bool → ℕ → Format one Pattern
-  pattern-rest angle scale double n =
+  abbrev pub pattern-after-count : ℕ → ℕ → Bool → ℕ → Format one Pattern
+  pattern-after-count angle scale double n =
       times n (pattern-line (caps .dashes)) >>= λ lines. pure (record { angle = angle; scale = scale; double = double; lines = lines })
 
   pub pattern-row : (p : ℕ) (x₁ x₂ x₃ x₄ : Read) → x₁ ≡ thenRead (BD .read xs) (Value 0 p) → x₂ ≡ thenRead (BD .read xs) x₁
       → x₃ ≡ thenRead ((held true (raw 1) 0) .read xs) x₂ → x₄ ≡ thenRead ((bounded (caps .«pattern_lines») BS) .read xs) x₃
-      → (pattern caps false) .read xs p ≡ resumed xs (pattern-rest (valueOf x₁) (valueOf x₂) (eqb 1 (valueOf x₃))) x₄
+      → (pattern caps false) .read xs p ≡ resumed xs (pattern-after-count (valueOf x₁) (valueOf x₂) (eqb 1 (valueOf x₃))) x₄
   unfolding pattern pattern-read relay held
   pattern-row p x₁ x₂ x₃ x₄ e₁ e₂ e₃ e₄ =
       one-more xs (λ v. coded BD) (λ v angle. scale-on angle) (Value 0 p) e₁
       ∙ one-more xs (λ v. coded BD) double-on x₁ e₂
       ∙ bit-more xs (lines-on (valueOf x₁)) x₂ e₃
       ∙ resumed-same xs _ _ (λ n q. listed-row xs (caps .«pattern_lines») BS (pattern-line (caps .dashes)) (takes-line (caps .dashes)) (made (valueOf x₁) (valueOf x₂) (eqb 1 n)) q) x₃
-      ∙ one-more xs (λ v. bounded (caps .«pattern_lines») BS) (λ v. pattern-rest (valueOf x₁) (valueOf x₂) (eqb 1 v)) x₃ e₄
+      ∙ one-more xs (λ v. bounded (caps .«pattern_lines») BS) (λ v. pattern-after-count (valueOf x₁) (valueOf x₂) (eqb 1 v)) x₃ e₄
     where
       made : ℕ → ℕ → Bool → List PatternLine → Format one Pattern
       made angle scale double lines = pure (record { angle = angle; scale = scale; double = double; lines = lines })
@@ -142,34 +142,34 @@ module _ (xs : List ℕ) (caps : Caps) where
         let s₄ = ends-next xs p (bounded (caps .«pattern_lines») BS) x₃ e₄ s₃ in
         ends-ready xs p z s₄ i h
 
-    pub pattern-short : {l : Lists} {z : Sizes} {k : Refusal} {q : ℕ} → x₄ ≡ Refused k q
+    pub pattern-fields-refused : {l : Lists} {z : Sizes} {k : Refusal} {q : ℕ} → x₄ ≡ Refused k q
         → (RefusedPattern k q ≡ patternWalk z ((pattern caps false) .read xs p)) × Gives xs patternEntries ((pattern caps false) .read xs p) l z l
-    pattern-short {z = z} i =
-        answers-no patternEntries ((pattern caps false) .read xs p) (patternWalk z)
-        (pattern-row p x₁ x₂ x₃ x₄ e₁ e₂ e₃ e₄ ∙ ap (resumed xs (pattern-rest (valueOf x₁) (valueOf x₂) (eqb 1 (valueOf x₃)))) i) kept-same
+    pattern-fields-refused {z = z} i =
+        answers-refused patternEntries ((pattern caps false) .read xs p) (patternWalk z)
+        (pattern-row p x₁ x₂ x₃ x₄ e₁ e₂ e₃ e₄ ∙ ap (resumed xs (pattern-after-count (valueOf x₁) (valueOf x₂) (eqb 1 (valueOf x₃)))) i) kept-same
 
     module _ {n q : ℕ} (i : x₄ ≡ Value n q) where
-      behind-count : (pattern caps false) .read xs p ≡ (pattern-rest (valueOf x₁) (valueOf x₂) (eqb 1 (valueOf x₃)) n) .read xs q
-      behind-count = pattern-row p x₁ x₂ x₃ x₄ e₁ e₂ e₃ e₄ ∙ ap (resumed xs (pattern-rest (valueOf x₁) (valueOf x₂) (eqb 1 (valueOf x₃)))) i
+      behind-count : (pattern caps false) .read xs p ≡ (pattern-after-count (valueOf x₁) (valueOf x₂) (eqb 1 (valueOf x₃)) n) .read xs q
+      behind-count = pattern-row p x₁ x₂ x₃ x₄ e₁ e₂ e₃ e₄ ∙ ap (resumed xs (pattern-after-count (valueOf x₁) (valueOf x₂) (eqb 1 (valueOf x₃)))) i
 
       lines-walk : {l l′ : Lists} {z : Sizes} {r : Walk} → Walks xs ((repeated n (line-walk (caps .dashes))) .read xs q) l z l′ r
           → Walks xs (gathered (all lineEntries) ((times n (pattern-line (caps .dashes))) .read xs q)) l z l′ r
       lines-walk h = walks-as h (sym (times-gather (pattern-line (caps .dashes)) xs lineEntries (line-walk (caps .dashes)) (line-gathers xs (caps .dashes)) n q))
 
-      pub pattern-stops : {l l′ : Lists} {z : Sizes} {r : Walk} → Walks xs ((repeated n (line-walk (caps .dashes))) .read xs q) l z l′ r
+      pub pattern-lines-refused : {l l′ : Lists} {z : Sizes} {r : Walk} → Walks xs ((repeated n (line-walk (caps .dashes))) .read xs q) l z l′ r
           → {k : Refusal} {t : ℕ} → r ≡ RefusedWalk k t
           → (RefusedPattern k t ≡ patternWalk z ((pattern caps false) .read xs p)) × Gives xs patternEntries ((pattern caps false) .read xs p) l z l′
-      pattern-stops {z = z} h d =
-          let o = gave-no (all lineEntries) ((times n (pattern-line (caps .dashes))) .read xs q) (lines-walk h) d in
-          answers-no patternEntries ((pattern caps false) .read xs p) (patternWalk z)
+      pattern-lines-refused {z = z} h d =
+          let o = value-refused (all lineEntries) ((times n (pattern-line (caps .dashes))) .read xs q) (lines-walk h) d in
+          answers-refused patternEntries ((pattern caps false) .read xs p) (patternWalk z)
           (behind-count ∙ then-refused (times n (pattern-line (caps .dashes))) _ xs o) (walk-kept h d)
 
-      pub pattern-ends : {l l′ : Lists} {z : Sizes} {r : Walk} → Walks xs ((repeated n (line-walk (caps .dashes))) .read xs q) l z l′ r
+      pub pattern-done : {l l′ : Lists} {z : Sizes} {r : Walk} → Walks xs ((repeated n (line-walk (caps .dashes))) .read xs q) l z l′ r
           → {t : ℕ} {y : Sizes} → r ≡ Done t y → {angle scale double : ℕ} → angle ≡ valueOf x₁ → scale ≡ valueOf x₂ → double ≡ valueOf x₃
           → (DonePattern (record { angle = angle; scale = scale; double = eqb 1 double; lines = n }) t y ≡ patternWalk z ((pattern caps false) .read xs p))
           × Gives xs patternEntries ((pattern caps false) .read xs p) l z l′
-      pattern-ends {z = z} h {t} d f₁ f₂ f₃ =
-          let g = gave (all lineEntries) ((times n (pattern-line (caps .dashes))) .read xs q) (lines-walk h) d in
+      pattern-done {z = z} h {t} d f₁ f₂ f₃ =
+          let g = value-read (all lineEntries) ((times n (pattern-line (caps .dashes))) .read xs q) (lines-walk h) d in
           let o = behind-count ∙ then-got (times n (pattern-line (caps .dashes))) (λ lines. pure (record { angle = valueOf x₁; scale = valueOf x₂; double = eqb 1 (valueOf x₃); lines = lines })) xs (g .read) ∙ pure-read (record { angle = valueOf x₁; scale = valueOf x₂; double = eqb 1 (valueOf x₃); lines = g .value }) xs t in
           let m = times-length (pattern-line (caps .dashes)) xs n q (g .read) in (
             (λ i. DonePattern (record { angle = f₁ i; scale = f₂ i; double = eqb 1 (f₃ i); lines = sym m i }) t (g .step .sizes i)) ∙ ap (patternWalk z) (sym o),
@@ -177,18 +177,18 @@ module _ (xs : List ℕ) (caps : Caps) where
           )
 
   -- ---- the last fields, behind the count of the seed points
-  abbrev pub ending-rest : ℕ → ℕ → Format one Ending
-  ending-rest pixel n = times n point >>= λ seeds. pure (record { pixel-size = pixel; seed-points = seeds })
+  abbrev pub ending-after-count : ℕ → ℕ → Format one Ending
+  ending-after-count pixel n = times n point >>= λ seeds. pure (record { pixel-size = pixel; seed-points = seeds })
 
   -- x₁ and x₂ are the answers for the pixel size and the count
   module _ (has : Bool) (p : ℕ) (x₁ x₂ : Read) (e₁ : x₁ ≡ thenRead ((held has BD 0) .read xs) (Value 0 p))
       (e₂ : x₂ ≡ thenRead ((bounded (caps .«seed_points») BL) .read xs) x₁) where
-    ending-row : (ending caps has) .read xs p ≡ resumed xs (ending-rest (valueOf x₁)) x₂
+    ending-row : (ending caps has) .read xs p ≡ resumed xs (ending-after-count (valueOf x₁)) x₂
     unfolding ending ending-read relay
     ending-row =
         one-more xs (λ v. coded (held has BD 0)) (λ v. seeds-on) (Value 0 p) e₁
         ∙ resumed-same xs _ _ (λ pixel q. listed-row xs (caps .«seed_points») BL point takes-point (made pixel) q) x₁
-        ∙ one-more xs (λ v. bounded (caps .«seed_points») BL) ending-rest x₁ e₂
+        ∙ one-more xs (λ v. bounded (caps .«seed_points») BL) ending-after-count x₁ e₂
       where
         made : ℕ → List Point → Format one Ending
         made pixel seeds = pure (record { pixel-size = pixel; seed-points = seeds })
@@ -204,32 +204,32 @@ module _ (xs : List ℕ) (caps : Caps) where
         let c = count-left (caps .«seed_points») BL 2 takes-BL xs x₁ e₂ i t₁ in
         (ends-ready xs p z s₂ i h, omega (arith, c .0, c .1, h .0))
 
-    pub ending-short : {l : Lists} {z : Sizes} {k : Refusal} {q : ℕ} → x₂ ≡ Refused k q
+    pub ending-fields-refused : {l : Lists} {z : Sizes} {k : Refusal} {q : ℕ} → x₂ ≡ Refused k q
         → (RefusedEnding k q ≡ endingWalk z ((ending caps has) .read xs p)) × Gives xs endingEntries ((ending caps has) .read xs p) l z l
-    ending-short {z = z} i =
-        answers-no endingEntries ((ending caps has) .read xs p) (endingWalk z) (ending-row ∙ ap (resumed xs (ending-rest (valueOf x₁))) i) kept-same
+    ending-fields-refused {z = z} i =
+        answers-refused endingEntries ((ending caps has) .read xs p) (endingWalk z) (ending-row ∙ ap (resumed xs (ending-after-count (valueOf x₁))) i) kept-same
 
     module _ {n q : ℕ} (i : x₂ ≡ Value n q) where
-      behind-seeds : (ending caps has) .read xs p ≡ (ending-rest (valueOf x₁) n) .read xs q
-      behind-seeds = ending-row ∙ ap (resumed xs (ending-rest (valueOf x₁))) i
+      behind-seeds : (ending caps has) .read xs p ≡ (ending-after-count (valueOf x₁) n) .read xs q
+      behind-seeds = ending-row ∙ ap (resumed xs (ending-after-count (valueOf x₁))) i
 
       seeds-walk : {l l′ : Lists} {z : Sizes} {r : Walk} → Walks xs ((raw-run (2 * n)) .read xs q) l z l′ r
           → Walks xs (gathered (all (pointEntries xs)) ((times n point) .read xs q)) l z l′ r
       seeds-walk h = walks-as h (sym (points-gather xs n q))
 
-      pub ending-stops : {l l′ : Lists} {z : Sizes} {r : Walk} → Walks xs ((raw-run (2 * n)) .read xs q) l z l′ r
+      pub ending-seeds-refused : {l l′ : Lists} {z : Sizes} {r : Walk} → Walks xs ((raw-run (2 * n)) .read xs q) l z l′ r
           → {k : Refusal} {t : ℕ} → r ≡ RefusedWalk k t
           → (RefusedEnding k t ≡ endingWalk z ((ending caps has) .read xs p)) × Gives xs endingEntries ((ending caps has) .read xs p) l z l′
-      ending-stops {z = z} h d =
-          let o = gave-no (all (pointEntries xs)) ((times n point) .read xs q) (seeds-walk h) d in
-          answers-no endingEntries ((ending caps has) .read xs p) (endingWalk z) (behind-seeds ∙ then-refused (times n point) _ xs o) (walk-kept h d)
+      ending-seeds-refused {z = z} h d =
+          let o = value-refused (all (pointEntries xs)) ((times n point) .read xs q) (seeds-walk h) d in
+          answers-refused endingEntries ((ending caps has) .read xs p) (endingWalk z) (behind-seeds ∙ then-refused (times n point) _ xs o) (walk-kept h d)
 
-      pub ending-ends : {l l′ : Lists} {z : Sizes} {r : Walk} → Walks xs ((raw-run (2 * n)) .read xs q) l z l′ r
+      pub ending-done : {l l′ : Lists} {z : Sizes} {r : Walk} → Walks xs ((raw-run (2 * n)) .read xs q) l z l′ r
           → {t : ℕ} {y : Sizes} → r ≡ Done t y → {pixel : ℕ} → pixel ≡ valueOf x₁
           → (DoneEnding (record { «pixel_size» = pixel; «seed_points» = n }) t y ≡ endingWalk z ((ending caps has) .read xs p))
           × Gives xs endingEntries ((ending caps has) .read xs p) l z l′
-      ending-ends {z = z} h {t} d f₁ =
-          let g = gave (all (pointEntries xs)) ((times n point) .read xs q) (seeds-walk h) d in
+      ending-done {z = z} h {t} d f₁ =
+          let g = value-read (all (pointEntries xs)) ((times n point) .read xs q) (seeds-walk h) d in
           let o = behind-seeds ∙ then-got (times n point) (λ seeds. pure (record { pixel-size = valueOf x₁; seed-points = seeds })) xs (g .read) ∙ pure-read (record { pixel-size = valueOf x₁; seed-points = g .value }) xs t in
           let m = times-length point xs n q (g .read) in
           let s = step-as (all-numbers pointNumbers (g .value)) (g .step) in (

@@ -17,7 +17,7 @@ use Rattle.hatch_rest.specs.declared.patterns.TailWalk.{TailWalk}
 use Rattle.hatch_rest.specs.declared.patterns.TailWalk.the-variants.{Done as DoneTail, Refused as RefusedTail}
 use Rattle.hatch_points.specs.Gathered.{Entries, numbers, plus, all, gathered}
 use Rattle.hatch_rest.specs.LineGathers.{lineEntries}
-use Rattle.hatch_points.specs.Lists.{Lists, grow, Laid, Ready}
+use Rattle.hatch_points.specs.Lists.{Lists, grow, Stored, Ready}
 
 -- ---- what such a walk leaves in the lists: the entries of its values
 abbrev pub ReadyBehind : {A : Type 0} → List ℕ → (A → Entries) → Sizes → Out ℕ A → Type 0
@@ -25,7 +25,7 @@ ReadyBehind xs e z (got a q) = Ready xs q (grow z (e a))
 ReadyBehind xs e z (refused k q) = Unit {0}
 
 pub record Gives (xs : List ℕ) {A : Type 0} (e : A → Entries) (o : Out ℕ A) (l : Lists) (z : Sizes) (l′ : Lists) : Type 0 where
-  pub laid : Laid (gathered e o) l z l′
+  pub stored : Stored (gathered e o) l z l′
   pub ready : ReadyBehind xs e z o
 
 -- ---- the pattern

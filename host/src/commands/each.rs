@@ -5,7 +5,8 @@ use std::io::{self, Write};
 use dwg_hatch::Refusal;
 
 use crate::commands::failure::Failure;
-use crate::commands::input::{Input, Item, ItemBatch, Items};
+use crate::commands::input::{Input, Item};
+use crate::commands::items::{ItemBatch, Items};
 use crate::jobs;
 
 /// Why an item is not done, or may be done wrongly.

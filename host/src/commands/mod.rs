@@ -3,10 +3,13 @@
 pub mod angles;
 pub mod cut;
 pub mod draw;
+#[cfg(test)]
+mod drawing_tests;
 pub mod each;
 pub mod failure;
 pub mod help;
 pub mod input;
+pub mod items;
 pub mod lines;
 pub mod options;
 pub mod out_file;

@@ -1,6 +1,6 @@
 //! Answers to request lines, as the protocol fixes them.
 
-use std::fmt::{Display, Write as _};
+use std::fmt::{self, Display, Write as _};
 use std::io::{self, Read, Write};
 
 use dwg_hatch::{CommonEntityData, Reading, Refusal, Source, Text};
@@ -118,25 +118,27 @@ pub fn put_text(line: &mut String, text: &Text, payload: &[u8]) {
 fn prefix_form<Scale>(data: &CommonEntityData<Scale>, scale: u64) -> String {
     let bit = u8::from;
     let [full, face, edge] = data.visual_style_flags.map(bit);
-    let fields = [
-        format!("0 rawmode={} mode={:?}", data.raw_mode, data.mode),
-        format!("reactors={} nodict={}", data.num_reactors, bit(data.no_xdictionary)),
-        format!("chain={} onlayer={}", bit(data.binary_chain), bit(data.is_on_layer)),
-        format!("nonfixed={} plot={}", bit(data.non_fixed_ltype), data.plotstyle_flag),
-        format!("material={} shadow={}", data.material_flag, data.shadow_flags),
-        format!("invis={} nolinks={}", data.invisibility, bit(data.nolinks)),
-        format!("color={} rgb={}", data.color_raw, presence(data.color_rgb)),
-        format!("alpha={} scale={}", presence(data.color_alpha), digits(scale)),
-        format!("ltype={} vis={full},{face},{edge}", data.ltype_flags),
-        format!("weight={} gfx={}", data.lineweight, bit(data.had_graphics)),
-        format!("xdata={} dataend={}", bit(data.had_extended_data), presence(data.data_end_bits)),
-    ];
-    fields.join(" ")
+    let mut form = String::with_capacity(320);
+    let mut put = |text: fmt::Arguments| form.write_fmt(text).expect("a String takes every text");
+    put(format_args!("0 rawmode={} mode={:?} reactors={}", data.raw_mode, data.mode, data.num_reactors));
+    put(format_args!(" nodict={} chain={}", bit(data.no_xdictionary), bit(data.binary_chain)));
+    put(format_args!(" onlayer={} nonfixed={}", bit(data.is_on_layer), bit(data.non_fixed_ltype)));
+    put(format_args!(" plot={} material={} shadow={}", data.plotstyle_flag, data.material_flag, data.shadow_flags));
+    put(format_args!(" invis={} nolinks={}", data.invisibility, bit(data.nolinks)));
+    put(format_args!(" color={} rgb={} alpha={}", data.color_raw, Presence(data.color_rgb), Presence(data.color_alpha)));
+    put(format_args!(" scale={} ltype={} vis={full},{face},{edge}", digits(scale), data.ltype_flags));
+    put(format_args!(" weight={} gfx={}", data.lineweight, bit(data.had_graphics)));
+    put(format_args!(" xdata={} dataend={}", bit(data.had_extended_data), Presence(data.data_end_bits)));
+    form
 }
 
 /// The protocol's P: whether there is a number, and the number or 0.
-fn presence(number: Option<u32>) -> String {
-    format!("{}:{}", u8::from(number.is_some()), number.unwrap_or(0))
+struct Presence(Option<u32>);
+
+impl Display for Presence {
+    fn fmt(&self, f: &mut fmt::Formatter<'_>) -> fmt::Result {
+        write!(f, "{}:{}", u8::from(self.0.is_some()), self.0.unwrap_or(0))
+    }
 }
 
 /// Which entries read doubles. Both hand over the 16 digits that an answer has.

@@ -30,7 +30,7 @@ pub fn drawing(name: &str, letters: Letters, file: impl Read) -> Result<Drawing,
     let mut bytes = Vec::new();
     file.take(LIMIT as u64 + 1).read_to_end(&mut bytes).map_err(|error: io::Error| input::unreadable(name, &error))?;
     if bytes.len() > LIMIT {
-        return Err(Failure::Drawing(format!("{name}: a drawing of more than {LIMIT} bytes is not cut; split it")));
+        return Err(Failure::Drawing(format!("{name}: a drawing of more than {LIMIT} bytes is not cut; split it, or cut its objects out by a DWG reader")));
     }
     Drawing::new(bytes).map_err(|wrong| Failure::Drawing(format!("{name}: {wrong}")))
 }
@@ -43,28 +43,36 @@ impl DrawingItems {
 
     /// The object's item, if it has one of the kind.
     fn item(&mut self, object: &Object) -> Option<Result<Item, Failure>> {
-        let (origin, payload) = (format!("{}: handle {:X}", self.name, object.handle), self.drawing.payload(object));
         match self.kind {
-            Kind::Prefix => types::entity(object.type_number).map(|_| {
-                let request = PrefixRequest { release: RELEASE, start: object.prefix_start, payload: Payload::Bytes(payload.to_vec()) };
-                Ok(Item { origin, line: None, entry: Entry::Prefix(request) })
-            }),
-            Kind::Hatch if object.type_number != types::HATCH => None,
-            Kind::Hatch => {
-                let wrong = |wrong: String| Some(Err(Failure::Drawing(format!("{origin}: {wrong}"))));
-                let start = match object.body_start(payload) {
-                    Ok(start) => start,
-                    Err(why) => return wrong(why),
-                };
-                let (bytes, why) = object.body(payload, start);
-                let told = why.and_then(wrong);
-                let request = HatchRequest { release: RELEASE, start, payload: Payload::Bytes(bytes.to_vec()), strings: None, lent: None };
-                let item = Item { origin, line: None, entry: Entry::Hatch(request) };
-                if told.is_some() {
-                    self.next = Some(item);
-                    return told;
-                }
-                Some(Ok(item))
+            Kind::Prefix => types::entity(object.type_number).map(|_| Ok(self.prefix(object))),
+            Kind::Hatch => (object.type_number == types::HATCH).then(|| self.hatch(object)),
+        }
+    }
+
+    fn origin(&self, object: &Object) -> String {
+        format!("{}: handle {:X}", self.name, object.handle)
+    }
+
+    fn prefix(&self, object: &Object) -> Item {
+        let payload = Payload::Bytes(self.drawing.payload(object).to_vec());
+        let entry = Entry::Prefix(PrefixRequest { release: RELEASE, start: object.prefix_start, payload });
+        Item { origin: self.origin(object), line: None, entry }
+    }
+
+    /// A hatch whose body ends elsewhere than the drawing says is told first, and the next item then.
+    fn hatch(&mut self, object: &Object) -> Result<Item, Failure> {
+        let (origin, payload) = (self.origin(object), self.drawing.payload(object));
+        let told = |wrong: String| Failure::Drawing(format!("{origin}: {wrong}"));
+        let start = object.body_start(payload).map_err(told)?;
+        let (bytes, wrong) = object.body(payload, start);
+        let wrong = wrong.map(told);
+        let request = HatchRequest { release: RELEASE, start, payload: Payload::Bytes(bytes.to_vec()), strings: None, lent: None };
+        let item = Item { origin, line: None, entry: Entry::Hatch(request) };
+        match wrong {
+            None => Ok(item),
+            Some(wrong) => {
+                self.next = Some(item);
+                Err(wrong)
             }
         }
     }

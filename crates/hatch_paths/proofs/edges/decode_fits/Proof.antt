@@ -17,7 +17,7 @@ use Rattle.hatch_points.specs.Walks.{raw-run}
 use Rattle.hatch_paths.specs.PathWalks.{fits-walk, fitted-raw}
 use Rattle.hatch_points.proofs.Laws.{one-word, refuses, ends, word-then, walks-as, words-kept, onward, kept-same}
 use Rattle.hatch_points.specs.Heads.{count-capped}
-use Rattle.hatch_points.proofs.Lacking.{raw-wordless}
+use Rattle.hatch_points.proofs.NoWords.{raw-wordless}
 use borrow.Author.Needs.{needs}
 use Rattle.hatch_paths.proofs.edges.decode_fits.Statement.{statement}
 use Rattle.hatch_paths.proofs.edges.decode_fits.Tie as tie
@@ -37,19 +37,52 @@ read-count-requires c κs = search needs
 enum-known-n : tie.Need-enum-known-n
 enum-known-n c = search needs
 
+-- ---- the stages of the function, each from a later one
+abbrev entry-from-after-struct-known : tie.After-struct-known → tie.Start
+entry-from-after-struct-known s =
+    let after-slice-known = s .before .before .before in
+    after-slice-known .before .before
+
+abbrev after-raw-run-from-after-slice-known6 : tie.After-slice-known6 → tie.After-raw-run
+after-raw-run-from-after-slice-known6 s =
+    let after-numbers = s .before .before .before in
+    after-numbers .before
+
 put-word-requires : tie.Need-put-word-requires
-put-word-requires c κs = let h = count-capped ((c .before .before .before .before .before .before .before .before .before .before .before .args) .cap) BL (now ((c .before .before .before .before .before .before .before .before .before .before .before .args) .s)) ((c .before .before .before .before .before .before .before .before .before .before .before .args) .at) (read-value _ ((c .before .before .before .before .read-count) .ensures) ((c .before .before .n) .given .1)) in omega (arith, h, (c .before .before .before .before .before .before .before .before .before .before .before .pre) .1 .1)
+put-word-requires c κs =
+    let after-n = c .before .before in
+    let after-read-count = after-n .before .before in
+    let after-struct-known = after-read-count .before .before in
+    let entry = entry-from-after-struct-known after-struct-known in
+    let args = entry .args in
+    let h = count-capped (args .cap) BL (now (args .s)) (args .at) (read-value _ (after-read-count .read-count .ensures)
+    (after-n .n .given .1)) in omega (arith, h, (entry .pre) .1 .1)
 
 fitted-raw-requires : tie.Need-fitted-raw-requires
-fitted-raw-requires c κs = let h = count-capped ((c .before .before .before .before .before .before .before .before .before .before .before .before .before .before .args) .cap) BL (now ((c .before .before .before .before .before .before .before .before .before .before .before .before .before .before .args) .s)) ((c .before .before .before .before .before .before .before .before .before .before .before .before .before .before .args) .at) (read-value _ ((c .before .before .before .before .before .before .before .read-count) .ensures) ((c .before .before .before .before .before .n) .given .1)) in omega (arith, h, (c .before .before .before .before .before .before .before .before .before .before .before .before .before .before .pre) .1 .1)
+fitted-raw-requires c κs =
+    let after-put-word = c .before .before in
+    let after-n = after-put-word .before .before .before in
+    let after-read-count = after-n .before .before in
+    let after-struct-known = after-read-count .before .before in
+    let entry = entry-from-after-struct-known after-struct-known in
+    let args = entry .args in
+    let h = count-capped (args .cap) BL (now (args .s)) (args .at) (read-value _ (after-read-count .read-count .ensures)
+    (after-n .n .given .1)) in omega (arith, h, (entry .pre) .1 .1)
 
 raw-run-requires : tie.Need-raw-run-requires
 raw-run-requires c κs =
-    let a = (c .before .before .before .before .before .before .before .before .before .before .before .before .before .before .before .before .before .args) in
+    let after-fitted-raw = c .before .before in
+    let after-put-word = after-fitted-raw .before .before .before in
+    let after-n = after-put-word .before .before .before in
+    let after-read-count = after-n .before .before in
+    let after-struct-known = after-read-count .before .before in
+    let entry = entry-from-after-struct-known after-struct-known in
+    let a = entry .args in
     let s = now (a .s) in
-    let h = (c .before .before .before .before .before .before .before .before .before .before .before .before .before .before .before .before .before .pre) .0 in
-    let on = onward (bounded (a .cap) BL) 2 (takes-bounded (a .cap) BL 2 takes-BL) s (a .at) (read-value _ ((c .before .before .before .before .before .before .before .before .before .before .read-count) .ensures) ((c .before .before .before .before .before .before .before .before .n) .given .1)) (h .1 .0) in
-    ((h .0, (on .1, (omega (arith, on .0, h .1 .1 .0), omega (arith, on .0, h .1 .1 .1)))), (c .before .before .fitted-raw) .ensures .1)
+    let h = entry .pre .0 in
+    let on = onward (bounded (a .cap) BL) 2 (takes-bounded (a .cap) BL 2 takes-BL) s (a .at)
+    (read-value _ (after-read-count .read-count .ensures) (after-n .n .given .1)) (h .1 .0) in
+    ((h .0, (on .1, (omega (arith, on .0, h .1 .1 .0), omega (arith, on .0, h .1 .1 .1)))), (after-fitted-raw .fitted-raw) .ensures .1)
 
 enum-known-k : tie.Need-enum-known-k
 enum-known-k c = search needs
@@ -66,21 +99,37 @@ same-length-3 c = search needs
 returns : tie.Need-returns
 unfolding fits-walk
 returns c =
-    let a = (c .before .before .before .before .before .before .before .before .before .before .before .before .before .before .before .before .before .before .before .before .before .before .args) in
+    let after-raw-run = after-raw-run-from-after-slice-known6 c in
+    let after-fitted-raw = after-raw-run .before .before .before in
+    let after-put-word = after-fitted-raw .before .before .before in
+    let after-n = after-put-word .before .before .before in
+    let after-read-count = after-n .before .before in
+    let then1 = after-read-count .before in
+    let after-struct-known = then1 .before in
+    let entry = entry-from-after-struct-known after-struct-known in
+    let a = entry .args in
     let s = now (a .s) in
-    let n = (c .before .before .before .before .before .before .before .before .before .before .before .before .before .n) .given .0 .0 in
-    let e = read-value _ ((c .before .before .before .before .before .before .before .before .before .before .before .before .before .before .before .read-count) .ensures) ((c .before .before .before .before .before .before .before .before .before .before .before .before .before .n) .given .1) in
+    let n = after-n .n .given .0 .0 in
+    let e = read-value _ (after-read-count .read-count .ensures) (after-n .n .given .1) in
     walks-as
-    (word-then (raw-run (fitted-raw n)) n (c .before .before .before .before .before .before .before .before .before .before .put-word .ensures)
-    (words-kept _ (c .before .before .before .before .before .before .before .before .before .before .put-word .last .0) (raw-wordless (fitted-raw n) s _) (walks-as ((c .before .before .before .before .raw-run) .ensures) (ap (λ (k : ℕ). (raw-run k) .read s (c .before .before .before .before .before .before .before .before .before .before .before .before .before .n .given .0 .1 .0)) (c .before .before .before .before .before .before .before .fitted-raw .ensures .0)))))
-    (sym (ap (λ (b : Bool). (fits-walk (a .cap) b) .read s (a .at)) ((c .before .before .before .before .before .before .before .before .before .before .before .before .before .before .before .before .if1) .taken) ∙ then-got (bounded (a .cap) BL) _ s e))
+    (word-then (raw-run (fitted-raw n)) n (after-put-word .put-word .ensures)
+    (words-kept _ (after-put-word .put-word .last .0) (raw-wordless (fitted-raw n) s _)
+    (walks-as (after-raw-run .raw-run .ensures) (ap (λ (k : ℕ). (raw-run k) .read s (after-n .n .given .0 .1 .0))
+    (after-fitted-raw .fitted-raw .ensures .0)))))
+    (sym (ap (λ (b : Bool). (fits-walk (a .cap) b) .read s (a .at)) (then1 .if1 .taken) ∙ then-got (bounded (a .cap) BL) _ s e))
 
 returns-2 : tie.Need-returns-2
 unfolding fits-walk
 returns-2 c =
-    let a = (c .before .before .before .before .before .before .before .before .before .before .args) in
+    let after-k = c .before in
+    let after-read-count = after-k .before .before in
+    let then1 = after-read-count .before in
+    let after-struct-known = then1 .before in
+    let entry = entry-from-after-struct-known after-struct-known in
+    let a = entry .args in
     let s = now (a .s) in
-    refuses (ap (λ (b : Bool). (fits-walk (a .cap) b) .read s (a .at)) ((c .before .before .before .before .if1) .taken) ∙ then-refused (bounded (a .cap) BL) _ s (read-refused _ ((c .before .before .before .read-count) .ensures) ((c .before .k) .given .1))) kept-same
+    refuses (ap (λ (b : Bool). (fits-walk (a .cap) b) .read s (a .at)) (then1 .if1 .taken) ∙ then-refused (bounded (a .cap) BL) _ s
+    (read-refused _ (after-read-count .read-count .ensures) (after-k .k .given .1))) kept-same
 
 put-word-requires-2 : tie.Need-put-word-requires-2
 put-word-requires-2 c κs = search needs
@@ -91,12 +140,16 @@ same-length-4 c = search needs
 returns-3 : tie.Need-returns-3
 unfolding fits-walk pure
 returns-3 c =
-    let a = (c .before .before .before .before .before .before .before .before .before .before .args) in
+    let after-put-word2 = c .before .before in
+    let else1 = after-put-word2 .before .before in
+    let after-struct-known = else1 .before in
+    let entry = entry-from-after-struct-known after-struct-known in
+    let a = entry .args in
     let s = now (a .s) in
-    let h = (c .before .before .before .before .before .before .before .before .before .before .pre) .0 in
-    ends (word 0) (ap (λ (b : Bool). (fits-walk (a .cap) b) .read s (a .at)) ((c .before .before .before .before .if1) .left))
-    (record { lists = λ i. lists (now (a .numbers)) (now (a .bits)) ((c .before .before .put-word2) .ensures i); sizes = one-word (a .z) 0 })
-    (h .0, (h .1 .0, (h .1 .1 .0, (c .before .before .before .before .before .before .before .before .before .before .pre) .1 .0)))
+    let h = entry .pre .0 in
+    ends (word 0) (ap (λ (b : Bool). (fits-walk (a .cap) b) .read s (a .at)) (else1 .if1 .left))
+    (record { lists = λ i. lists (now (a .numbers)) (now (a .bits)) (after-put-word2 .put-word2 .ensures i); sizes = one-word (a .z) 0 })
+    (h .0, (h .1 .0, (h .1 .1 .0, (entry .pre) .1 .0)))
 
 pub decode-fits-spec : {M : Type 1} → statement M
 decode-fits-spec =

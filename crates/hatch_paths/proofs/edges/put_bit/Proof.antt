@@ -15,7 +15,7 @@ use Rattle.hatch_points.specs.Gathered.{word}
 use Rattle.hatch_points.specs.Lists.{lists}
 use Rattle.hatch_points.proofs.Laws.{one-word, refuses, ends, onward, kept-same}
 use Rattle.hatch_paths.proofs.EdgeLaws.{bit-read, bit-refused}
-use Rattle.hatch_points.proofs.Lacking.{bit-of, takes-raw}
+use Rattle.hatch_points.proofs.NoWords.{bit-of, takes-raw}
 use borrow.Author.Needs.{needs}
 use Rattle.hatch_paths.proofs.edges.put_bit.Statement.{statement}
 use Rattle.hatch_paths.proofs.edges.put_bit.Tie as tie
@@ -31,7 +31,13 @@ enum-known-v : tie.Need-enum-known-v
 enum-known-v c = search needs
 
 put-word-requires : tie.Need-put-word-requires
-put-word-requires c κs = let h = read-below (raw 1) (raw-below 1) (now ((c .before .before .before .before .before .before .before .args) .s)) ((c .before .before .before .before .before .before .before .args) .at) (read-value _ ((c .before .before .before .before .read-bits) .ensures) ((c .before .before .v) .given .1)) in omega (arith, h)
+put-word-requires c κs =
+    let after-v = c .before .before in
+    let after-read-bits = after-v .before .before in
+    let entry = after-read-bits .before .before .before in
+    let args = entry .args in
+    let h = read-below (raw 1) (raw-below 1) (now (args .s)) (args .at) (read-value _ (after-read-bits .read-bits .ensures)
+    (after-v .v .given .1)) in omega (arith, h)
 
 add-t14 : tie.Need-add-t14
 add-t14 c = search needs
@@ -44,19 +50,29 @@ same-length c = search needs
 
 returns : tie.Need-returns
 returns c =
-    let a = (c .before .before .before .before .before .before .before .before .before .before .before .args) in
+    let after-put-word = c .before .before .before in
+    let after-v = after-put-word .before .before .before in
+    let after-read-bits = after-v .before .before in
+    let entry = after-read-bits .before .before .before in
+    let a = entry .args in
     let s = now (a .s) in
-    let v = (c .before .before .before .before .before .before .v) .given .0 .0 in
-    let e = read-value _ ((c .before .before .before .before .before .before .before .before .read-bits) .ensures) ((c .before .before .before .before .before .before .v) .given .1) in
+    let v = after-v .v .given .0 .0 in
+    let e = read-value _ (after-read-bits .read-bits .ensures) (after-v .v .given .1) in
     let b : bit (eqb 1 v) ≡ v = bit-of v (read-below (raw 1) (raw-below 1) s (a .at) e) in
-    let h = (c .before .before .before .before .before .before .before .before .before .before .before .pre) in
+    let h = entry .pre in
     let on = onward (coded (raw 1)) 1 (takes-raw 1) s (a .at) e (h .1 .0) in
     ends (word (bit (eqb 1 v))) (bit-read s (a .at) e)
-    (record { lists = λ i. lists [] [] (((c .before .before .before .put-word) .ensures ∙ ap (set (now (a .words)) (a .z .words)) (sym b)) i); sizes = one-word (a .z) (bit (eqb 1 v)) })
+    (record { lists = λ i. lists [] [] ((after-put-word .put-word .ensures ∙ ap (set (now (a .words)) (a .z .words)) (sym b)) i); sizes = one-word
+    (a .z) (bit (eqb 1 v)) })
     (h .0, (on .1, (omega (arith, on .0, h .1 .1 .0), omega (arith, on .0, h .1 .1 .1))))
 
 returns-2 : tie.Need-returns-2
-returns-2 c = refuses (bit-refused (now ((c .before .before .before .before .before .before .args) .s)) ((c .before .before .before .before .before .before .args) .at) (read-refused _ ((c .before .before .before .read-bits) .ensures) ((c .before .k) .given .1))) kept-same
+returns-2 c =
+    let after-k = c .before in
+    let after-read-bits = after-k .before .before in
+    let entry = after-read-bits .before .before .before in
+    let args = entry .args in
+    refuses (bit-refused (now (args .s)) (args .at) (read-refused _ (after-read-bits .read-bits .ensures) (after-k .k .given .1))) kept-same
 
 pub put-bit-spec : {M : Type 1} → statement M
 put-bit-spec =

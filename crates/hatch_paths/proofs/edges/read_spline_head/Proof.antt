@@ -45,7 +45,12 @@ value-of-requires-4 c κs = search needs
 
 returns : tie.Need-returns
 unfolding splineHead held
-returns c = rw ((c .value-of4) .ensures, (c .before .value-of3) .ensures, (c .before .before .value-of2) .ensures, (c .before .before .before .value-of) .ensures, (c .before .before .before .before .then-count2) .ensures, (c .before .before .before .before .before .then-count) .ensures, (c .before .before .before .before .before .before .then-bits2) .ensures, (c .before .before .before .before .before .before .before .then-bits) .ensures, (c .before .before .before .before .before .before .before .before .read-bl-u) .ensures)
+returns c =
+    rw ((c .value-of4) .ensures, (c .before .value-of3) .ensures, (c .before .before .value-of2) .ensures,
+    (c .before .before .before .value-of) .ensures, (c .before .before .before .before .then-count2) .ensures,
+    (c .before .before .before .before .before .then-count) .ensures, (c .before .before .before .before .before .before .then-bits2) .ensures,
+    (c .before .before .before .before .before .before .before .then-bits) .ensures,
+    (c .before .before .before .before .before .before .before .before .read-bl-u) .ensures)
 
 pub read-spline-head-spec : {M : Type 1} → statement M
 read-spline-head-spec =

@@ -28,18 +28,51 @@ read-count-requires c κs = search needs
 enum-known-n : tie.Need-enum-known-n
 enum-known-n c = search needs
 
+-- ---- the stages of the function, each from a later one
+abbrev entry-from-after-read-count : tie.After-read-count → tie.Start
+entry-from-after-read-count s =
+    let after-slice-known = s .before .before .before in
+    after-slice-known .before .before
+
+abbrev after-put-word-from-after-decode-edges-arg3 : tie.After-decode-edges-arg3 → tie.After-put-word
+after-put-word-from-after-decode-edges-arg3 s =
+    let after-struct-known = s .before .before .before in
+    after-struct-known .before .before .before
+
+abbrev after-decode-edges-from-after-slice-known7 : tie.After-slice-known7 → tie.After-decode-edges
+after-decode-edges-from-after-slice-known7 s =
+    let after-bits = s .before .before .before in
+    after-bits .before .before .before
+
+abbrev after-put-word-from-after-decode-edges : tie.After-decode-edges → tie.After-put-word
+after-put-word-from-after-decode-edges s =
+    let after-decode-edges-arg = s .before .before .before in
+    let after-words = after-decode-edges-arg .before .before .before in
+    after-words .before
+
 put-word-requires : tie.Need-put-word-requires
-put-word-requires c κs = let h = count-capped ((c .before .before .before .before .before .before .before .before .before .args) .caps .edges) BL (now ((c .before .before .before .before .before .before .before .before .before .args) .s)) ((c .before .before .before .before .before .before .before .before .before .args) .at) (read-value _ ((c .before .before .before .before .read-count) .ensures) ((c .before .before .n) .given .1)) in let m = (c .before .before .before .before .before .before .before .before .before .pre) .1 in omega (arith, h, m .edges)
+put-word-requires c κs =
+    let after-n = c .before .before in
+    let after-read-count = after-n .before .before in
+    let entry = entry-from-after-read-count after-read-count in
+    let args = entry .args in
+    let h = count-capped (args .caps .edges) BL (now (args .s)) (args .at) (read-value _ (after-read-count .read-count .ensures)
+    (after-n .n .given .1)) in let m = entry .pre .1 in omega (arith, h, m .edges)
 
 add-decode-edges : tie.Need-add-decode-edges
 add-decode-edges c = search needs
 
 decode-edges-requires : tie.Need-decode-edges-requires
 decode-edges-requires c κs =
-    let a = (c .before .before .before .before .before .before .before .before .before .before .before .before .before .before .before .before .args) in
-    let h = (c .before .before .before .before .before .before .before .before .before .before .before .before .before .before .before .before .pre) .0 in
-    let on = onward (bounded (a .caps .edges) BL) 2 (takes-bounded (a .caps .edges) BL 2 takes-BL) (now (a .s)) (a .at) (read-value _ ((c .before .before .before .before .before .before .before .before .before .before .before .read-count) .ensures) ((c .before .before .before .before .before .before .before .before .before .n) .given .1)) (h .1 .0) in
-    ((h .0, (on .1, (omega (arith, on .0, h .1 .1 .0), omega (arith, on .0, h .1 .1 .1)))), (c .before .before .before .before .before .before .before .before .before .before .before .before .before .before .before .before .pre) .1)
+    let after-put-word = after-put-word-from-after-decode-edges-arg3 c in
+    let after-n = after-put-word .before .before .before in
+    let after-read-count = after-n .before .before in
+    let entry = entry-from-after-read-count after-read-count in
+    let a = entry .args in
+    let h = entry .pre .0 in
+    let on = onward (bounded (a .caps .edges) BL) 2 (takes-bounded (a .caps .edges) BL 2 takes-BL) (now (a .s)) (a .at)
+    (read-value _ (after-read-count .read-count .ensures) (after-n .n .given .1)) (h .1 .0) in
+    ((h .0, (on .1, (omega (arith, on .0, h .1 .1 .0), omega (arith, on .0, h .1 .1 .1)))), (entry .pre) .1)
 
 enum-known-k : tie.Need-enum-known-k
 enum-known-k c = search needs
@@ -56,15 +89,27 @@ same-length-3 c = search needs
 returns : tie.Need-returns
 unfolding edges-walk
 returns c =
-    let a = (c .before .before .before .before .before .before .before .before .before .before .before .before .before .before .before .before .before .before .before .before .before .before .before .args) in
+    let after-decode-edges = after-decode-edges-from-after-slice-known7 c in
+    let after-put-word = after-put-word-from-after-decode-edges after-decode-edges in
+    let after-n = after-put-word .before .before .before in
+    let after-read-count = after-n .before .before in
+    let entry = entry-from-after-read-count after-read-count in
+    let a = entry .args in
     let s = now (a .s) in
-    let n = (c .before .before .before .before .before .before .before .before .before .before .before .before .before .before .before .before .n) .given .0 .0 in
-    walks-as (word-then (repeated n (edge-walk (a .caps) (a .fits))) n ((c .before .before .before .before .before .before .before .before .before .before .before .before .before .put-word) .ensures) ((c .before .before .before .before .before .before .decode-edges) .ensures))
-    (sym (then-got (bounded (a .caps .edges) BL) _ s (read-value _ ((c .before .before .before .before .before .before .before .before .before .before .before .before .before .before .before .before .before .before .read-count) .ensures) ((c .before .before .before .before .before .before .before .before .before .before .before .before .before .before .before .before .n) .given .1))))
+    let n = after-n .n .given .0 .0 in
+    walks-as (word-then (repeated n (edge-walk (a .caps) (a .fits))) n (after-put-word .put-word .ensures)
+    (after-decode-edges .decode-edges .ensures))
+    (sym (then-got (bounded (a .caps .edges) BL) _ s (read-value _ (after-read-count .read-count .ensures) (after-n .n .given .1))))
 
 returns-2 : tie.Need-returns-2
 unfolding edges-walk
-returns-2 c = refuses (then-refused (bounded ((c .before .before .before .before .before .before .before .before .args) .caps .edges) BL) _ (now ((c .before .before .before .before .before .before .before .before .args) .s)) (read-refused _ ((c .before .before .before .read-count) .ensures) ((c .before .k) .given .1))) kept-same
+returns-2 c =
+    let after-k = c .before in
+    let after-read-count = after-k .before .before in
+    let entry = entry-from-after-read-count after-read-count in
+    let args = entry .args in
+    refuses (then-refused (bounded (args .caps .edges) BL) _ (now (args .s))
+    (read-refused _ (after-read-count .read-count .ensures) (after-k .k .given .1))) kept-same
 
 pub decode-edge-path-spec : {M : Type 1} → statement M
 decode-edge-path-spec =

@@ -13,8 +13,8 @@ use Rattle.hatch_points.specs.Walks.{vertices-walk}
 use Rattle.hatch_paths.specs.PathWalks.{polyline-walk}
 use Rattle.hatch_points.specs.Heads.{resumed}
 use Rattle.hatch_points.proofs.Laws.{walks-as, refuses, words-then, words-kept, kept-same}
-use Rattle.hatch_points.proofs.Lacking.{vertices-wordless}
-use Rattle.hatch_paths.proofs.PolylineHeads.{polyline-rest, polyline-reads, bulge-below, closed-below, stored-words, headed}
+use Rattle.hatch_points.proofs.NoWords.{vertices-wordless}
+use Rattle.hatch_paths.proofs.PolylineHeads.{polyline-after-count, polyline-reads, bulge-below, closed-below, stored-words, head-end}
 use borrow.Author.Needs.{needs}
 use Rattle.hatch_paths.proofs.paths.decode_polyline_path.Statement.{statement}
 use Rattle.hatch_paths.proofs.paths.decode_polyline_path.Tie as tie
@@ -45,27 +45,66 @@ value-of-requires c κs = search needs
 value-of-requires-2 : tie.Need-value-of-requires-2
 value-of-requires-2 c κs = search needs
 
+-- ---- the stages of the function, each from a later one
+abbrev entry-from-after-read-bits : tie.After-read-bits → tie.Start
+entry-from-after-read-bits s =
+    let after-slice-known = s .before .before .before in
+    after-slice-known .before .before
+
+abbrev after-put-polyline-head-from-after-decode-points-arg2 : tie.After-decode-points-arg2 → tie.After-put-polyline-head
+after-put-polyline-head-from-after-decode-points-arg2 s =
+    let after-slice-known4 = s .before .before .before in
+    after-slice-known4 .before .before
+
+abbrev after-decode-points-from-after-slice-known6 : tie.After-slice-known6 → tie.After-decode-points
+after-decode-points-from-after-slice-known6 s =
+    let after-numbers = s .before .before .before in
+    after-numbers .before
+
+abbrev after-put-polyline-head-from-after-decode-points : tie.After-decode-points → tie.After-put-polyline-head
+after-put-polyline-head-from-after-decode-points s =
+    let after-struct-known = s .before .before .before in
+    after-struct-known .before .before .before
+
 put-polyline-head-requires : tie.Need-put-polyline-head-requires
 put-polyline-head-requires c κs =
-    let a = (c .before .before .before .before .before .before .before .before .before .before .before .before .before .args) in
+    let after-value-of = c .before .before in
+    let after-count = after-value-of .before .before in
+    let after-then-count = after-count .before .before in
+    let after-then-bits = after-then-count .before in
+    let after-read-bits = after-then-bits .before in
+    let entry = entry-from-after-read-bits after-read-bits in
+    let a = entry .args in
     let s = now (a .s) in
-    let h = (c .before .before .before .before .before .before .before .before .before .before .before .before .before .pre) .0 in
-    let m = (c .before .before .before .before .before .before .before .before .before .before .before .before .before .pre) .1 in
-    let d = headed s (a .caps) (a .at) ((c .before .before .before .before .before .before .before .before .read-bits) .ensures) ((c .before .before .before .before .before .before .before .then-bits) .ensures) ((c .before .before .before .before .before .before .then-count) .ensures) ((c .before .before .before .before .count) .given .1) (h .1 .0) in
-    let b = bulge-below s (a .caps) (a .at) ((c .before .before .before .before .before .before .before .before .read-bits) .ensures) ((c .before .before .before .before .before .before .before .then-bits) .ensures) ((c .before .before .before .before .before .before .then-count) .ensures) in
-    let k = closed-below s (a .caps) (a .at) ((c .before .before .before .before .before .before .before .before .read-bits) .ensures) ((c .before .before .before .before .before .before .before .then-bits) .ensures) ((c .before .before .before .before .before .before .then-count) .ensures) in
-    (omega (arith, h .0, h .1 .0, h .1 .1 .1), (omega (arith, b, (c .before .before .value-of) .ensures), (omega (arith, k, (c .value-of2) .ensures), omega (arith, d .capped, m .vertices))))
+    let h = entry .pre .0 in
+    let m = entry .pre .1 in
+    let d = head-end s (a .caps) (a .at) (after-read-bits .read-bits .ensures) (after-then-bits .then-bits .ensures)
+    (after-then-count .then-count .ensures) (after-count .count .given .1) (h .1 .0) in
+    let b = bulge-below s (a .caps) (a .at) (after-read-bits .read-bits .ensures) (after-then-bits .then-bits .ensures)
+    (after-then-count .then-count .ensures) in
+    let k = closed-below s (a .caps) (a .at) (after-read-bits .read-bits .ensures) (after-then-bits .then-bits .ensures)
+    (after-then-count .then-count .ensures) in
+    (omega (arith, h .0, h .1 .0, h .1 .1 .1), (omega (arith, b, (after-value-of .value-of) .ensures),
+    (omega (arith, k, (c .value-of2) .ensures), omega (arith, d .capped, m .vertices))))
 
 add-decode-points : tie.Need-add-decode-points
 add-decode-points c = search needs
 
 decode-points-requires : tie.Need-decode-points-requires
 decode-points-requires c κs =
-    let a = (c .before .before .before .before .before .before .before .before .before .before .before .before .before .before .before .before .before .before .before .args) in
+    let after-put-polyline-head = after-put-polyline-head-from-after-decode-points-arg2 c in
+    let after-value-of = after-put-polyline-head .before .before .before in
+    let after-count = after-value-of .before .before in
+    let after-then-count = after-count .before .before in
+    let after-then-bits = after-then-count .before in
+    let after-read-bits = after-then-bits .before in
+    let entry = entry-from-after-read-bits after-read-bits in
+    let a = entry .args in
     let s = now (a .s) in
-    let h = (c .before .before .before .before .before .before .before .before .before .before .before .before .before .before .before .before .before .before .before .pre) .0 in
-    let m = (c .before .before .before .before .before .before .before .before .before .before .before .before .before .before .before .before .before .before .before .pre) .1 in
-    let d = headed s (a .caps) (a .at) ((c .before .before .before .before .before .before .before .before .before .before .before .before .before .before .read-bits) .ensures) ((c .before .before .before .before .before .before .before .before .before .before .before .before .before .then-bits) .ensures) ((c .before .before .before .before .before .before .before .before .before .before .before .before .then-count) .ensures) ((c .before .before .before .before .before .before .before .before .before .before .count) .given .1) (h .1 .0) in
+    let h = entry .pre .0 in
+    let m = entry .pre .1 in
+    let d = head-end s (a .caps) (a .at) (after-read-bits .read-bits .ensures) (after-then-bits .then-bits .ensures)
+    (after-then-count .then-count .ensures) (after-count .count .given .1) (h .1 .0) in
     ((h .0, (d .inside, (omega (arith, d .onward, h .1 .1 .0), omega (arith, d .onward, h .1 .1 .1)))), omega (arith, d .capped, m .vertices))
 
 enum-known-count-2 : tie.Need-enum-known-count-2
@@ -82,28 +121,47 @@ same-length-3 c = search needs
 
 returns : tie.Need-returns
 returns c =
-    let a = (c .before .before .before .before .before .before .before .before .before .before .before .before .before .before .before .before .before .before .before .before .before .before .before .before .args) in
+    let after-decode-points = after-decode-points-from-after-slice-known6 c in
+    let after-put-polyline-head = after-put-polyline-head-from-after-decode-points after-decode-points in
+    let after-value-of2 = after-put-polyline-head .before in
+    let after-value-of = after-value-of2 .before .before in
+    let after-count = after-value-of .before .before in
+    let after-then-count = after-count .before .before in
+    let after-then-bits = after-then-count .before in
+    let after-read-bits = after-then-bits .before in
+    let entry = entry-from-after-read-bits after-read-bits in
+    let a = entry .args in
     let s = now (a .s) in
-    let n = (c .before .before .before .before .before .before .before .before .before .before .before .before .before .before .before .count) .given .0 .0 in
-    let x = (c .before .before .before .before .before .before .before .before .before .before .before .before .before .before .before .before .before .before .before .read-bits) .result in
-    let y = (c .before .before .before .before .before .before .before .before .before .before .before .before .before .before .before .before .before .before .then-bits) .result in
-    let e₁ = (c .before .before .before .before .before .before .before .before .before .before .before .before .before .before .before .before .before .before .before .read-bits) .ensures in
-    let e₂ = (c .before .before .before .before .before .before .before .before .before .before .before .before .before .before .before .before .before .before .then-bits) .ensures in
-    let e₃ = (c .before .before .before .before .before .before .before .before .before .before .before .before .before .before .before .before .before .then-count) .ensures in
+    let n = after-count .count .given .0 .0 in
+    let x = after-read-bits .read-bits .result in
+    let y = after-then-bits .then-bits .result in
+    let e₁ = after-read-bits .read-bits .ensures in
+    let e₂ = after-then-bits .then-bits .ensures in
+    let e₃ = after-then-count .then-count .ensures in
     walks-as
     (words-then (vertices-walk (eqb 1 (valueOf x)) n) (bit (eqb 1 (valueOf x)) ∷ (bit (eqb 1 (valueOf y)) ∷ (n ∷ []))) 3 refl
-    ((c .before .before .before .before .before .before .before .before .before .before .put-polyline-head) .ensures ∙ ap₂ (λ (i j : ℕ). sets (now (a .words)) (a .z .words) (i ∷ (j ∷ (n ∷ [])))) ((c .before .before .before .before .before .before .before .before .before .before .before .before .before .value-of) .ensures) ((c .before .before .before .before .before .before .before .before .before .before .before .value-of2) .ensures)
+    (after-put-polyline-head .put-polyline-head .ensures ∙ ap₂ (λ (i j : ℕ). sets (now (a .words)) (a .z .words) (i ∷ (j ∷ (n ∷ []))))
+    (after-value-of .value-of .ensures) (after-value-of2 .value-of2 .ensures)
     ∙ ap (sets (now (a .words)) (a .z .words)) (stored-words s (a .caps) (a .at) e₁ e₂ e₃ n))
-    (words-kept _ ((c .before .before .before .before .before .before .before .before .before .before .put-polyline-head) .last .0) (vertices-wordless (eqb 1 (valueOf x)) n s _)
-    (walks-as ((c .before .before .before .before .decode-points) .ensures) (ap (λ (m : ℕ). (vertices-walk (eqb 1 m) n) .read s ((c .before .before .before .before .before .before .before .before .before .before .before .before .before .before .before .count) .given .0 .1 .0)) ((c .before .before .before .before .before .before .before .before .before .before .before .before .before .value-of) .ensures)))))
-    (sym (polyline-reads s (a .caps) (a .at) e₁ e₂ e₃ ∙ ap (resumed s (polyline-rest s (a .caps) (a .at) e₁ e₂ e₃)) ((c .before .before .before .before .before .before .before .before .before .before .before .before .before .before .before .count) .given .1)))
+    (words-kept _ (after-put-polyline-head .put-polyline-head .last .0) (vertices-wordless (eqb 1 (valueOf x)) n s _)
+    (walks-as (after-decode-points .decode-points .ensures) (ap (λ (m : ℕ). (vertices-walk (eqb 1 m) n) .read s (after-count .count .given .0 .1 .0))
+    (after-value-of .value-of .ensures)))))
+    (sym (polyline-reads s (a .caps) (a .at) e₁ e₂ e₃ ∙ ap (resumed s (polyline-after-count s (a .caps) (a .at) e₁ e₂ e₃))
+    (after-count .count .given .1)))
 
 returns-2 : tie.Need-returns-2
 returns-2 c =
-    let a = (c .before .before .before .before .before .before .before .before .before .before .args) in
+    let after-count2 = c .before in
+    let after-then-count = after-count2 .before .before in
+    let after-then-bits = after-then-count .before in
+    let after-read-bits = after-then-bits .before in
+    let entry = entry-from-after-read-bits after-read-bits in
+    let a = entry .args in
     let s = now (a .s) in
-    refuses (polyline-reads s (a .caps) (a .at) ((c .before .before .before .before .before .read-bits) .ensures) ((c .before .before .before .before .then-bits) .ensures) ((c .before .before .before .then-count) .ensures)
-    ∙ ap (resumed s (polyline-rest s (a .caps) (a .at) ((c .before .before .before .before .before .read-bits) .ensures) ((c .before .before .before .before .then-bits) .ensures) ((c .before .before .before .then-count) .ensures))) ((c .before .count2) .given .1)) kept-same
+    refuses (polyline-reads s (a .caps) (a .at) (after-read-bits .read-bits .ensures) (after-then-bits .then-bits .ensures)
+    (after-then-count .then-count .ensures)
+    ∙ ap (resumed s (polyline-after-count s (a .caps) (a .at) (after-read-bits .read-bits .ensures) (after-then-bits .then-bits .ensures)
+    (after-then-count .then-count .ensures))) (after-count2 .count2 .given .1)) kept-same
 
 pub decode-polyline-path-spec : {M : Type 1} → statement M
 decode-polyline-path-spec =

@@ -29,7 +29,13 @@ enum-known-n : tie.Need-enum-known-n
 enum-known-n c = search needs
 
 put-word-requires : tie.Need-put-word-requires
-put-word-requires c κs = let h = count-capped ((c .before .before .before .before .before .before .before .args) .cap) BL (now ((c .before .before .before .before .before .before .before .args) .s)) ((c .before .before .before .before .before .before .before .args) .at) (read-value _ ((c .before .before .before .before .read-count) .ensures) ((c .before .before .n) .given .1)) in omega (arith, h, (c .before .before .before .before .before .before .before .pre) .1)
+put-word-requires c κs =
+    let after-n = c .before .before in
+    let after-read-count = after-n .before .before in
+    let entry = after-read-count .before .before .before in
+    let args = entry .args in
+    let h = count-capped (args .cap) BL (now (args .s)) (args .at) (read-value _ (after-read-count .read-count .ensures)
+    (after-n .n .given .1)) in omega (arith, h, (entry .pre) .1)
 
 add-t15 : tie.Need-add-t15
 add-t15 c = search needs
@@ -42,17 +48,28 @@ same-length c = search needs
 
 returns : tie.Need-returns
 returns c =
-    let a = (c .before .before .before .before .before .before .before .before .before .before .before .args) in
+    let after-put-word = c .before .before .before in
+    let after-n = after-put-word .before .before .before in
+    let after-read-count = after-n .before .before in
+    let entry = after-read-count .before .before .before in
+    let a = entry .args in
     let s = now (a .s) in
-    let h = (c .before .before .before .before .before .before .before .before .before .before .before .pre) .0 in
-    let n = (c .before .before .before .before .before .before .n) .given .0 .0 in
-    let e = read-value _ ((c .before .before .before .before .before .before .before .before .read-count) .ensures) ((c .before .before .before .before .before .before .n) .given .1) in
+    let h = entry .pre .0 in
+    let n = after-n .n .given .0 .0 in
+    let e = read-value _ (after-read-count .read-count .ensures) (after-n .n .given .1) in
     let on = onward (bounded (a .cap) BL) 2 (takes-bounded (a .cap) BL 2 takes-BL) s (a .at) e (h .1 .0) in
-    ends (word n) (handles-read (a .cap) s (a .at) e) (record { lists = λ i. lists [] [] ((c .before .before .before .put-word) .ensures i); sizes = one-word (a .z) n })
+    ends (word n) (handles-read (a .cap) s (a .at) e) (record { lists = λ i. lists [] [] (after-put-word .put-word .ensures i); sizes = one-word
+    (a .z) n })
     (h .0, (on .1, (omega (arith, on .0, h .1 .1 .0), omega (arith, on .0, h .1 .1 .1))))
 
 returns-2 : tie.Need-returns-2
-returns-2 c = refuses (handles-refused ((c .before .before .before .before .before .before .args) .cap) (now ((c .before .before .before .before .before .before .args) .s)) ((c .before .before .before .before .before .before .args) .at) (read-refused _ ((c .before .before .before .read-count) .ensures) ((c .before .k) .given .1))) kept-same
+returns-2 c =
+    let after-k = c .before in
+    let after-read-count = after-k .before .before in
+    let entry = after-read-count .before .before .before in
+    let args = entry .args in
+    refuses (handles-refused (args .cap) (now (args .s)) (args .at) (read-refused _ (after-read-count .read-count .ensures) (after-k .k .given .1)))
+    kept-same
 
 pub put-handle-count-spec : {M : Type 1} → statement M
 put-handle-count-spec =

@@ -30,12 +30,28 @@ put-word-requires-3 c κs = search needs
 same-length : tie.Need-same-length
 same-length c = search needs
 
+-- ---- the stages of the function, each from a later one
+abbrev after-put-word2-from-after-put-word3 : tie.After-put-word3 → tie.After-put-word2
+after-put-word2-from-after-put-word3 s =
+    let after-words2 = s .before .before .before in
+    after-words2 .before
+
+abbrev after-put-word-from-after-put-word2 : tie.After-put-word2 → tie.After-put-word
+after-put-word-from-after-put-word2 s =
+    let after-words = s .before .before .before in
+    after-words .before
+
 returns : tie.Need-returns
 returns c =
-    let a = (c .before .before .before .before .before .before .before .before .before .before .before .before .before .args) in
+    let after-put-word3 = c .before .before in
+    let after-put-word2 = after-put-word2-from-after-put-word3 after-put-word3 in
+    let after-put-word = after-put-word-from-after-put-word2 after-put-word2 in
+    let entry = after-put-word .before .before .before in
+    let a = entry .args in
     let e₁ : a .at + 1 ≡ suc (a .at) = omega arith in
     let e₂ : a .at + 2 ≡ suc (suc (a .at)) = omega arith in
-    (c .before .before .put-word3) .ensures ∙ ap₂ (λ (l : List ℕ) (k : ℕ). set l k (a .n)) ((c .before .before .before .before .before .before .put-word2) .ensures ∙ ap₂ (λ (l : List ℕ) (k : ℕ). set l k (a .closed)) ((c .before .before .before .before .before .before .before .before .before .before .put-word) .ensures) e₁) e₂
+    after-put-word3 .put-word3 .ensures ∙ ap₂ (λ (l : List ℕ) (k : ℕ). set l k (a .n))
+    (after-put-word2 .put-word2 .ensures ∙ ap₂ (λ (l : List ℕ) (k : ℕ). set l k (a .closed)) (after-put-word .put-word .ensures) e₁) e₂
 
 pub put-polyline-head-spec : {M : Type 1} → statement M
 put-polyline-head-spec =

@@ -18,7 +18,12 @@ bounds-check-requires : tie.Need-bounds-check-requires
 bounds-check-requires c κs = search needs
 
 returns : tie.Need-returns
-returns c = (c .bounds-check) .ensures ∙ ap (boundsOf (now ((c .before .before .before .args) .s)) ((c .before .before .before .args) .cap)) ((c .before .read-bs-u) .ensures) ∙ bounds-bounded ((c .before .before .before .args) .cap) BS (now ((c .before .before .before .args) .s)) ((c .before .before .before .args) .at)
+returns c =
+    let after-read-bs-u = c .before in
+    let entry = after-read-bs-u .before .before in
+    let args = entry .args in
+    c .bounds-check .ensures ∙ ap (boundsOf (now (args .s)) (args .cap)) (after-read-bs-u .read-bs-u .ensures) ∙ bounds-bounded (args .cap) BS
+    (now (args .s)) (args .at)
 
 pub read-short-count-spec : {M : Type 1} → statement M
 read-short-count-spec = tie.close (tie.spec read-bs-u-requires bounds-check-requires returns)

@@ -21,10 +21,18 @@ enum-known-prior-2 : tie.Need-enum-known-prior-2
 enum-known-prior-2 c = search needs
 
 returns : tie.Need-returns
-returns c = (c .read-count) .ensures ∙ ap (thenRead ((bounded ((c .before .before .before .before .before .args) .cap) BL) .read (now ((c .before .before .before .before .before .args) .s)))) (sym ((c .before .before .prior) .given .1))
+returns c =
+    let after-prior = c .before .before in
+    let entry = after-prior .before .before .before in
+    let args = entry .args in
+    c .read-count .ensures ∙ ap (thenRead ((bounded (args .cap) BL) .read (now (args .s)))) (sym (after-prior .prior .given .1))
 
 returns-2 : tie.Need-returns-2
-returns-2 c = ap (thenRead ((bounded ((c .before .before .before .before .args) .cap) BL) .read (now ((c .before .before .before .before .args) .s)))) (sym ((c .before .prior2) .given .1))
+returns-2 c =
+    let after-prior2 = c .before in
+    let entry = after-prior2 .before .before .before in
+    let args = entry .args in
+    ap (thenRead ((bounded (args .cap) BL) .read (now (args .s)))) (sym (after-prior2 .prior2 .given .1))
 
 pub then-count-spec : {M : Type 1} → statement M
 then-count-spec =

@@ -36,13 +36,28 @@ enum-known-p c = search needs
 stores-requires : tie.Need-stores-requires
 stores-requires c κs = search needs
 
+-- ---- the stages of the function, each from a later one
+abbrev entry-from-after-skip-bytes : tie.After-skip-bytes → tie.Start
+entry-from-after-skip-bytes s =
+    let after-shared-slice-known = s .before .before .before in
+    after-shared-slice-known .before
+
+abbrev after-put-run-from-after-struct-known : tie.After-struct-known → tie.After-put-run
+after-put-run-from-after-struct-known s =
+    let after-slice-known3 = s .before .before .before in
+    after-slice-known3 .before .before
+
 put-run-requires : tie.Need-put-run-requires
 put-run-requires c κs =
-    let a = (c .before .before .before .before .before .before .before .before .before .before .args) in
-    let t = passed-there (now (a .s)) (8 * a .n) (a .at) ((c .before .before .before .before .before .before .skip-bytes) .ensures) ((c .before .before .before .before .p) .given .1) in
-    let h = (c .before .before .before .before .before .before .before .before .before .before .pre) .0 in
-    let w = (c .before .before .before .before .before .before .before .before .before .before .pre) .1 in
-    (h .0, (omega (arith, t .fits, (c .before .before .stores) .ensures), omega (arith, h .0, h .1 .0, h .1 .1 .0, w, (c .before .before .stores) .ensures)))
+    let after-stores = c .before .before in
+    let after-p = after-stores .before .before in
+    let after-skip-bytes = after-p .before .before in
+    let entry = entry-from-after-skip-bytes after-skip-bytes in
+    let a = entry .args in
+    let t = passed-there (now (a .s)) (8 * a .n) (a .at) (after-skip-bytes .skip-bytes .ensures) (after-p .p .given .1) in
+    let h = entry .pre .0 in
+    let w = entry .pre .1 in
+    (h .0, (omega (arith, t .fits, (after-stores .stores) .ensures), omega (arith, h .0, h .1 .0, h .1 .1 .0, w, (after-stores .stores) .ensures)))
 
 add-t14 : tie.Need-add-t14
 add-t14 c = search needs
@@ -58,20 +73,25 @@ same-length-2 c = search needs
 
 returns : tie.Need-returns
 returns c =
-    let a = (c .before .before .before .before .before .before .before .before .before .before .before .before .before .before .before .before .args) in
+    let after-put-run = after-put-run-from-after-struct-known c in
+    let after-stores = after-put-run .before .before .before in
+    let after-p = after-stores .before .before in
+    let after-skip-bytes = after-p .before .before in
+    let entry = entry-from-after-skip-bytes after-skip-bytes in
+    let a = entry .args in
     let s = now (a .s) in
     let z = a .z in
-    let t = passed-there s (8 * a .n) (a .at) ((c .before .before .before .before .before .before .before .before .before .before .before .before .skip-bytes) .ensures) ((c .before .before .before .before .before .before .before .before .before .before .p) .given .1) in
-    let h = (c .before .before .before .before .before .before .before .before .before .before .before .before .before .before .before .before .pre) .0 in
-    let m = (c .before .before .before .before .before .before .before .before .stores) .result in
-    let d = (c .before .before .before .before .before .before .before .before .stores) .ensures in
-    let e : a .at + 64 * a .n ≡ (c .before .before .before .before .before .before .before .before .before .before .p) .given .0 .0 = omega (arith, t .next) in
+    let t = passed-there s (8 * a .n) (a .at) (after-skip-bytes .skip-bytes .ensures) (after-p .p .given .1) in
+    let h = entry .pre .0 in
+    let m = after-stores .stores .result in
+    let d = after-stores .stores .ensures in
+    let e : a .at + 64 * a .n ≡ (after-p .p) .given .0 .0 = omega (arith, t .next) in
     ends (numbers (rawAt s (a .at) (a .n))) (raw-there s (a .n) (a .at) (omega (arith, t .fits)) ∙ ap (got (numbers (rawAt s (a .at) (a .n)))) e)
     (record {
       lists =
           λ i. lists
-          (((c .before .before .before .before .before .put-run) .ensures .0 ∙ doubles-enough s (a .at) (a .n) m (z .numbers) (now (a .numbers)) (now (a .bits)) d) i)
-          (((c .before .before .before .before .before .put-run) .ensures .1 ∙ bits-enough s (a .at) (a .n) m (z .numbers) (now (a .numbers)) (now (a .bits)) d) i)
+          ((after-put-run .put-run .ensures .0 ∙ doubles-enough s (a .at) (a .n) m (z .numbers) (now (a .numbers)) (now (a .bits)) d) i)
+          ((after-put-run .put-run .ensures .1 ∙ bits-enough s (a .at) (a .n) m (z .numbers) (now (a .numbers)) (now (a .bits)) d) i)
           [];
       sizes =
           ap (λ (k : ℕ). record { numbers = z .numbers + k; words = z .words; derived = z .derived }) (sym (length-raw s (a .at) (a .n)))
@@ -81,9 +101,12 @@ returns c =
 
 returns-2 : tie.Need-returns-2
 returns-2 c =
-    let a = (c .before .before .before .before .before .before .before .args) in
+    let after-k = c .before in
+    let after-skip-bytes = after-k .before .before in
+    let entry = entry-from-after-skip-bytes after-skip-bytes in
+    let a = entry .args in
     let s = now (a .s) in
-    let t = passed-short s (8 * a .n) (a .at) ((c .before .before .before .skip-bytes) .ensures) ((c .before .k) .given .1) in
+    let t = passed-short s (8 * a .n) (a .at) (after-skip-bytes .skip-bytes .ensures) (after-k .k .given .1) in
     refuses (raw-short s (a .n) (a .at) (omega (arith, t .misses)) ∙ ap₂ refused (sym (t .why)) (sym (t .stop))) kept-same
 
 pub raw-run-spec : {M : Type 1} → statement M

@@ -27,9 +27,27 @@ same-length c = search needs
 same-length-2 : tie.Need-same-length-2
 same-length-2 c = search needs
 
+-- ---- the stages of the function, each from a later one
+abbrev after-decode-vertices-from-after-slice-known4 : tie.After-slice-known4 → tie.After-decode-vertices
+after-decode-vertices-from-after-slice-known4 s =
+    let after-numbers = s .before .before .before in
+    after-numbers .before
+
+abbrev after-raw-run-from-after-slice-known6 : tie.After-slice-known6 → tie.After-raw-run
+after-raw-run-from-after-slice-known6 s =
+    let after-numbers2 = s .before .before .before in
+    after-numbers2 .before
+
 returns : tie.Need-returns
 unfolding vertices-walk
-returns c = walks-as ((c .before .before .before .before .decode-vertices) .ensures) (ap (λ (b : Bool). (vertices-walk b ((c .before .before .before .before .before .before .before .before .before .before .before .args) .n)) .read (now ((c .before .before .before .before .before .before .before .before .before .before .before .args) .s)) ((c .before .before .before .before .before .before .before .before .before .before .before .args) .at)) (sym ((c .before .before .before .before .before .before .before .if1) .taken)))
+returns c =
+    let after-decode-vertices = after-decode-vertices-from-after-slice-known4 c in
+    let then1 = after-decode-vertices .before .before .before in
+    let after-slice-known2 = then1 .before in
+    let entry = after-slice-known2 .before .before .before in
+    let args = entry .args in
+    walks-as (after-decode-vertices .decode-vertices .ensures) (ap (λ (b : Bool). (vertices-walk b (args .n)) .read (now (args .s)) (args .at))
+    (sym (then1 .if1 .taken)))
 
 mul-raw-run : tie.Need-mul-raw-run
 mul-raw-run c = search needs
@@ -45,7 +63,14 @@ same-length-4 c = search needs
 
 returns-2 : tie.Need-returns-2
 unfolding vertices-walk
-returns-2 c = walks-as ((c .before .before .before .before .raw-run) .ensures) (ap (λ (b : Bool). (vertices-walk b ((c .before .before .before .before .before .before .before .before .before .before .before .args) .n)) .read (now ((c .before .before .before .before .before .before .before .before .before .before .before .args) .s)) ((c .before .before .before .before .before .before .before .before .before .before .before .args) .at)) (sym ((c .before .before .before .before .before .before .before .if1) .left)))
+returns-2 c =
+    let after-raw-run = after-raw-run-from-after-slice-known6 c in
+    let else1 = after-raw-run .before .before .before in
+    let after-slice-known2 = else1 .before in
+    let entry = after-slice-known2 .before .before .before in
+    let args = entry .args in
+    walks-as (after-raw-run .raw-run .ensures) (ap (λ (b : Bool). (vertices-walk b (args .n)) .read (now (args .s)) (args .at))
+    (sym (else1 .if1 .left)))
 
 pub decode-points-spec : {M : Type 1} → statement M
 decode-points-spec =

@@ -4,7 +4,7 @@ use mathlib.Core.List.{[], _∷_}
 use Prim.Native.Nat.{ℕ, _+_, _-_, _≤_, _<_}
 use native.Mathlib.Omega.{arith}
 use denote.Ref.{now}
-use Rattle.hatch_points.specs.Vertices.{vertexAt, Extra}
+use Rattle.hatch_points.specs.Vertices.{vertexAt, ExtraPassed}
 use Rattle.hatch_points.specs.declared.lists.Sizes.{Sizes}
 use Rattle.hatch_points.specs.Gathered.{numbers}
 use Rattle.hatch_points.specs.Walks.{vertex-walk}
@@ -16,7 +16,7 @@ use Rattle.hatch_points.proofs.vertices.pass_vertices.Statement.{statem
 use Rattle.hatch_points.proofs.vertices.pass_vertices.Tie as tie
 use Rattle.hatch_points.proofs.vertices.pass_vertices.Reads as reads
 use Rattle.hatch_points.proofs.vertices.pass_vertices.Lts as lts
-use Rattle.hatch_points.proofs.vertices.read_extra.Reads as read-extra-reads
+use Rattle.hatch_points.proofs.vertices.pass_vertex.Reads as pass-vertex-reads
 
 abbrev Inv-loop : tie.InvT-loop
 Inv-loop s at n z p₀ used₀ i₀ p used i =
@@ -28,8 +28,8 @@ abbrev μ-loop : tie.MeasureT-loop
 loop-holds : tie.Need-loop-holds Inv-loop μ-loop
 loop-holds c = start vertex-walk (now (c .before .args .s)) (c .before .pre)
 
-read-extra-requires : tie.Need-read-extra-requires Inv-loop μ-loop
-read-extra-requires c κs = let h = c .before .loop .inv .ready in (h .0, h .1 .0)
+pass-vertex-requires : tie.Need-pass-vertex-requires Inv-loop μ-loop
+pass-vertex-requires c κs = let h = c .before .loop .inv .ready in (h .0, h .1 .0)
 
 enum-known-q : tie.Need-enum-known-q Inv-loop μ-loop
 enum-known-q c = search needs
@@ -45,10 +45,12 @@ enum-known-k c = search needs
 
 returns : tie.Need-returns Inv-loop μ-loop
 returns c =
-    let called = c .before .before .before in
+    let after-k = c .before in
+    let after-pass-vertex = after-k .before .before in
+    let called = after-pass-vertex in
     let l = called .before .before .loop in
     let s = now (called .before .before .before .before .args .s) in
-    let o = subst (Extra s (l .p)) (c .before .k .given .1) (called .read-extra .ensures) in
+    let o = subst (ExtraPassed s (l .p)) (after-k .k .given .1) (called .pass-vertex .ensures) in
     loop-refuses vertex-walk s (l .inv) (called .before .loop-test .taken) o kept-same
 
 add-i : tie.Need-add-i Inv-loop μ-loop
@@ -59,20 +61,25 @@ loop-less c = omega arith
 
 loop-again : tie.Need-loop-again Inv-loop μ-loop
 loop-again c =
-    let called = c .before .before .before in
+    let after-q = c .before in
+    let after-pass-vertex = after-q .before .before in
+    let called = after-pass-vertex in
     let l = called .before .before .loop in
     let a = called .before .before .before .before .args in
     let s = now (a .s) in
     let y : Sizes = record { numbers = l .used; words = a .z .words; derived = a .z .derived } in
-    let t = subst (Extra s (l .p)) (c .before .q .given .1) (called .read-extra .ensures) in
-    let v = vertexAt s (l .p) (c .before .q .given .0 .0) in
+    let t = subst (ExtraPassed s (l .p)) (after-q .q .given .1) (called .pass-vertex .ensures) in
+    let v = vertexAt s (l .p) (t .0) in
     let h = l .inv .ready in
-    next vertex-walk s (l .inv) (numbers v) (called .before .loop-test .taken) (t .read)
+    next vertex-walk s (l .inv) (numbers v) (called .before .loop-test .taken) (t .1 .read)
     (record { lists = refl; sizes = more-numbers y v })
-    (h .0, (t .inside, (omega (arith, t .onward, h .1 .1 .0), omega (arith, t .onward, h .1 .1 .1))))
+    (h .0, (t .1 .inside, (omega (arith, t .1 .onward, h .1 .1 .0), omega (arith, t .1 .onward, h .1 .1 .1))))
 
 returns-2 : tie.Need-returns-2 Inv-loop μ-loop
-returns-2 c = loop-ends vertex-walk (now (c .before .before .before .args .s)) (c .before .loop .inv) (c .loop-test .left)
+returns-2 c =
+    let at-loop = c .before in
+    let entry = at-loop .before .before in
+    loop-ends vertex-walk (now (entry .args .s)) (at-loop .loop .inv) (c .loop-test .left)
 
 pub pass-vertices-spec : {M : Type 1} → statement M
 pass-vertices-spec =
@@ -81,7 +88,7 @@ pass-vertices-spec =
     Inv-loop
     μ-loop
     loop-holds
-    read-extra-requires
+    pass-vertex-requires
     enum-known-q
     add-used
     enum-known-k

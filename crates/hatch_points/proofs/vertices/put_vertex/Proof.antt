@@ -45,11 +45,42 @@ same-length c = search needs
 same-length-2 : tie.Need-same-length-2
 same-length-2 c = search needs
 
+-- ---- the stages of the function, each from a later one
+abbrev after-put-number3-from-after-slice-known8 : tie.After-slice-known8 → tie.After-put-number3
+after-put-number3-from-after-slice-known8 s =
+    let after-numbers3 = s .before .before .before in
+    after-numbers3 .before
+
+abbrev after-put-number2-from-after-put-number3 : tie.After-put-number3 → tie.After-put-number2
+after-put-number2-from-after-put-number3 s =
+    let after-slice-known6 = s .before .before .before in
+    let after-numbers2 = after-slice-known6 .before .before .before in
+    after-numbers2 .before
+
+abbrev after-put-number-from-after-low-at2 : tie.After-low-at2 → tie.After-put-number
+after-put-number-from-after-low-at2 s =
+    let after-slice-known4 = s .before .before .before in
+    let after-numbers = after-slice-known4 .before .before .before in
+    after-numbers .before
+
+abbrev entry-from-after-low-at : tie.After-low-at → tie.Start
+entry-from-after-low-at s =
+    let after-slice-known2 = s .before .before .before in
+    after-slice-known2 .before .before .before
+
 returns : tie.Need-returns
 returns c =
-    let a = (c .before .before .before .before .before .before .before .before .before .before .before .before .before .before .before .before .before .before .before .before .before .before .before .before .before .before .args) in (
-      three (ofBits binary64) (now (a .numbers)) (a .from) (a .extra) ((c .before .before .before .before .before .before .before .before .before .before .before .before .before .before .before .before .before .before .before .put-number) .ensures .0) ((c .before .before .before .before .before .before .before .before .before .before .before .before .before .before .before .before .before .before .before .before .low-at) .ensures) ((c .before .before .before .before .before .before .before .before .before .before .before .put-number2) .ensures .0) ((c .before .before .before .before .before .before .before .before .before .before .before .before .low-at2) .ensures) ((c .before .before .before .before .put-number3) .ensures .0),
-      three (λ x. x) (now (a .bits)) (a .from) (a .extra) ((c .before .before .before .before .before .before .before .before .before .before .before .before .before .before .before .before .before .before .before .put-number) .ensures .1) ((c .before .before .before .before .before .before .before .before .before .before .before .before .before .before .before .before .before .before .before .before .low-at) .ensures) ((c .before .before .before .before .before .before .before .before .before .before .before .put-number2) .ensures .1) ((c .before .before .before .before .before .before .before .before .before .before .before .before .low-at2) .ensures) ((c .before .before .before .before .put-number3) .ensures .1),
+    let after-put-number3 = after-put-number3-from-after-slice-known8 c in
+    let after-put-number2 = after-put-number2-from-after-put-number3 after-put-number3 in
+    let after-low-at2 = after-put-number2 .before in
+    let after-put-number = after-put-number-from-after-low-at2 after-low-at2 in
+    let after-low-at = after-put-number .before in
+    let entry = entry-from-after-low-at after-low-at in
+    let a = (entry .args) in (
+      three (ofBits binary64) (now (a .numbers)) (a .from) (a .extra) (after-put-number .put-number .ensures .0) (after-low-at .low-at .ensures)
+          (after-put-number2 .put-number2 .ensures .0) (after-low-at2 .low-at2 .ensures) (after-put-number3 .put-number3 .ensures .0),
+      three (λ x. x) (now (a .bits)) (a .from) (a .extra) (after-put-number .put-number .ensures .1) (after-low-at .low-at .ensures)
+          (after-put-number2 .put-number2 .ensures .1) (after-low-at2 .low-at2 .ensures) (after-put-number3 .put-number3 .ensures .1),
     )
 
 pub put-vertex-spec : {M : Type 1} → statement M

@@ -1,7 +1,6 @@
--- The point is there or it is not, by one comparison; behind it the double decides.
-use mathlib.Core.Path.{_≡_, refl, sym, ap, ap₂, _∙_}
+-- The point is there or it is not, by one comparison; behind it the double decides, whichever way it is read.
+use mathlib.Core.Path.{_≡_, sym, ap₂, _∙_}
 use native.Mathlib.Omega.{arith}
-use Prim.Native.Nat.{ℕ, _+_, _*_}
 use denote.Ref.{now}
 use Rattle.bitcursor.specs.Reading.{refused}
 use Rattle.bitcursor.proofs.Steps.{passed-there, passed-short}
@@ -11,8 +10,6 @@ use Rattle.hatch_points.proofs.vertices.read_extra.Statement.{statement
 use Rattle.hatch_points.proofs.vertices.read_extra.Tie as tie
 use Rattle.hatch_points.proofs.vertices.read_extra.Reads as reads
 use Rattle.hatch_points.proofs.vertices.read_extra.Lts as lts
-use Rattle.bitcursor.proofs.within.read_bd_bits.Reads as read-bd-bits-reads
-use Rattle.bitcursor.proofs.within.skip_bytes.Reads as skip-bytes-reads
 
 skip-bytes-requires : tie.Need-skip-bytes-requires
 skip-bytes-requires c κs = search needs
@@ -20,22 +17,44 @@ skip-bytes-requires c κs = search needs
 enum-known-p : tie.Need-enum-known-p
 enum-known-p c = search needs
 
+add-if1 : tie.Need-add-if1
+add-if1 c =
+    let call = c .before .before .before in
+    let a = call .before .before .args in
+    let pre = call .before .before .pre in
+    let t = passed-there (now (a .s)) 16 (a .at) (call .skip-bytes .ensures) (c .before .p .given .1) in
+    omega (arith, t .fits, t .next, pre .0)
+
 read-bd-bits-requires : tie.Need-read-bd-bits-requires
 read-bd-bits-requires c κs = search needs
+
+returns : tie.Need-returns
+returns c =
+    let known = c .before .before .before in
+    let call = known .before .before in
+    let a = call .before .before .args in
+    let t = passed-there (now (a .s)) 16 (a .at) (call .skip-bytes .ensures) (known .p .given .1) in
+    extra-on (now (a .s)) (a .at) (omega (arith, t .fits)) (omega (arith, t .next)) (c .read-bd-bits .ensures)
+
+read-bd-there-requires : tie.Need-read-bd-there-requires
+read-bd-there-requires c κs = search needs
 
 enum-known-k : tie.Need-enum-known-k
 enum-known-k c = search needs
 
-returns : tie.Need-returns
-returns c =
-    let a = (c .before .before .before .before .before .before .args) in
-    let t = passed-there (now (a .s)) 16 (a .at) ((c .before .before .before .before .skip-bytes) .ensures) ((c .before .before .p) .given .1) in
-    extra-on (now (a .s)) (a .at) (omega (arith, t .fits)) (omega (arith, t .next)) ((c .read-bd-bits) .ensures)
-
 returns-2 : tie.Need-returns-2
 returns-2 c =
-    let a = (c .before .before .before .before .before .args) in
-    let t = passed-short (now (a .s)) 16 (a .at) ((c .before .before .before .skip-bytes) .ensures) ((c .before .k) .given .1) in
+    let known = c .before .before .before in
+    let call = known .before .before in
+    let a = call .before .before .args in
+    let t = passed-there (now (a .s)) 16 (a .at) (call .skip-bytes .ensures) (known .p .given .1) in
+    extra-on (now (a .s)) (a .at) (omega (arith, t .fits)) (omega (arith, t .next)) (c .read-bd-there .ensures)
+
+returns-3 : tie.Need-returns-3
+returns-3 c =
+    let call = c .before .before .before in
+    let a = call .before .before .args in
+    let t = passed-short (now (a .s)) 16 (a .at) (call .skip-bytes .ensures) (c .before .k .given .1) in
     extra-short (now (a .s)) (a .at) (omega (arith, t .misses)) ∙ ap₂ refused (sym (t .why)) (sym (t .stop))
 
 pub read-extra-spec : {M : Type 1} → statement M
@@ -44,7 +63,10 @@ read-extra-spec =
     (tie.spec
     skip-bytes-requires
     enum-known-p
+    add-if1
     read-bd-bits-requires
-    enum-known-k
     returns
-    returns-2)
+    read-bd-there-requires
+    enum-known-k
+    returns-2
+    returns-3)

@@ -4,7 +4,7 @@ use native.Mathlib.Omega.{arith}
 use denote.Ref.{now}
 use Rattle.hatch_format.specs.Patterns.{ending}
 use Rattle.hatch_rest.specs.Tails.{endingEntries, endingWalk}
-use Rattle.hatch_rest.proofs.TailLaws.{ending-ready, ending-short, ending-stops, ending-ends}
+use Rattle.hatch_rest.proofs.TailLaws.{ending-ready, ending-fields-refused, ending-seeds-refused, ending-done}
 use borrow.Author.Needs.{needs}
 use Rattle.hatch_rest.proofs.patterns.decode_ending.Statement.{statement}
 use Rattle.hatch_rest.proofs.patterns.decode_ending.Tie as tie
@@ -49,7 +49,7 @@ same-length-2 : tie.Need-same-length-2
 same-length-2 c = search needs
 
 returns : tie.Need-returns
-returns c = ending-ends (now ((c .before .before .before .before .before .before .before .before .before .before .before .before .before .before .before .before .before .before .before .args) .s)) ((c .before .before .before .before .before .before .before .before .before .before .before .before .before .before .before .before .before .before .before .args) .caps) ((c .before .before .before .before .before .before .before .before .before .before .before .before .before .before .before .before .before .before .before .args) .has) ((c .before .before .before .before .before .before .before .before .before .before .before .before .before .before .before .before .before .before .before .args) .at) ((c .before .before .before .before .before .before .before .before .before .before .before .before .before .before .before .read-pixel-size) .result) ((c .before .before .before .before .before .before .before .before .before .before .before .before .before .before .then-count) .result) ((c .before .before .before .before .before .before .before .before .before .before .before .before .before .before .before .read-pixel-size) .ensures) ((c .before .before .before .before .before .before .before .before .before .before .before .before .before .before .then-count) .ensures) ((c .before .before .before .before .before .before .before .before .before .before .before .before .n) .given .1) ((c .before .before .before .before .before .before .before .before .raw-run) .ensures) ((c .before .before .q) .given .1) ((c .value-of) .ensures)
+returns c = ending-done (now ((c .before .before .before .before .before .before .before .before .before .before .before .before .before .before .before .before .before .before .before .args) .s)) ((c .before .before .before .before .before .before .before .before .before .before .before .before .before .before .before .before .before .before .before .args) .caps) ((c .before .before .before .before .before .before .before .before .before .before .before .before .before .before .before .before .before .before .before .args) .has) ((c .before .before .before .before .before .before .before .before .before .before .before .before .before .before .before .before .before .before .before .args) .at) ((c .before .before .before .before .before .before .before .before .before .before .before .before .before .before .before .read-pixel-size) .result) ((c .before .before .before .before .before .before .before .before .before .before .before .before .before .before .then-count) .result) ((c .before .before .before .before .before .before .before .before .before .before .before .before .before .before .before .read-pixel-size) .ensures) ((c .before .before .before .before .before .before .before .before .before .before .before .before .before .before .then-count) .ensures) ((c .before .before .before .before .before .before .before .before .before .before .before .before .n) .given .1) ((c .before .before .before .before .before .before .before .before .raw-run) .ensures) ((c .before .before .q) .given .1) ((c .value-of) .ensures)
 
 same-length-3 : tie.Need-same-length-3
 same-length-3 c = search needs
@@ -59,11 +59,11 @@ same-length-4 c = search needs
 
 returns-2 : tie.Need-returns-2
 returns-2 c =
-    ending-stops (now ((c .before .before .before .before .before .before .before .before .before .before .before .before .before .before .before .before .before .before .args) .s)) ((c .before .before .before .before .before .before .before .before .before .before .before .before .before .before .before .before .before .before .args) .caps) ((c .before .before .before .before .before .before .before .before .before .before .before .before .before .before .before .before .before .before .args) .has) ((c .before .before .before .before .before .before .before .before .before .before .before .before .before .before .before .before .before .before .args) .at) ((c .before .before .before .before .before .before .before .before .before .before .before .before .before .before .read-pixel-size) .result) ((c .before .before .before .before .before .before .before .before .before .before .before .before .before .then-count) .result) ((c .before .before .before .before .before .before .before .before .before .before .before .before .before .before .read-pixel-size) .ensures) ((c .before .before .before .before .before .before .before .before .before .before .before .before .before .then-count) .ensures) ((c .before .before .before .before .before .before .before .before .before .before .before .n) .given .1) ((c .before .before .before .before .before .before .before .raw-run) .ensures) ((c .before .k) .given .1)
+    ending-seeds-refused (now ((c .before .before .before .before .before .before .before .before .before .before .before .before .before .before .before .before .before .before .args) .s)) ((c .before .before .before .before .before .before .before .before .before .before .before .before .before .before .before .before .before .before .args) .caps) ((c .before .before .before .before .before .before .before .before .before .before .before .before .before .before .before .before .before .before .args) .has) ((c .before .before .before .before .before .before .before .before .before .before .before .before .before .before .before .before .before .before .args) .at) ((c .before .before .before .before .before .before .before .before .before .before .before .before .before .before .read-pixel-size) .result) ((c .before .before .before .before .before .before .before .before .before .before .before .before .before .then-count) .result) ((c .before .before .before .before .before .before .before .before .before .before .before .before .before .before .read-pixel-size) .ensures) ((c .before .before .before .before .before .before .before .before .before .before .before .before .before .then-count) .ensures) ((c .before .before .before .before .before .before .before .before .before .before .before .n) .given .1) ((c .before .before .before .before .before .before .before .raw-run) .ensures) ((c .before .k) .given .1)
 
 returns-3 : tie.Need-returns-3
 returns-3 c =
-    ending-short (now ((c .before .before .before .before .before .before .before .before .args) .s)) ((c .before .before .before .before .before .before .before .before .args) .caps) ((c .before .before .before .before .before .before .before .before .args) .has) ((c .before .before .before .before .before .before .before .before .args) .at) ((c .before .before .before .before .read-pixel-size) .result) ((c .before .before .before .then-count) .result) ((c .before .before .before .before .read-pixel-size) .ensures) ((c .before .before .before .then-count) .ensures) ((c .before .k2) .given .1)
+    ending-fields-refused (now ((c .before .before .before .before .before .before .before .before .args) .s)) ((c .before .before .before .before .before .before .before .before .args) .caps) ((c .before .before .before .before .before .before .before .before .args) .has) ((c .before .before .before .before .before .before .before .before .args) .at) ((c .before .before .before .before .read-pixel-size) .result) ((c .before .before .before .then-count) .result) ((c .before .before .before .before .read-pixel-size) .ensures) ((c .before .before .before .then-count) .ensures) ((c .before .k2) .given .1)
 
 pub decode-ending-spec : {M : Type 1} → statement M
 decode-ending-spec =

@@ -4,7 +4,7 @@ use mathlib.Core.Bool.{false}
 use denote.Ref.{now}
 use Rattle.hatch_format.specs.Patterns.{pattern}
 use Rattle.hatch_rest.specs.Tails.{patternEntries, patternWalk}
-use Rattle.hatch_rest.proofs.TailLaws.{pattern-ready, pattern-short, pattern-stops, pattern-ends}
+use Rattle.hatch_rest.proofs.TailLaws.{pattern-ready, pattern-fields-refused, pattern-lines-refused, pattern-done}
 use borrow.Author.Needs.{needs}
 use Rattle.hatch_rest.proofs.patterns.decode_open_pattern.Statement.{statement}
 use Rattle.hatch_rest.proofs.patterns.decode_open_pattern.Tie as tie
@@ -62,7 +62,7 @@ same-length-3 : tie.Need-same-length-3
 same-length-3 c = search needs
 
 returns : tie.Need-returns
-returns c = pattern-ends (now ((c .before .before .before .before .before .before .before .before .before .before .before .before .before .before .before .before .before .before .before .before .before .before .before .before .before .before .before .args) .s)) ((c .before .before .before .before .before .before .before .before .before .before .before .before .before .before .before .before .before .before .before .before .before .before .before .before .before .before .before .args) .caps) ((c .before .before .before .before .before .before .before .before .before .before .before .before .before .before .before .before .before .before .before .before .before .before .before .before .before .before .before .args) .at) ((c .before .before .before .before .before .before .before .before .before .before .before .before .before .before .before .before .before .before .before .before .before .before .then-bd-bits) .result) ((c .before .before .before .before .before .before .before .before .before .before .before .before .before .before .before .before .before .before .before .before .before .then-bd-bits2) .result) ((c .before .before .before .before .before .before .before .before .before .before .before .before .before .before .before .before .before .before .before .before .then-bits) .result) ((c .before .before .before .before .before .before .before .before .before .before .before .before .before .before .before .before .before .before .before .then-short-count) .result) ((c .before .before .before .before .before .before .before .before .before .before .before .before .before .before .before .before .before .before .before .before .before .before .then-bd-bits) .ensures) ((c .before .before .before .before .before .before .before .before .before .before .before .before .before .before .before .before .before .before .before .before .before .then-bd-bits2) .ensures) ((c .before .before .before .before .before .before .before .before .before .before .before .before .before .before .before .before .before .before .before .before .then-bits) .ensures) ((c .before .before .before .before .before .before .before .before .before .before .before .before .before .before .before .before .before .before .before .then-short-count) .ensures) ((c .before .before .before .before .before .before .before .before .before .before .before .before .before .before .before .before .before .n) .given .1) ((c .before .before .before .before .before .before .before .before .before .before .before .before .decode-pattern-lines) .ensures) ((c .before .before .before .before .q) .given .1) ((c .before .before .value-of) .ensures) ((c .before .value-of2) .ensures) ((c .value-of3) .ensures)
+returns c = pattern-done (now ((c .before .before .before .before .before .before .before .before .before .before .before .before .before .before .before .before .before .before .before .before .before .before .before .before .before .before .before .args) .s)) ((c .before .before .before .before .before .before .before .before .before .before .before .before .before .before .before .before .before .before .before .before .before .before .before .before .before .before .before .args) .caps) ((c .before .before .before .before .before .before .before .before .before .before .before .before .before .before .before .before .before .before .before .before .before .before .before .before .before .before .before .args) .at) ((c .before .before .before .before .before .before .before .before .before .before .before .before .before .before .before .before .before .before .before .before .before .before .then-bd-bits) .result) ((c .before .before .before .before .before .before .before .before .before .before .before .before .before .before .before .before .before .before .before .before .before .then-bd-bits2) .result) ((c .before .before .before .before .before .before .before .before .before .before .before .before .before .before .before .before .before .before .before .before .then-bits) .result) ((c .before .before .before .before .before .before .before .before .before .before .before .before .before .before .before .before .before .before .before .then-short-count) .result) ((c .before .before .before .before .before .before .before .before .before .before .before .before .before .before .before .before .before .before .before .before .before .before .then-bd-bits) .ensures) ((c .before .before .before .before .before .before .before .before .before .before .before .before .before .before .before .before .before .before .before .before .before .then-bd-bits2) .ensures) ((c .before .before .before .before .before .before .before .before .before .before .before .before .before .before .before .before .before .before .before .before .then-bits) .ensures) ((c .before .before .before .before .before .before .before .before .before .before .before .before .before .before .before .before .before .before .before .then-short-count) .ensures) ((c .before .before .before .before .before .before .before .before .before .before .before .before .before .before .before .before .before .n) .given .1) ((c .before .before .before .before .before .before .before .before .before .before .before .before .decode-pattern-lines) .ensures) ((c .before .before .before .before .q) .given .1) ((c .before .before .value-of) .ensures) ((c .before .value-of2) .ensures) ((c .value-of3) .ensures)
 
 same-length-4 : tie.Need-same-length-4
 same-length-4 c = search needs
@@ -75,11 +75,11 @@ same-length-6 c = search needs
 
 returns-2 : tie.Need-returns-2
 returns-2 c =
-    pattern-stops (now ((c .before .before .before .before .before .before .before .before .before .before .before .before .before .before .before .before .before .before .before .before .before .before .before .before .args) .s)) ((c .before .before .before .before .before .before .before .before .before .before .before .before .before .before .before .before .before .before .before .before .before .before .before .before .args) .caps) ((c .before .before .before .before .before .before .before .before .before .before .before .before .before .before .before .before .before .before .before .before .before .before .before .before .args) .at) ((c .before .before .before .before .before .before .before .before .before .before .before .before .before .before .before .before .before .before .before .then-bd-bits) .result) ((c .before .before .before .before .before .before .before .before .before .before .before .before .before .before .before .before .before .before .then-bd-bits2) .result) ((c .before .before .before .before .before .before .before .before .before .before .before .before .before .before .before .before .before .then-bits) .result) ((c .before .before .before .before .before .before .before .before .before .before .before .before .before .before .before .before .then-short-count) .result) ((c .before .before .before .before .before .before .before .before .before .before .before .before .before .before .before .before .before .before .before .then-bd-bits) .ensures) ((c .before .before .before .before .before .before .before .before .before .before .before .before .before .before .before .before .before .before .then-bd-bits2) .ensures) ((c .before .before .before .before .before .before .before .before .before .before .before .before .before .before .before .before .before .then-bits) .ensures) ((c .before .before .before .before .before .before .before .before .before .before .before .before .before .before .before .before .then-short-count) .ensures) ((c .before .before .before .before .before .before .before .before .before .before .before .before .before .before .n) .given .1) ((c .before .before .before .before .before .before .before .before .before .decode-pattern-lines) .ensures) ((c .before .k) .given .1)
+    pattern-lines-refused (now ((c .before .before .before .before .before .before .before .before .before .before .before .before .before .before .before .before .before .before .before .before .before .before .before .before .args) .s)) ((c .before .before .before .before .before .before .before .before .before .before .before .before .before .before .before .before .before .before .before .before .before .before .before .before .args) .caps) ((c .before .before .before .before .before .before .before .before .before .before .before .before .before .before .before .before .before .before .before .before .before .before .before .before .args) .at) ((c .before .before .before .before .before .before .before .before .before .before .before .before .before .before .before .before .before .before .before .then-bd-bits) .result) ((c .before .before .before .before .before .before .before .before .before .before .before .before .before .before .before .before .before .before .then-bd-bits2) .result) ((c .before .before .before .before .before .before .before .before .before .before .before .before .before .before .before .before .before .then-bits) .result) ((c .before .before .before .before .before .before .before .before .before .before .before .before .before .before .before .before .then-short-count) .result) ((c .before .before .before .before .before .before .before .before .before .before .before .before .before .before .before .before .before .before .before .then-bd-bits) .ensures) ((c .before .before .before .before .before .before .before .before .before .before .before .before .before .before .before .before .before .before .then-bd-bits2) .ensures) ((c .before .before .before .before .before .before .before .before .before .before .before .before .before .before .before .before .before .then-bits) .ensures) ((c .before .before .before .before .before .before .before .before .before .before .before .before .before .before .before .before .then-short-count) .ensures) ((c .before .before .before .before .before .before .before .before .before .before .before .before .before .before .n) .given .1) ((c .before .before .before .before .before .before .before .before .before .decode-pattern-lines) .ensures) ((c .before .k) .given .1)
 
 returns-3 : tie.Need-returns-3
 returns-3 c =
-    pattern-short (now ((c .before .before .before .before .before .before .before .before .before .before .before .args) .s)) ((c .before .before .before .before .before .before .before .before .before .before .before .args) .caps) ((c .before .before .before .before .before .before .before .before .before .before .before .args) .at) ((c .before .before .before .before .before .before .then-bd-bits) .result) ((c .before .before .before .before .before .then-bd-bits2) .result) ((c .before .before .before .before .then-bits) .result) ((c .before .before .before .then-short-count) .result) ((c .before .before .before .before .before .before .then-bd-bits) .ensures) ((c .before .before .before .before .before .then-bd-bits2) .ensures) ((c .before .before .before .before .then-bits) .ensures) ((c .before .before .before .then-short-count) .ensures) ((c .before .k2) .given .1)
+    pattern-fields-refused (now ((c .before .before .before .before .before .before .before .before .before .before .before .args) .s)) ((c .before .before .before .before .before .before .before .before .before .before .before .args) .caps) ((c .before .before .before .before .before .before .before .before .before .before .before .args) .at) ((c .before .before .before .before .before .before .then-bd-bits) .result) ((c .before .before .before .before .before .then-bd-bits2) .result) ((c .before .before .before .before .then-bits) .result) ((c .before .before .before .then-short-count) .result) ((c .before .before .before .before .before .before .then-bd-bits) .ensures) ((c .before .before .before .before .before .then-bd-bits2) .ensures) ((c .before .before .before .before .then-bits) .ensures) ((c .before .before .before .then-short-count) .ensures) ((c .before .k2) .given .1)
 
 pub decode-open-pattern-spec : {M : Type 1} → statement M
 decode-open-pattern-spec =

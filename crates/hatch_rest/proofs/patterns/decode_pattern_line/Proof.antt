@@ -11,7 +11,7 @@ use Rattle.hatch_format.specs.Counts.{bounded, takes-bounded, bounded-below}
 use Rattle.hatch_points.specs.Gathered.{word, plus}
 use Rattle.hatch_points.specs.Walks.{double-run}
 use Rattle.hatch_rest.specs.LineGathers.{line-walk}
-use Rattle.hatch_points.proofs.Laws.{_⊕_, plus-again, walk-told, walk-ready, walk-no, walks-as, refuses, behind, kept-step, kept-numbers, walk-kept}
+use Rattle.hatch_points.proofs.Laws.{_⊕_, plus-again, walk-finished, walk-ready, walk-refused, walks-as, refuses, behind, kept-step, kept-numbers, walk-kept}
 use Rattle.hatch_points.proofs.Words.{double-words, word-step, ready-word}
 use borrow.Author.Needs.{needs}
 use Rattle.hatch_rest.proofs.patterns.decode_pattern_line.Statement.{statement}
@@ -72,7 +72,7 @@ returns c =
     let cap = (c .before .before .before .before .before .before .before .before .before .before .before .before .before .before .before .before .before .before .before .before .before .before .before .before .before .before .before .before .before .before .args) .cap in
     let y = (c .before .before .before .before .before .before .before .before .before .before .before .before .before .before .before .before .before .p) .given .0 .1 .0 in
     let n = (c .before .before .before .before .before .before .before .before .before .before .before .before .before .n) .given .0 .0 in
-    let t = walk-told (double-words 5 ((c .before .before .before .before .before .before .before .before .before .before .before .before .before .before .before .before .before .before .before .before .before .before .before .before .before .before .before .before .before .before .args) .at) (now ((c .before .before .before .before .before .before .before .before .before .before .before .before .before .before .before .before .before .before .before .before .before .before .before .before .before .before .before .before .before .before .args) .words)) ((c .before .before .before .before .before .before .before .before .before .before .before .before .before .before .before .before .before .before .before .before .before .before .before .double-run) .ensures)) ((c .before .before .before .before .before .before .before .before .before .before .before .before .before .before .before .before .before .p) .given .1) in
+    let t = walk-finished (double-words 5 ((c .before .before .before .before .before .before .before .before .before .before .before .before .before .before .before .before .before .before .before .before .before .before .before .before .before .before .before .before .before .before .args) .at) (now ((c .before .before .before .before .before .before .before .before .before .before .before .before .before .before .before .before .before .before .before .before .before .before .before .before .before .before .before .before .before .before .args) .words)) ((c .before .before .before .before .before .before .before .before .before .before .before .before .before .before .before .before .before .before .before .before .before .before .before .double-run) .ensures)) ((c .before .before .before .before .before .before .before .before .before .before .before .before .before .before .before .before .before .p) .given .1) in
     let o = read-value ((bounded cap BS) .read s ((c .before .before .before .before .before .before .before .before .before .before .before .before .before .before .before .before .before .p) .given .0 .0)) ((c .before .before .before .before .before .before .before .before .before .before .before .before .before .before .before .read-short-count) .ensures) ((c .before .before .before .before .before .before .before .before .before .before .before .before .before .n) .given .1) in
     let w = word-step y n ((c .before .before .before .before .before .before .before .before .before .before .put-word) .ensures) in
     walks-as
@@ -92,7 +92,7 @@ unfolding line-walk
 returns-2 c =
     let s = now ((c .before .before .before .before .before .before .before .before .before .before .before .before .before .before .before .before .before .before .args) .s) in
     let cap = (c .before .before .before .before .before .before .before .before .before .before .before .before .before .before .before .before .before .before .args) .cap in
-    let t = walk-told (double-words 5 ((c .before .before .before .before .before .before .before .before .before .before .before .before .before .before .before .before .before .before .args) .at) (now ((c .before .before .before .before .before .before .before .before .before .before .before .before .before .before .before .before .before .before .args) .words)) ((c .before .before .before .before .before .before .before .before .before .before .before .double-run) .ensures)) ((c .before .before .before .before .before .p) .given .1) in
+    let t = walk-finished (double-words 5 ((c .before .before .before .before .before .before .before .before .before .before .before .before .before .before .before .before .before .before .args) .at) (now ((c .before .before .before .before .before .before .before .before .before .before .before .before .before .before .before .before .before .before .args) .words)) ((c .before .before .before .before .before .before .before .before .before .before .before .double-run) .ensures)) ((c .before .before .before .before .before .p) .given .1) in
     let o = read-refused ((bounded cap BS) .read s ((c .before .before .before .before .before .p) .given .0 .0)) ((c .before .before .before .read-short-count) .ensures) ((c .before .k) .given .1) in
     refuses
     (then-got (double-run 5) (λ a. bounded cap BS >>= λ m. double-run m >>= λ b. pure (plus a (plus (word m) b))) s (t .read)
@@ -112,7 +112,7 @@ returns-3 c =
     let s = now (a .s) in
     let walk = (c .before .before .before .before .before .before .before .double-run) .ensures in
     let stop = (c .before .k2) .given .1 in
-    refuses (then-refused (double-run 5) (λ b. bounded (a .cap) BS >>= λ m. double-run m >>= λ d. pure (plus b (plus (word m) d))) s (walk-no walk stop))
+    refuses (then-refused (double-run 5) (λ b. bounded (a .cap) BS >>= λ m. double-run m >>= λ d. pure (plus b (plus (word m) d))) s (walk-refused walk stop))
     (kept-numbers (now (a .words)) (walk-kept walk stop))
 
 pub decode-pattern-line-spec : {M : Type 1} → statement M

@@ -4,7 +4,7 @@ use denote.Ref.{now}
 use Rattle.hatch_format.specs.Patterns.{tail}
 use Rattle.hatch_rest.specs.Tails.{tailEntries, tailWalk}
 use Rattle.hatch_rest.proofs.TailLaws.{}
-use Rattle.hatch_rest.proofs.TailEnds.{tail-ready, tail-short, tail-stops, ending-asks, tail-no, tail-ends}
+use Rattle.hatch_rest.proofs.TailEnds.{tail-ready, tail-fields-refused, tail-pattern-refused, ending-asks, tail-ending-refused, tail-done}
 use borrow.Author.Needs.{needs}
 use Rattle.hatch_rest.proofs.patterns.decode_tail.Statement.{statement}
 use Rattle.hatch_rest.proofs.patterns.decode_tail.Tie as tie
@@ -59,7 +59,7 @@ same-length-3 : tie.Need-same-length-3
 same-length-3 c = search needs
 
 returns : tie.Need-returns
-returns c = tail-ends (now ((c .before .before .before .before .before .before .before .before .before .before .before .before .before .before .before .before .before .before .before .before .before .before .before .before .before .before .before .before .before .before .before .before .before .args) .s)) ((c .before .before .before .before .before .before .before .before .before .before .before .before .before .before .before .before .before .before .before .before .before .before .before .before .before .before .before .before .before .before .before .before .before .args) .caps) ((c .before .before .before .before .before .before .before .before .before .before .before .before .before .before .before .before .before .before .before .before .before .before .before .before .before .before .before .before .before .before .before .before .before .args) .solid) ((c .before .before .before .before .before .before .before .before .before .before .before .before .before .before .before .before .before .before .before .before .before .before .before .before .before .before .before .before .before .before .before .before .before .args) .has) ((c .before .before .before .before .before .before .before .before .before .before .before .before .before .before .before .before .before .before .before .before .before .before .before .before .before .before .before .before .before .before .before .before .before .args) .at) ((c .before .before .before .before .before .before .before .before .before .before .before .before .before .before .before .before .before .before .before .before .before .before .before .before .before .before .before .before .read-bs-u) .result) ((c .before .before .before .before .before .before .before .before .before .before .before .before .before .before .before .before .before .before .before .before .before .before .before .before .before .before .before .then-bs) .result) ((c .before .before .before .before .before .before .before .before .before .before .before .before .before .before .before .before .before .before .before .before .before .before .before .before .before .before .before .before .read-bs-u) .ensures) ((c .before .before .before .before .before .before .before .before .before .before .before .before .before .before .before .before .before .before .before .before .before .before .before .before .before .before .before .then-bs) .ensures) ((c .before .before .before .before .before .before .before .before .before .before .before .before .before .before .before .before .before .before .before .before .before .before .before .before .before .kind) .given .1) ((c .before .before .before .before .before .before .before .before .before .before .before .before .before .before .before .before .before .before .before .before .decode-pattern) .ensures) ((c .before .before .before .before .before .before .before .before .before .before .before .before .a) .given .1) refl ((c .before .before .before .before .before .before .before .before .decode-ending) .ensures) ((c .before .before .e) .given .1) ((c .value-of) .ensures)
+returns c = tail-done (now ((c .before .before .before .before .before .before .before .before .before .before .before .before .before .before .before .before .before .before .before .before .before .before .before .before .before .before .before .before .before .before .before .before .before .args) .s)) ((c .before .before .before .before .before .before .before .before .before .before .before .before .before .before .before .before .before .before .before .before .before .before .before .before .before .before .before .before .before .before .before .before .before .args) .caps) ((c .before .before .before .before .before .before .before .before .before .before .before .before .before .before .before .before .before .before .before .before .before .before .before .before .before .before .before .before .before .before .before .before .before .args) .solid) ((c .before .before .before .before .before .before .before .before .before .before .before .before .before .before .before .before .before .before .before .before .before .before .before .before .before .before .before .before .before .before .before .before .before .args) .has) ((c .before .before .before .before .before .before .before .before .before .before .before .before .before .before .before .before .before .before .before .before .before .before .before .before .before .before .before .before .before .before .before .before .before .args) .at) ((c .before .before .before .before .before .before .before .before .before .before .before .before .before .before .before .before .before .before .before .before .before .before .before .before .before .before .before .before .read-bs-u) .result) ((c .before .before .before .before .before .before .before .before .before .before .before .before .before .before .before .before .before .before .before .before .before .before .before .before .before .before .before .then-bs) .result) ((c .before .before .before .before .before .before .before .before .before .before .before .before .before .before .before .before .before .before .before .before .before .before .before .before .before .before .before .before .read-bs-u) .ensures) ((c .before .before .before .before .before .before .before .before .before .before .before .before .before .before .before .before .before .before .before .before .before .before .before .before .before .before .before .then-bs) .ensures) ((c .before .before .before .before .before .before .before .before .before .before .before .before .before .before .before .before .before .before .before .before .before .before .before .before .before .kind) .given .1) ((c .before .before .before .before .before .before .before .before .before .before .before .before .before .before .before .before .before .before .before .before .decode-pattern) .ensures) ((c .before .before .before .before .before .before .before .before .before .before .before .before .a) .given .1) refl ((c .before .before .before .before .before .before .before .before .decode-ending) .ensures) ((c .before .before .e) .given .1) ((c .value-of) .ensures)
 
 same-length-4 : tie.Need-same-length-4
 same-length-4 c = search needs
@@ -72,7 +72,7 @@ same-length-6 c = search needs
 
 returns-2 : tie.Need-returns-2
 returns-2 c =
-    tail-no (now ((c .before .before .before .before .before .before .before .before .before .before .before .before .before .before .before .before .before .before .before .before .before .before .before .before .before .before .before .before .before .before .before .before .args) .s)) ((c .before .before .before .before .before .before .before .before .before .before .before .before .before .before .before .before .before .before .before .before .before .before .before .before .before .before .before .before .before .before .before .before .args) .caps) ((c .before .before .before .before .before .before .before .before .before .before .before .before .before .before .before .before .before .before .before .before .before .before .before .before .before .before .before .before .before .before .before .before .args) .solid) ((c .before .before .before .before .before .before .before .before .before .before .before .before .before .before .before .before .before .before .before .before .before .before .before .before .before .before .before .before .before .before .before .before .args) .has) ((c .before .before .before .before .before .before .before .before .before .before .before .before .before .before .before .before .before .before .before .before .before .before .before .before .before .before .before .before .before .before .before .before .args) .at) ((c .before .before .before .before .before .before .before .before .before .before .before .before .before .before .before .before .before .before .before .before .before .before .before .before .before .before .before .read-bs-u) .result) ((c .before .before .before .before .before .before .before .before .before .before .before .before .before .before .before .before .before .before .before .before .before .before .before .before .before .before .then-bs) .result) ((c .before .before .before .before .before .before .before .before .before .before .before .before .before .before .before .before .before .before .before .before .before .before .before .before .before .before .before .read-bs-u) .ensures) ((c .before .before .before .before .before .before .before .before .before .before .before .before .before .before .before .before .before .before .before .before .before .before .before .before .before .before .then-bs) .ensures) ((c .before .before .before .before .before .before .before .before .before .before .before .before .before .before .before .before .before .before .before .before .before .before .before .before .kind) .given .1) ((c .before .before .before .before .before .before .before .before .before .before .before .before .before .before .before .before .before .before .before .decode-pattern) .ensures) ((c .before .before .before .before .before .before .before .before .before .before .before .a) .given .1) refl ((c .before .before .before .before .before .before .before .decode-ending) .ensures) ((c .before .k) .given .1)
+    tail-ending-refused (now ((c .before .before .before .before .before .before .before .before .before .before .before .before .before .before .before .before .before .before .before .before .before .before .before .before .before .before .before .before .before .before .before .before .args) .s)) ((c .before .before .before .before .before .before .before .before .before .before .before .before .before .before .before .before .before .before .before .before .before .before .before .before .before .before .before .before .before .before .before .before .args) .caps) ((c .before .before .before .before .before .before .before .before .before .before .before .before .before .before .before .before .before .before .before .before .before .before .before .before .before .before .before .before .before .before .before .before .args) .solid) ((c .before .before .before .before .before .before .before .before .before .before .before .before .before .before .before .before .before .before .before .before .before .before .before .before .before .before .before .before .before .before .before .before .args) .has) ((c .before .before .before .before .before .before .before .before .before .before .before .before .before .before .before .before .before .before .before .before .before .before .before .before .before .before .before .before .before .before .before .before .args) .at) ((c .before .before .before .before .before .before .before .before .before .before .before .before .before .before .before .before .before .before .before .before .before .before .before .before .before .before .before .read-bs-u) .result) ((c .before .before .before .before .before .before .before .before .before .before .before .before .before .before .before .before .before .before .before .before .before .before .before .before .before .before .then-bs) .result) ((c .before .before .before .before .before .before .before .before .before .before .before .before .before .before .before .before .before .before .before .before .before .before .before .before .before .before .before .read-bs-u) .ensures) ((c .before .before .before .before .before .before .before .before .before .before .before .before .before .before .before .before .before .before .before .before .before .before .before .before .before .before .then-bs) .ensures) ((c .before .before .before .before .before .before .before .before .before .before .before .before .before .before .before .before .before .before .before .before .before .before .before .before .kind) .given .1) ((c .before .before .before .before .before .before .before .before .before .before .before .before .before .before .before .before .before .before .before .decode-pattern) .ensures) ((c .before .before .before .before .before .before .before .before .before .before .before .a) .given .1) refl ((c .before .before .before .before .before .before .before .decode-ending) .ensures) ((c .before .k) .given .1)
 
 same-length-7 : tie.Need-same-length-7
 same-length-7 c = search needs
@@ -85,11 +85,11 @@ same-length-9 c = search needs
 
 returns-3 : tie.Need-returns-3
 returns-3 c =
-    tail-stops (now ((c .before .before .before .before .before .before .before .before .before .before .before .before .before .before .before .before .before .before .before .before .before .before .args) .s)) ((c .before .before .before .before .before .before .before .before .before .before .before .before .before .before .before .before .before .before .before .before .before .before .args) .caps) ((c .before .before .before .before .before .before .before .before .before .before .before .before .before .before .before .before .before .before .before .before .before .before .args) .solid) ((c .before .before .before .before .before .before .before .before .before .before .before .before .before .before .before .before .before .before .before .before .before .before .args) .has) ((c .before .before .before .before .before .before .before .before .before .before .before .before .before .before .before .before .before .before .before .before .before .before .args) .at) ((c .before .before .before .before .before .before .before .before .before .before .before .before .before .before .before .before .before .read-bs-u) .result) ((c .before .before .before .before .before .before .before .before .before .before .before .before .before .before .before .before .then-bs) .result) ((c .before .before .before .before .before .before .before .before .before .before .before .before .before .before .before .before .before .read-bs-u) .ensures) ((c .before .before .before .before .before .before .before .before .before .before .before .before .before .before .before .before .then-bs) .ensures) ((c .before .before .before .before .before .before .before .before .before .before .before .before .before .before .kind) .given .1) ((c .before .before .before .before .before .before .before .before .before .decode-pattern) .ensures) ((c .before .k2) .given .1)
+    tail-pattern-refused (now ((c .before .before .before .before .before .before .before .before .before .before .before .before .before .before .before .before .before .before .before .before .before .before .args) .s)) ((c .before .before .before .before .before .before .before .before .before .before .before .before .before .before .before .before .before .before .before .before .before .before .args) .caps) ((c .before .before .before .before .before .before .before .before .before .before .before .before .before .before .before .before .before .before .before .before .before .before .args) .solid) ((c .before .before .before .before .before .before .before .before .before .before .before .before .before .before .before .before .before .before .before .before .before .before .args) .has) ((c .before .before .before .before .before .before .before .before .before .before .before .before .before .before .before .before .before .before .before .before .before .before .args) .at) ((c .before .before .before .before .before .before .before .before .before .before .before .before .before .before .before .before .before .read-bs-u) .result) ((c .before .before .before .before .before .before .before .before .before .before .before .before .before .before .before .before .then-bs) .result) ((c .before .before .before .before .before .before .before .before .before .before .before .before .before .before .before .before .before .read-bs-u) .ensures) ((c .before .before .before .before .before .before .before .before .before .before .before .before .before .before .before .before .then-bs) .ensures) ((c .before .before .before .before .before .before .before .before .before .before .before .before .before .before .kind) .given .1) ((c .before .before .before .before .before .before .before .before .before .decode-pattern) .ensures) ((c .before .k2) .given .1)
 
 returns-4 : tie.Need-returns-4
 returns-4 c =
-    tail-short (now ((c .before .before .before .before .before .before .before .before .before .args) .s)) ((c .before .before .before .before .before .before .before .before .before .args) .caps) ((c .before .before .before .before .before .before .before .before .before .args) .solid) ((c .before .before .before .before .before .before .before .before .before .args) .has) ((c .before .before .before .before .before .before .before .before .before .args) .at) ((c .before .before .before .before .read-bs-u) .result) ((c .before .before .before .then-bs) .result) ((c .before .before .before .before .read-bs-u) .ensures) ((c .before .before .before .then-bs) .ensures) ((c .before .k3) .given .1)
+    tail-fields-refused (now ((c .before .before .before .before .before .before .before .before .before .args) .s)) ((c .before .before .before .before .before .before .before .before .before .args) .caps) ((c .before .before .before .before .before .before .before .before .before .args) .solid) ((c .before .before .before .before .before .before .before .before .before .args) .has) ((c .before .before .before .before .before .before .before .before .before .args) .at) ((c .before .before .before .before .read-bs-u) .result) ((c .before .before .before .then-bs) .result) ((c .before .before .before .before .read-bs-u) .ensures) ((c .before .before .before .then-bs) .ensures) ((c .before .k3) .given .1)
 
 pub decode-tail-spec : {M : Type 1} → statement M
 decode-tail-spec =

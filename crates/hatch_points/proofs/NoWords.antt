@@ -46,7 +46,8 @@ double-wordless n xs p = wordless numbers (λ ns. refl) ((times n (coded BD)) .r
 
 pub vertices-wordless : (more : Bool) (n : ℕ) (xs : List ℕ) (p : ℕ) → Wordless ((vertices-walk more n) .read xs p)
 vertices-wordless more n xs p e q i =
-    wordless (all (vertexEntries xs more)) (λ vs. ap (λ (x : Entries). x .words) (all-numbers (vertexNumbers more) vs)) ((times n (vertex more)) .read xs p) e q (vertices-gather xs more n p ∙ i)
+    wordless (all (vertexEntries xs more)) (λ vs. ap (λ (x : Entries). x .words) (all-numbers (vertexNumbers more) vs))
+    ((times n (vertex more)) .read xs p) e q (vertices-gather xs more n p ∙ i)
 
 -- a bit as a number is its own word
 pub bit-of : (v : ℕ) → v < 2 → bit (eqb 1 v) ≡ v

@@ -1,19 +1,20 @@
-//! Drawings made here, whole and damaged at every byte: no panic, and not more work than the file is long. In [`wrong`] each number is wrong in turn.
+//! What `cut`, `read`, `prefix` and `draw` make of drawings made here, whole and damaged at every byte: no panic, and not more work than the file is
+//! long. In [`wrong`] each number is wrong in turn.
 
 mod wrong;
 
-#[path = "../../../../tests/layouts/mod.rs"]
+#[path = "../../../tests/layouts/mod.rs"]
 mod layouts;
-#[path = "../../../../tests/records/mod.rs"]
+#[path = "../../../tests/records/mod.rs"]
 mod records;
 
 use dwg_hatch::HatchPath;
 
-use super::*;
-use crate::commands::draw;
+use crate::commands::cut::{self, letters, CUT};
 use crate::commands::failure::Failure;
-use crate::commands::options::Asked;
-use crate::commands::read;
+use crate::commands::input::{Input, Kind};
+use crate::commands::options::{Asked, Options};
+use crate::commands::{draw, read};
 use layouts::{Bits, Numbers, Plan};
 use records::{drawing_of, Record, HATCH};
 
@@ -46,7 +47,7 @@ fn given(test: &str, bytes: &[u8], kind: Kind, command: impl FnOnce(&Input, &mut
 fn cut_of(test: &str, bytes: &[u8], word: &str) -> Given {
     let words: Vec<_> = word.split_whitespace().map(Into::into).collect();
     let Ok(Asked::Run { options, .. }) = CUT.parse(&words) else { panic!("{words:?}") };
-    given(test, bytes, Kind::Hatch, |input, output, errors| run(&options, input, output, errors))
+    given(test, bytes, Kind::Hatch, |input, output, errors| cut::run(&options, input, output, errors))
 }
 
 fn read_of(test: &str, bytes: &[u8], kind: Kind) -> Given {
@@ -129,21 +130,35 @@ fn a_drawing_that_ends_anywhere_is_told() {
     }
 }
 
+/// All commands on a damaged drawing. Gives whether something was told.
+fn is_told(damaged: &[u8]) -> bool {
+    let cut = cut_of("damaged", damaged, "--prefixes");
+    bounded(&cut, damaged, 2);
+    for given in [read_of("damaged", damaged, Kind::Hatch), read_of("damaged", damaged, Kind::Prefix), draw_of("damaged", damaged)] {
+        assert!(given.status <= 2 && given.errors.len() <= 14, "{:?}", given.errors);
+    }
+    cut.status != 0
+}
+
 #[test]
-fn a_drawing_with_any_byte_changed_is_read_or_told() {
+fn a_drawing_with_any_bytes_changed_is_read_or_told() {
     let bytes = small();
     let mut told = 0;
     for at in 0..bytes.len() {
         for value in [0, 1, 0x7f, 0x80, 0xff, bytes[at] ^ 1, bytes[at] ^ 0x40] {
             let mut damaged = bytes.clone();
             damaged[at] = value;
-            let given = cut_of("byte", &damaged, "--prefixes");
-            bounded(&given, &bytes, 2);
-            told += usize::from(given.status != 0);
-            for given in [read_of("byte", &damaged, Kind::Hatch), read_of("byte", &damaged, Kind::Prefix), draw_of("byte", &damaged)] {
-                assert!(given.status <= 2 && given.errors.len() <= 14, "{:?}", given.errors);
-            }
+            told += usize::from(is_told(&damaged));
         }
     }
     assert!(told > 100, "{told}");
+    // Some bytes at once.
+    let n = &mut Numbers(17);
+    for _ in 0..1000 {
+        let mut damaged = bytes.clone();
+        for _ in 0..2 + n.below(5) {
+            damaged[n.below(bytes.len() as u64) as usize] = if n.coin() { n.next() as u8 } else { [0, 0x7f, 0x80, 0xff][n.below(4) as usize] };
+        }
+        is_told(&damaged);
+    }
 }
