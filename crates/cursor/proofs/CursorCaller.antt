@@ -1,8 +1,8 @@
--- A function that lends a cursor of its own: `let mut here = c; let answer = here.reader(bytes); Moved { answer, cursor: here }`, whatever the answer's type
--- and the called
--- reader are. One walk of its MIR, over the answer's kind K, the reader's name k, and what that finds, f.
---     cursor-caller K k        the MIR. Its signature and its contract are those of the covered reader (`CursorReader.antt`'s `reader-ended`, `ReaderC`)
---     cursor-caller-spec       the function meets its contract, from that the reader meets its own (`CursorReaderC`)
+-- A function that lends a cursor of its own, whatever the answer's type and the called reader are:
+--     let mut here = c; let answer = here.reader(bytes); Moved { answer, cursor: here }
+-- One walk of its MIR, over the answer's kind K, the reader's name k, and what that finds, f.
+--     cursor-caller K k    the MIR. Its signature and its contract are those of the covered reader (`CursorReader.antt`'s `reader-ended`, `ReaderC`)
+--     cursor-caller-spec   the function meets its contract, from that the reader meets its own (`CursorReaderC`)
 -- The local is lent for a lifetime that the walk makes and ends, and is taken back at the value that the reader's contract says (`Denote/Lend.antt`).
 -- Assumes nothing.
 use mathlib.Core.Path.{_≡_, refl, ap, subst}

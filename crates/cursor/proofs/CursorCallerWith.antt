@@ -1,7 +1,6 @@
 -- A function that lends a cursor of its own to a reader with a double beside the bytes: the walk of `CursorCaller.antt` with one parameter more.
---     cursor-caller-with K k       the MIR. Its signature and its contract are those of the covered reader (`CursorReaderWith.antt`'s `reader-ended`,
---     `ReaderC`)
---     cursor-caller-with-spec      the function meets its contract, from that the reader meets its own (`CursorReaderC`)
+--     cursor-caller-with K k     the MIR. Its signature and its contract are those of the covered reader (`CursorReaderWith.antt`)
+--     cursor-caller-with-spec    the function meets its contract, from that the reader meets its own (`CursorReaderC`)
 -- Assumes nothing.
 use mathlib.Core.Path.{_≡_, refl, ap, subst}
 use Prim.Native.Nat.{ℕ}

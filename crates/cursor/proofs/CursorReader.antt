@@ -1,9 +1,9 @@
--- A reader over a cursor behind a `&mut`: `let m = reader(bytes, *self); *self = m.cursor; m.answer`, whatever the answer's type and the reader are. One walk
--- of
--- its MIR, over the answer's kind K, the covered reader's name k, and what that finds, f.
---     cursor-reader K k         the MIR.        ReaderC K f, CursorReaderC K f      the reader's clauses and the function's, as `rattle check` makes them of
---     the source
---     cursor-reader-spec        the function meets its contract, from that the reader meets its own
+-- A reader over a cursor behind a `&mut`, whatever the answer's type and the covered reader are:
+--     let m = reader(bytes, *self); *self = m.cursor; m.answer
+-- One walk of its MIR, over the answer's kind K, the covered reader's name k, and what that finds, f.
+--     cursor-reader K k               the MIR
+--     ReaderC K f, CursorReaderC K f  the covered reader's clauses and the function's, as `rattle check` makes them of the source
+--     cursor-reader-spec              the function meets its contract, from that the covered reader meets its own
 -- Assumes nothing.
 use mathlib.Core.Path.{_≡_, refl, ap}
 use Prim.Native.Nat.{ℕ}

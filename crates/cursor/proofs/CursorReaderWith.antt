@@ -1,9 +1,9 @@
--- The reader with a double beside the bytes, `let m = reader(bytes, *self, default); *self = m.cursor; m.answer`: the walk of `CursorReader.antt` with one
--- parameter more, which
--- no list of numbers of that walk's context would allow to share.
---     cursor-reader-with K k    the MIR.        ReaderC K f, CursorReaderC K f      the reader's clauses and the function's, as `rattle check` makes them of
---     the source
---     cursor-reader-with-spec   the function meets its contract, from that the reader meets its own
+-- The reader with a double beside the bytes:
+--     let m = reader(bytes, *self, default); *self = m.cursor; m.answer
+-- The walk of `CursorReader.antt` with one parameter more: a walk counts its function's locals, so the two share none.
+--     cursor-reader-with K k          the MIR
+--     ReaderC K f, CursorReaderC K f  the covered reader's clauses and the function's, as `rattle check` makes them of the source
+--     cursor-reader-with-spec         the function meets its contract, from that the covered reader meets its own
 -- Assumes nothing.
 use mathlib.Core.Path.{_≡_, refl, ap}
 use Prim.Native.Nat.{ℕ}

@@ -1,6 +1,5 @@
 -- A question to a string reader by value: `callee(self.place, self.end_bit)`, whatever the callee and the type of its answer are. One walk of the MIR, over
--- the answer's type
--- Q, the callee's name k, and what that answers, f.
+-- the answer's type Q, the callee's name k, and what that answers, f.
 --     Plain        a type of one machine value that owns only facts: its values, their code, the MIR type, what is owned, and the laws
 --     asked Q k    the MIR.        CalleeC Q f, AskedC Q f     the callee's clauses and the question's, as `rattle check` makes them of the source
 --     asked-spec   the question meets its contract, from that the callee meets its own

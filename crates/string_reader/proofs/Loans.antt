@@ -1,6 +1,5 @@
 -- `read_tv` as a caller cites it that lends it a reader of its own, at (l, 0), under the name δ, for the meet of a new lifetime α and the payload's κ: what
--- it is passed, that
--- it is there, and what it says: the text, and the reader's last value. Assumes `Given`.
+-- it is passed, that it is there, and what it says: the text, and the reader's last value. Assumes `Given`.
 use mathlib.Core.Path.{_≡_, subst}
 use Prim.Native.Nat.{ℕ}
 use mathlib.Core.List.{[], _∷_}

@@ -1,8 +1,8 @@
 -- The tokens of a loan that ends before the lifetime κ does: of the new lifetime α the whole token is had, and of κ the share q. The loan is for the meet of
 -- both, and κ outlives it.
---     both             what is handed on: the meet's token at the left half of q, and κ's at the right half.        Back     the way back to the whole token
---     of α
---     lends-tokens, takes-tokens       there, and back
+--     both                          what is handed on: the meet's token at the left half of q, and κ's at the right half
+--     Back                          the way back to the whole token of α
+--     lends-tokens, takes-tokens    there, and back
 -- Assumes `Given`.
 use Prim.Native.Nat.{ℕ}
 use mathlib.Core.List.{[], _∷_}
