@@ -87,6 +87,7 @@ static void text(const char *what, const uint8_t *payload, size_t length, DwgTex
 
 static void print(const DwgBodyAnswer *a, Lists lists, const uint8_t *payload, size_t length) {
     const DwgBodyFields *f = &a->fields;
+    const double *first = lists.numbers;
     printf("read to bit %zu: %zu words, %zu numbers\n", a->place, f->words_used, f->numbers_used);
     printf("gradient: present %d, angle %.17g, %zu colours\n", a->gradient.present, a->gradient.angle, a->gradient.num_colors);
     text("gradient's name", payload, length, a->gradient.name);
@@ -103,8 +104,10 @@ static void print(const DwgBodyAnswer *a, Lists lists, const uint8_t *payload, s
         numbers(&lists, "angle, origin, offset, dashes", 5 + (size_t)words(&lists, 1));
         printf("\n");
     }
+    DwgSeedPart seeds = dwg_hatch_seed_points(f->numbers_used, f->num_seed_points, f->numbers_used);
+    lists.numbers = first + seeds.begin;
     printf("seeds: %zu", f->num_seed_points);
-    numbers(&lists, "x, y of each", 2 * f->num_seed_points);
+    numbers(&lists, "x, y of each", seeds.count);
     printf("\n");
 }
 

@@ -172,6 +172,12 @@ typedef struct DwgLengthsAnswer {
     size_t numbers;
 } DwgLengthsAnswer;
 
+/* A part of the list of numbers: its first index, and how many numbers it has. */
+typedef struct DwgSeedPart {
+    size_t begin;
+    size_t count;
+} DwgSeedPart;
+
 /* ---- measuring: nothing is lent but the payloads, and nothing is written */
 
 /* The lengths that the lists must have for the hatch body at bit `start`, texts inline. Refused, in this order: DWG_UNKNOWN_RELEASE and
@@ -216,6 +222,12 @@ DwgBodyAnswer dwg_hatch_decode_with_strings(const uint8_t *main, size_t main_len
 DwgBodyBitsAnswer dwg_hatch_decode_with_strings_bits(const uint8_t *main, size_t main_length, size_t start, const uint8_t *string,
                                                      size_t string_length, size_t string_start, size_t string_end, uint64_t release,
                                                      uint64_t *bits, size_t bits_length, uint32_t *words, size_t words_length);
+
+/* ---- the seed points of a reading */
+
+/* Where the seed points lie in the list of numbers, x and y of each: they are the last numbers used. It takes two fields of the answer and the
+ * list's length, and refuses nothing: an empty part, begin 0 and count 0, where the list or the numbers used are too few for them. */
+DwgSeedPart dwg_hatch_seed_points(size_t numbers_used, size_t num_seed_points, size_t length);
 
 #ifdef __cplusplus
 }

@@ -5,6 +5,7 @@
 const LIB: &str = concat!(env!("CARGO_MANIFEST_DIR"), "/../crates/dwg_hatch/src/lib.rt");
 const COLORS: &str = concat!(env!("CARGO_MANIFEST_DIR"), "/../crates/hatch_format/src/lib.rt");
 const BODIES: &str = concat!(env!("CARGO_MANIFEST_DIR"), "/../crates/dwg_hatch/src/bodies.rt");
+const SEEDS: &str = concat!(env!("CARGO_MANIFEST_DIR"), "/../crates/dwg_hatch/src/seeds.rt");
 const RUST: &str = concat!(env!("CARGO_MANIFEST_DIR"), "/src/boundary/ffi.rs");
 
 /// How a function starts in each text.
@@ -17,7 +18,7 @@ fn text(path: &str) -> String {
 
 /// The Rattle texts whose functions and structs cross the boundary, in ffi.rs's order.
 fn rattle() -> String {
-    [LIB, COLORS, BODIES].map(text).join("\n")
+    [LIB, COLORS, BODIES, SEEDS].map(text).join("\n")
 }
 
 fn lines(text: &str) -> Vec<&str> {
@@ -96,6 +97,7 @@ fn edits_of_the_declarations_are_seen() {
         ("    pub invisibility: i16,\n", "    pub invisibility: u16,\n"),
         ("at: usize, release: u64) -> PrefixAnswer", "at: usize, release: u64) -> PrefixBitsAnswer"),
         ("    pub place: usize,\n    pub source: u8,\n", "    pub source: u8,\n    pub place: usize,\n"),
+        ("numbers_used: usize, num_seed_points: usize, length: usize", "num_seed_points: usize, numbers_used: usize, length: usize"),
         ("colors: [GradientColor; 16]", "colors: [GradientColor; 15]"),
         ("colors: [GradientColorBits; 16]", "colors: [GradientColor; 16]"),
         (" start: usize,\n        release: u64,\n        numbers: *mut f64,\n        numbers_length: usize,\n", " start: usize,\n        release: u64,\n        numbers: *mut f64,\n"),

@@ -215,6 +215,13 @@ pub struct LengthsAnswer {
     pub numbers: usize,
 }
 
+/// A part of the list of numbers: its first index, and how many numbers it has.
+#[repr(C)]
+pub struct SeedPart {
+    pub begin: usize,
+    pub count: usize,
+}
+
 unsafe extern "C" {
     pub fn dwg_read_b(s: *const u8, length: usize, at: usize) -> CodeAnswer;
     pub fn dwg_read_bb(s: *const u8, length: usize, at: usize) -> CodeAnswer;
@@ -297,6 +304,7 @@ unsafe extern "C" {
         string_end: usize,
         release: u64,
     ) -> LengthsAnswer;
+    pub fn dwg_hatch_seed_points(numbers_used: usize, num_seed_points: usize, length: usize) -> SeedPart;
 }
 
 #[cfg(test)]

@@ -59,7 +59,8 @@ fn a_gradient_lies_as_c_lays_it() {
 
 #[test]
 fn a_hatch_lies_as_c_lays_it() {
-    assert_eq!([size_of::<BodyFields>(), size_of::<LengthsAnswer>()], [72, 40]);
+    assert_eq!([size_of::<BodyFields>(), size_of::<LengthsAnswer>(), size_of::<SeedPart>()], [72, 40, 16]);
+    assert_eq!([offset_of!(SeedPart, begin), offset_of!(SeedPart, count)], [0, 8]);
     assert_eq!([offset_of!(BodyFields, solid_fill), offset_of!(BodyFields, pattern_double)], [24, 26]);
     assert_eq!([offset_of!(BodyFields, pattern_style), offset_of!(BodyFields, num_paths)], [28, 32]);
     assert_eq!([size_of::<BodyAnswer>(), size_of::<BodyBitsAnswer>()], [608, 608]);

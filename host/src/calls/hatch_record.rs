@@ -1,8 +1,9 @@
 //! What a hatch body holds, and an answer's structs as that.
 
-use crate::boundary::ffi::{BodyFields, TextFields};
+use crate::boundary::ffi::{self, BodyFields, TextFields};
 use super::codes::OUTSIDE;
 use super::texts::{self, Source, Text};
+use std::ops::Range;
 
 /// A place in each payload, in bits; without a string reader the second is 0.
 #[derive(Clone, Copy, Debug, PartialEq, Eq)]
@@ -93,6 +94,24 @@ pub struct Hatch<Double = f64> {
     pub numbers_used: usize,
     /// The final places.
     pub places: Places,
+}
+
+impl<Double> Hatch<Double> {
+    /// Which part of a list of so many numbers holds the seed points, x and y of each: the last numbers used. Empty where the list or the numbers
+    /// used are too few for them.
+    ///
+    /// ```
+    /// let bytes = [&[0xa9, 0xaa, 0x90, 0x10][..], &[0; 16]].concat();
+    /// let mut numbers = [7.0; 3];
+    /// let hatch = dwg_hatch::HatchBody::new(&bytes, 0, dwg_hatch::Release::R2000).decode_into(&mut numbers, &mut [])?;
+    /// assert_eq!((hatch.seed_part(numbers.len()), hatch.seed_part(1)), (0..2, 0..0));
+    /// # Ok::<(), dwg_hatch::Refusal>(())
+    /// ```
+    pub fn seed_part(&self, length: usize) -> Range<usize> {
+        // SAFETY: three numbers go in and two come out.
+        let part = unsafe { ffi::dwg_hatch_seed_points(self.numbers_used, self.num_seed_points, length) };
+        part.begin..part.begin + part.count
+    }
 }
 
 /// A hatch and its two lists, whose entries stand in reading order.

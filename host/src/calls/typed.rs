@@ -157,10 +157,12 @@ impl HatchBody<'_> {
     /// The same of lists that lie elsewhere. What a call over this body gave fits by the library's contract; if it does not, no answer is better than
     /// a wrong one.
     fn tree<Double: Copy>(&self, hatch: Hatch<Double>, words: &[u32], numbers: &[Double]) -> Option<TypedHatch<Double>> {
-        let mut rest = Rest { words, numbers };
+        let part = hatch.seed_part(numbers.len());
+        let mut seeds = Rest { words: &[], numbers: numbers.get(part.clone())? };
+        let seed_points = seeds.many(hatch.num_seed_points, Rest::point)?;
+        let mut rest = Rest { words, numbers: numbers.get(..numbers.len() - part.len())? };
         let paths = rest.many(hatch.num_paths, Rest::path)?;
         let pattern_lines = rest.many(hatch.num_pattern_lines, Rest::pattern_line)?;
-        let seed_points = rest.many(hatch.num_seed_points, Rest::point)?;
         if !rest.words.is_empty() || !rest.numbers.is_empty() {
             return None;
         }
