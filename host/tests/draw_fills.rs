@@ -25,6 +25,8 @@ fn pattern_lines_are_clipped_to_the_area() {
     assert_eq!(data(&plain, "pattern"), "M0 70L100 70M0 20L100 20");
     let dashed = answers(&words, lined(10.0, &[(0.0, [1.0, 5.0], [0.0, 20.0], &[3.0, -2.0])]).as_bytes());
     assert_eq!(data(&dashed, "pattern"), "M10 50L40 50M60 50L90 50");
+    let dotted = answers(&words, lined(10.0, &[(0.0, [1.0, 5.0], [0.0, 20.0], &[3.0, -2.0, 0.0, -2.0])]).as_bytes());
+    assert_eq!((data(&dotted, "pattern"), data(&dotted, "pattern dots")), ("M10 50L40 50M80 50L100 50".to_string(), "M60 50L60 50".to_string()));
     // A view of a part, and a hatch that reaches beyond it.
     let part = answers(&["draw", "--view", "4,4,2,2", "--width", "100"], lined(10.0, &[(0.0, [0.0, 5.5], [0.0, 1.0], &[])]).as_bytes());
     assert_eq!(data(&part, "pattern"), "M0 75L100 75M0 25L100 25");

@@ -23,6 +23,7 @@ path { fill: none; stroke: currentColor; stroke-width: 1.5; stroke-linecap: roun
 .lined { fill-opacity: 0.08 }
 .gradient { fill-opacity: 0.75 }
 .pattern { stroke-width: 1 }
+.dots { stroke-width: 2 }
 .instead { stroke-dasharray: 6 4 }
 .seed { stroke: #000 }
 text { font: 16px sans-serif }
@@ -155,11 +156,13 @@ impl<'a, Out: Write> Sheet<'a, Out> {
             return Ok(());
         };
         self.strokes_left -= strokes.len();
-        if strokes.is_empty() {
-            return Ok(());
+        // A dot has no length, and would hardly be seen if it were as narrow as a line.
+        let (dots, lines): (Vec<_>, Vec<_>) = strokes.into_iter().partition(|[from, to]| from == to);
+        for (class, strokes) in [("pattern", lines), ("pattern dots", dots)].into_iter().filter(|(_, strokes)| !strokes.is_empty()) {
+            let data: String = strokes.into_iter().map(stroke).collect();
+            writeln!(self.out, "<path class=\"{class}\" d=\"{data}\"><title>pattern lines</title></path>")?;
         }
-        let data: String = strokes.into_iter().map(stroke).collect();
-        writeln!(self.out, "<path class=\"pattern\" d=\"{data}\"><title>pattern lines</title></path>")
+        Ok(())
     }
 
     /// The outlines' lines and the seed points.
