@@ -6,7 +6,6 @@ pub mod Prefix
 pub mod FieldLaws
 pub mod Format
 pub mod Blocks
-pub mod Threes
 pub mod Parts
 pub mod PlainColours
 pub mod Record

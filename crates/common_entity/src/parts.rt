@@ -166,15 +166,15 @@ pub fn read_styles(s: &[u8], prior: Read, row: Row) -> Styles
     ensures { λ r. ⌜ r ≡ stylesOf row (now (s .entry)) prior ⌝ }
 {
     let scale = sequence::then_bd_bits(s, prior);
-    let has = row.material_and_shadow;
-    let flags = steps::then_three(s, scale, row.ltype_and_plotstyle, has);
-    let behind_flags = flags.last;
-    let shadow = sequence::then_low(s, behind_flags, 1, has, 0);
+    let linetype = sequence::then_bits(s, scale, 2, row.ltype_and_plotstyle, 0);
+    let plot = sequence::then_bits(s, linetype, 2, row.ltype_and_plotstyle, 0);
+    let material = sequence::then_bits(s, plot, 2, row.material_and_shadow, 0);
+    let shadow = sequence::then_low(s, material, 1, row.material_and_shadow, 0);
     Styles {
         scale: sequence::value_of(scale),
-        linetype: flags.first,
-        plot: flags.second,
-        material: flags.third,
+        linetype: sequence::value_of(linetype),
+        plot: sequence::value_of(plot),
+        material: sequence::value_of(material),
         shadow: sequence::value_of(shadow),
         last: shadow,
     }

@@ -1,6 +1,5 @@
-// The prefix's fields that are more than one code: the XDATA chain, graphics, a colour's name, and three BB in a row.
+// The prefix's fields that are more than one code: the XDATA chain, graphics, and a colour's name.
 ghost use mathlib.Core.Path.{_≡_};
-ghost use mathlib.Core.Bool.{true};
 ghost use Prim.Native.Nat.{_≤_};
 ghost use lib.ListN.{length};
 ghost use Rattle.bitcursor.specs.Answers.{limit, asRead};
@@ -9,21 +8,12 @@ ghost use Rattle.bitcursor.specs.Handles.{BLL, checked};
 ghost use Rattle.bitcursor.specs.Sequence.{held, thenRead};
 ghost use Rattle.common_entity.specs.Prefix.{graphics, name, drawing};
 ghost use Rattle.common_entity.specs.Blocks.{block, chainFrom};
-ghost use Rattle.common_entity.specs.Threes.{threeOf};
 use bitcursor::Passed;
 use bitcursor::Read;
 use bitcursor::ReadHandle;
 use bitcursor::Refusal;
 use bitcursor::sequence;
 use text::ReadText;
-
-// The numbers of three fields, and the last answer.
-pub struct Three {
-    pub first: u64,
-    pub second: u64,
-    pub third: u64,
-    pub last: Read,
-}
 
 // One XDATA block: 0 where its size is 0, and 1 after a handle and that many bytes.
 fn read_block(s: &[u8], at: usize) -> Read
@@ -150,49 +140,4 @@ pub fn then_name(s: &[u8], prior: Read, has: bool, two_bytes: bool) -> Read
         }
         Read::Refused(k, p) => Read::Refused(k, p),
     }
-}
-
-// Three BB one by one; the first two and the third may be lacking.
-fn read_each(s: &[u8], prior: Read, two: bool, third: bool) -> Three
-    requires { ⌜ length (now s) ≤ limit ⌝ }
-    ensures { λ r. ⌜ r ≡ threeOf 2 two third (now (s .entry)) prior ⌝ }
-{
-    let a = sequence::then_bits(s, prior, 2, two, 0);
-    let b = sequence::then_bits(s, a, 2, two, 0);
-    let c = sequence::then_bits(s, b, 2, third, 0);
-    Three {
-        first: sequence::value_of(a),
-        second: sequence::value_of(b),
-        third: sequence::value_of(c),
-        last: c,
-    }
-}
-
-// Three BB of which none is lacking: by one read if their bits are there.
-fn read_at_once(s: &[u8], prior: Read) -> Three
-    requires { ⌜ length (now s) ≤ limit ⌝ }
-    ensures { λ r. ⌜ r ≡ threeOf 2 true true (now (s .entry)) prior ⌝ }
-{
-    match prior {
-        Read::Value(before, p) => match bitcursor::within::read_bits(s, p, 6) {
-            Read::Value(v, q) => Three {
-                first: v / 4 / 4,
-                second: v / 4 % 4,
-                third: v % 4,
-                last: Read::Value(v % 4, q),
-            },
-            Read::Refused(_, _) => read_each(s, Read::Value(before, p), true, true),
-        },
-        Read::Refused(k, p) => read_each(s, Read::Refused(k, p), true, true),
-    }
-}
-
-pub fn then_three(s: &[u8], prior: Read, two: bool, third: bool) -> Three
-    requires { ⌜ length (now s) ≤ limit ⌝ }
-    ensures { λ r. ⌜ r ≡ threeOf 2 two third (now (s .entry)) prior ⌝ }
-{
-    if two & third {
-        return read_at_once(s, prior);
-    }
-    read_each(s, prior, two, third)
 }
