@@ -1,18 +1,17 @@
-//! Standard input: lines REQUEST, tab, ANSWER, as `oracle stored` prints them. Standard output: a record of 64-bit words, low byte
-//! first, for each line and each call that serves it:
-//!   how many words follow; the line's number from 1; the kind; the release; the start; four further numbers of the request;
-//!   the payload's length in bytes, how many of them are stored; the same two for the strings (0 and 0 without a reader);
-//!   the payload's stored bytes, and the strings', each padded to whole words;
+//! Standard input: lines REQUEST, tab, ANSWER, as `oracle stored` prints them. Standard output: a record of 64-bit items, low byte
+//! first, for each line and each call that serves it, of hatches (`pack hatches`, for crate hatch_vectors) or of all others (`pack others`,
+//! for crate vectors):
+//!   how many items follow; the line's number from 1; the kind; the release; the start; four further numbers of the request;
+//!   the payload's length in bytes, the strings' length (0 without a reader); the bytes of both, each padded to whole items;
 //!   the refusal's number or 0, the place, the second place, how many values, the values (signed ones in two's complement).
-//! A payload of zeros (`zN`) is not stored: its length is N and its stored bytes are 0; strings are always stored. A line with a payload above the limit has no
-//! record: crate limit replays it.
+//! A line with a payload above the limit has no record: crate limit replays it.
 //!
 //! To add a kind: its number in KINDS and in the program's src/, its further numbers in `request`, its values in `values`.
 
 use std::io::{Read, Write};
 
 /// The name in a request, the number of the kind, and whether this is the call that hands over f64, whose NaN is 7ff8000000000000.
-const KINDS: [(&str, u64, bool); 22] = [
+const KINDS: [(&str, u64, bool); 23] = [
     ("b", 1, false),
     ("bb", 2, false),
     ("3b", 3, false),
@@ -35,14 +34,21 @@ const KINDS: [(&str, u64, bool); 22] = [
     ("tv", 20, false),
     ("hatch", 21, false),
     ("hatchs", 22, false),
+    ("hatchs", READER, false),
 ];
 
-/// What the program has room for: the numbers of an answer, the entries of each lent list, the bytes of a record, the bytes of a payload
-/// of zeros. A hatch without lent lengths is lent all entries.
+/// The kinds that call a hatch; and the one that reads the text of a hatch by a reader alone.
+const HATCHES: [u64; 2] = [21, 22];
+const READER: u64 = 23;
+
+/// The last release whose bodies have no gradient, and so one text.
+const ONE_TEXT: u64 = 2;
+
+/// What the programs have room for: the numbers of an answer, the entries of each lent list, the bytes of a record. A hatch without lent
+/// lengths is lent all entries.
 const ROOM: usize = 1024;
 const LENT: u64 = 512;
 const SPACE: usize = 65_536;
-const ZEROS: u64 = 4_096;
 
 /// Document 01's limit of a payload, in bytes.
 const LIMIT: u64 = 268_435_456;
@@ -53,17 +59,13 @@ const STRING_END: usize = 1;
 const WORDS: usize = 2;
 const NUMBERS: usize = 3;
 
-struct Payload {
-    length: u64,
-    stored: Vec<u8>,
-}
-
+#[derive(Default)]
 struct Request {
     release: u64,
     start: u64,
     further: [u64; 4],
-    main: Payload,
-    strings: Payload,
+    main: Vec<u8>,
+    strings: Vec<u8>,
 }
 
 fn decimal(text: &str) -> Result<u64, String> {
@@ -77,27 +79,23 @@ fn hex(text: &str) -> Result<u64, String> {
     u64::from_str_radix(text, 16).map_err(|_| format!("no hexadecimal number: {text}"))
 }
 
-fn payload(text: &str) -> Result<Payload, String> {
+/// The bytes of a payload: `-` for none, `zN` for N zeros, or hexadecimal.
+fn payload(text: &str) -> Result<Vec<u8>, String> {
     if let Some(zeros) = text.strip_prefix('z') {
-        return Ok(Payload { length: decimal(zeros)?, stored: Vec::new() });
+        return Ok(vec![0; decimal(zeros)? as usize]);
     }
     if text == "-" {
-        return Ok(Payload { length: 0, stored: Vec::new() });
+        return Ok(Vec::new());
     }
     if !text.is_ascii() || text.len() % 2 != 0 {
         return Err(format!("no bytes: {text}"));
     }
-    let pairs = (0..text.len()).step_by(2).map(|i| hex(&text[i..i + 2]).map(|byte| byte as u8));
-    let stored = pairs.collect::<Result<Vec<u8>, String>>()?;
-    Ok(Payload { length: stored.len() as u64, stored })
+    (0..text.len()).step_by(2).map(|i| hex(&text[i..i + 2]).map(|byte| byte as u8)).collect()
 }
 
-/// The same payload with its zeros stored, if there is room.
-fn stored(payload: Payload) -> Payload {
-    if payload.stored.is_empty() && payload.length <= ZEROS {
-        return Payload { length: payload.length, stored: vec![0; payload.length as usize] };
-    }
-    payload
+/// Whether a payload of the request is above the limit.
+fn above_limit(words: &[&str]) -> bool {
+    words.iter().any(|word| word.strip_prefix('z').and_then(|zeros| zeros.parse::<u64>().ok()).is_some_and(|zeros| zeros > LIMIT))
 }
 
 /// The lent lengths, of words and of numbers.
@@ -119,14 +117,14 @@ fn request(words: &[&str]) -> Result<Request, String> {
         return Err("too few words".to_string());
     };
     let mut further = [0; 4];
-    let mut strings = Payload { length: 0, stored: Vec::new() };
+    let mut strings = Vec::new();
     match (*name, rest) {
         ("dd", [default]) => further[FIRST] = hex(default)?,
         ("hatch", lengths) => [further[WORDS], further[NUMBERS]] = lent(lengths)?,
         ("hatchs", [start, end, bytes, lengths @ ..]) => {
             [further[FIRST], further[STRING_END]] = [decimal(start)?, decimal(end)?];
             [further[WORDS], further[NUMBERS]] = lent(lengths)?;
-            strings = stored(payload(bytes)?);
+            strings = payload(bytes)?;
         }
         (_, []) => {}
         _ => return Err("words left over".to_string()),
@@ -275,64 +273,80 @@ fn as_f64(name: &str, request: &Request, mut outcome: Vec<u64>) -> Option<Vec<u6
     Some(outcome)
 }
 
-/// Whether the program has room for the request and its answer.
-fn room(request: &Request, outcome: &[u64]) -> Result<(), String> {
-    let stored = request.main.stored.len() + request.strings.stored.len();
-    if outcome.len() > ROOM || 8 * outcome.len() + stored + 128 > SPACE {
-        return Err(format!("no room for {} bytes and {} numbers", stored, outcome.len()));
+/// The text of a hatch body by a reader: a request on the strings, with their end bit, and its refusal and position; none where the body's
+/// answer does not have both. A body of one text has them where it was read, where text passed the end bit, where the units were not
+/// UTF-16, and where the string start lies past the strings.
+fn reader(request: &Request, outcome: &[u64]) -> Option<(Request, Vec<u64>)> {
+    let start = request.further[FIRST];
+    let is_past = start > 8 * request.strings.len() as u64;
+    if !(1..=ONE_TEXT).contains(&request.release) || !(is_past || [0, 6, 7].contains(&outcome[0])) {
+        return None;
     }
-    if request.main.stored.is_empty() && request.main.length > ZEROS {
-        return Err(format!("no room for {} zeros", request.main.length));
-    }
-    if request.strings.stored.len() as u64 != request.strings.length {
-        return Err("strings that are not stored".to_string());
-    }
-    Ok(())
+    let mut further = [0; 4];
+    further[FIRST] = request.further[STRING_END];
+    let asked = Request { release: request.release, start, further, main: request.strings.clone(), ..Request::default() };
+    Some((asked, vec![outcome[0], outcome[2], 0, 0]))
 }
 
-fn record(line: u64, kind: u64, request: &Request, outcome: &[u64]) -> Vec<u64> {
+fn record(line: u64, kind: u64, request: &Request, outcome: &[u64]) -> Result<Vec<u8>, String> {
     let (main, strings) = (&request.main, &request.strings);
-    let mut words = vec![line, kind, request.release, request.start];
-    words.extend(request.further);
-    words.extend([main.length, main.stored.len() as u64, strings.length, strings.stored.len() as u64]);
-    for stored in [&main.stored, &strings.stored] {
-        for part in stored.chunks(8) {
-            let mut bytes = [0; 8];
-            bytes[..part.len()].copy_from_slice(part);
-            words.push(u64::from_le_bytes(bytes));
-        }
+    let mut items = vec![line, kind, request.release, request.start];
+    items.extend(request.further);
+    items.extend([main.len() as u64, strings.len() as u64]);
+    for part in main.chunks(8).chain(strings.chunks(8)) {
+        let mut bytes = [0; 8];
+        bytes[..part.len()].copy_from_slice(part);
+        items.push(u64::from_le_bytes(bytes));
     }
-    words.extend(outcome);
-    words.insert(0, words.len() as u64);
-    words
+    items.extend(outcome);
+    if outcome.len() > ROOM || 8 * items.len() > SPACE {
+        return Err(format!("no room for {} items and {} numbers", items.len(), outcome.len()));
+    }
+    items.insert(0, items.len() as u64);
+    Ok(items.iter().flat_map(|item| item.to_le_bytes()).collect())
 }
 
-fn pack(line: u64, text: &str, out: &mut Vec<u8>) -> Result<(), String> {
+/// The line's records of hatches, or of all other kinds.
+fn pack(line: u64, text: &str, hatches: bool, out: &mut Vec<u8>) -> Result<(), String> {
     let (asked, answer) = text.split_once('\t').ok_or("no tab")?;
     let words: Vec<&str> = asked.split(' ').collect();
-    let request = request(&words)?;
-    if request.main.length > LIMIT || request.strings.length > LIMIT {
+    if above_limit(&words) {
         return Ok(());
     }
+    let request = request(&words)?;
     let outcome = outcome(words[0], answer)?;
-    room(&request, &outcome)?;
-    let before = out.len();
+    let mut is_known = false;
     for (_, kind, is_f64) in KINDS.into_iter().filter(|(name, ..)| *name == words[0]) {
+        is_known = true;
+        if HATCHES.contains(&kind) != hatches {
+            continue;
+        }
+        if kind == READER {
+            if let Some((asked, expected)) = reader(&request, &outcome) {
+                out.extend(record(line, kind, &asked, &expected)?);
+            }
+            continue;
+        }
         let expected = if is_f64 { as_f64(words[0], &request, outcome.clone()) } else { Some(outcome.clone()) };
         if let Some(expected) = expected {
-            out.extend(record(line, kind, &request, &expected).iter().flat_map(|word| word.to_le_bytes()));
+            out.extend(record(line, kind, &request, &expected)?);
         }
     }
-    if out.len() == before { Err(format!("no such kind: {}", words[0])) } else { Ok(()) }
+    if is_known { Ok(()) } else { Err(format!("no such kind: {}", words[0])) }
 }
 
 fn main() -> Result<(), String> {
+    let hatches = match std::env::args().nth(1).as_deref() {
+        Some("hatches") => true,
+        Some("others") => false,
+        _ => return Err("usage: pack hatches|others".to_string()),
+    };
     let mut text = String::new();
     std::io::stdin().read_to_string(&mut text).map_err(|error| error.to_string())?;
     let mut out = Vec::new();
     for (index, line) in text.lines().enumerate() {
         let number = index as u64 + 1;
-        pack(number, line, &mut out).map_err(|error| format!("line {number}: {error}"))?;
+        pack(number, line, hatches, &mut out).map_err(|error| format!("line {number}: {error}"))?;
     }
     std::io::stdout().write_all(&out).map_err(|error| error.to_string())
 }

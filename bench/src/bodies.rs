@@ -8,6 +8,8 @@ pub struct Body {
     pub bytes: Vec<u8>,
     pub numbers: Vec<u64>,
     pub words: usize,
+    /// Whether it is a body of polylines alone, which the plain Rust reads too.
+    pub plain: bool,
 }
 
 /// How a BD is written: in all its bytes, or as the tag alone (1.0 and +0.0 in turn).
@@ -85,11 +87,11 @@ fn body(name: impl Into<String>, paths: u32, mut path: impl FnMut(&mut Pen)) -> 
         pen.words += 1;
     }
     pen.out.put(0b10_10_10, 6); // style 0, type 0, no seeds
-    Body { name: name.into(), bytes: pen.out.bytes, numbers: pen.numbers, words: pen.words }
+    Body { name: name.into(), bytes: pen.out.bytes, numbers: pen.numbers, words: pen.words, plain: false }
 }
 
 fn polylines(name: impl Into<String>, paths: u32, vertices: u32, bulge: Option<Coded>) -> Body {
-    body(name, paths, |pen| {
+    let laid = body(name, paths, |pen| {
         pen.word(3); // external, polyline
         pen.switch(bulge.is_some());
         pen.switch(true);
@@ -100,7 +102,8 @@ fn polylines(name: impl Into<String>, paths: u32, vertices: u32, bulge: Option<C
                 pen.bd(coded);
             }
         }
-    })
+    });
+    Body { plain: paths > 0, ..laid }
 }
 
 fn lines(name: &str, paths: u32, edges: u32) -> Body {

@@ -1,27 +1,13 @@
 //! Times the Rust, unchanged, and the port on the same bytes; bench/run and bench/instructions build and run it.
 
-#[allow(dead_code)]
-mod bitcursor;
-#[allow(dead_code)]
-mod code_page;
-#[allow(dead_code)]
-mod common_entity;
-#[allow(dead_code, unused_imports)]
-mod entities;
-#[allow(dead_code)]
-mod error;
-#[allow(dead_code)]
-mod string_stream;
-#[allow(dead_code)]
-mod tables;
-#[allow(dead_code)]
-mod version;
+include!("rust_modules.rs");
 
 mod bodies;
 #[allow(dead_code)]
 mod ffi;
 #[allow(dead_code)]
 mod rng;
+mod plain;
 mod rows;
 mod sides;
 mod writer;
@@ -31,8 +17,8 @@ use std::process::ExitCode;
 use rows::{Rows, grouped};
 
 const USAGE: &str = "usage: bench ROUNDS
-       bench rows                     the rows whose calls are counted, each looked at: name, tab, bytes
-       bench repeat ROW SIDE TIMES    calls a row's side (0 the Rust, 1 as f64, 2 as 64 bits) so many times";
+       bench rows                     the rows whose calls are counted, each looked at: name, bytes, sides
+       bench repeat ROW SIDE TIMES    calls a row's side (0 the Rust, 1 as f64, 2 as 64 bits, 3 plain) so many times";
 
 fn micro(_: usize, seconds: f64) -> String {
     let micros = seconds * 1.0e6;
@@ -64,7 +50,7 @@ fn counted() -> Rows {
 }
 
 fn names() -> Result<(), String> {
-    counted().iter().try_for_each(|make| make(true).map(|row| println!("{}\t{}", row.name, row.bytes)))
+    counted().iter().try_for_each(|make| make(true).map(|row| println!("{}\t{}\t{}", row.name, row.bytes, row.sides.len())))
 }
 
 fn repeat(row: &str, side: &str, times: &str) -> Result<(), String> {

@@ -3,7 +3,7 @@
 use std::time::Instant;
 
 use crate::bodies::{self, Named};
-use crate::sides::{self, Row};
+use crate::sides::{self, Repeat, Row};
 
 /// What makes a row, when it is its turn, since the large ones take much room; with `true` it is first looked that both sides read it.
 pub type Make = Box<dyn Fn(bool) -> Result<Row, String>>;
@@ -37,15 +37,16 @@ pub fn growth(megabytes: &[u32], bulges: bool) -> Rows {
     megabytes.iter().map(|of| row(*of)).collect()
 }
 
-/// The best times of one call by each side, in seconds. The sides take turns, so that a busy machine slows all three; short calls are
+/// The best times of one call by each side, in seconds. The sides take turns, so that a busy machine slows them all; short calls are
 /// timed many at once.
-fn best(row: &mut Row, rounds: usize) -> [f64; 3] {
-    let calls = row.sides.each_mut().map(|side| {
+fn best(row: &mut Row, rounds: usize) -> Vec<f64> {
+    let count = |side: &mut Repeat| {
         let began = Instant::now();
         side(1);
         (2_000_000 / began.elapsed().as_nanos().max(1)).max(1) as u32
-    });
-    let mut best = [f64::INFINITY; 3];
+    };
+    let calls: Vec<u32> = row.sides.iter_mut().map(count).collect();
+    let mut best = vec![f64::INFINITY; calls.len()];
     for _ in 0..rounds {
         for (index, side) in row.sides.iter_mut().enumerate() {
             let began = Instant::now();
@@ -70,15 +71,22 @@ pub fn grouped(value: f64, digits: usize) -> String {
     out + rest
 }
 
-/// Prints a table whose cells are `shown` of a row's bytes and one side's seconds, with the ratios to the Rust's time.
+/// Prints a table whose cells are `shown` of a row's bytes and one side's seconds: with the ratios to the Rust's time, and where a row has the
+/// plain Rust, how many times its time the 64-bit entry takes.
 pub fn print(title: &str, rows: Rows, rounds: usize, shown: fn(usize, f64) -> String) -> Result<(), String> {
-    println!("\n| {title} | Rust | as f64 | times | as 64 bits | times |\n|---|---|---|---|---|---|");
+    let ratio = |of: f64| grouped(of, usize::from(of < 100.0));
+    println!("\n| {title} | Rust | as f64 | times | as 64 bits | times | plain | of it |\n|---|---|---|---|---|---|---|---|");
     for make in rows {
         let mut row = make(true)?;
         let times = best(&mut row, rounds);
-        let [rust, f64_entry, bits_entry] = times.map(|seconds| shown(row.bytes, seconds));
-        let [_, f64_ratio, bits_ratio] = times.map(|seconds| times[0] / seconds).map(|ratio| grouped(ratio, usize::from(ratio < 100.0)));
-        println!("| {} | {rust} | {f64_entry} | {f64_ratio} | {bits_entry} | {bits_ratio} |", row.name);
+        let mut line = format!("| {} | {} |", row.name, shown(row.bytes, times[0]));
+        for seconds in &times[1..3] {
+            line += &format!(" {} | {} |", shown(row.bytes, *seconds), ratio(times[0] / seconds));
+        }
+        match times.get(3) {
+            Some(plain) => println!("{line} {} | {} |", shown(row.bytes, *plain), grouped(times[2] / plain, 2)),
+            None => println!("{line} | |"),
+        }
     }
     Ok(())
 }

@@ -7,6 +7,7 @@ use crate::bodies::Body;
 use crate::common_entity;
 use crate::entities::hatch::{self, Hatch};
 use crate::ffi;
+use crate::plain;
 use crate::string_stream::{StringReader, StringStream};
 use crate::version::Version;
 
@@ -17,11 +18,12 @@ const VERSION: Version = Version::R2010;
 /// Calls so many times.
 pub type Repeat = Box<dyn FnMut(u32)>;
 
-/// A row: the Rust, the port with doubles as f64, and as their 64 bits, all on the same bytes.
+/// A row: the Rust, the port with doubles as f64, and as their 64 bits, all on the same bytes; and, of bodies of polylines, the plain Rust for
+/// these alone (src/plain.rs).
 pub struct Row {
     pub name: String,
     pub bytes: usize,
-    pub sides: [Repeat; 3],
+    pub sides: Vec<Repeat>,
 }
 
 fn repeat(mut call: impl FnMut() + 'static) -> Repeat {
@@ -66,6 +68,10 @@ fn check(body: &Body) -> Result<(), String> {
     if numbers.iter().zip(&body.numbers).any(|(got, laid)| got.to_bits() != *laid) {
         return Err("the port's list is not what was laid out".to_string());
     }
+    bits.fill(0);
+    if body.plain && !(plain::read(&body.bytes, &mut bits) && bits == body.numbers) {
+        return Err("the plain Rust's list is not what was laid out".to_string());
+    }
     Ok(())
 }
 
@@ -74,15 +80,20 @@ pub fn of_body(body: Body, checked: bool) -> Result<Row, String> {
     if checked {
         check(&body).map_err(|why| format!("{}: {why}", body.name))?;
     }
-    let [a, b, c] = [body.bytes.clone(), body.bytes.clone(), body.bytes];
-    let (mut numbers, mut bits) = (vec![0.0; body.numbers.len()], vec![0; body.numbers.len()]);
+    let [a, b, c, d] = [body.bytes.clone(), body.bytes.clone(), body.bytes.clone(), body.bytes];
+    let (mut numbers, mut bits, mut list) = (vec![0.0; body.numbers.len()], vec![0; body.numbers.len()], vec![0; body.numbers.len()]);
     let (mut words, mut more) = (vec![0; body.words], vec![0; body.words]);
     let bytes = a.len();
-    let sides = [
+    let mut sides = vec![
         repeat(move || drop(black_box(rust(black_box(&a))))),
         repeat(move || drop(black_box(port(black_box(&b), &mut numbers, &mut words)))),
         repeat(move || drop(black_box(port_bits(black_box(&c), &mut bits, &mut more)))),
     ];
+    if body.plain {
+        sides.push(repeat(move || {
+            black_box(plain::read(black_box(&d), black_box(&mut list)));
+        }));
+    }
     Ok(Row { name: body.name, bytes, sides })
 }
 
@@ -102,7 +113,7 @@ pub fn of_prefix(name: &str, bytes: Vec<u8>, checked: bool) -> Result<Row, Strin
     if checked && !alike() {
         return Err(format!("{name}: the port does not read what the Rust reads"));
     }
-    let sides = [
+    let sides = vec![
         repeat(move || drop(black_box(theirs(black_box(bytes))))),
         repeat(move || drop(black_box(ours(black_box(bytes))))),
         repeat(move || drop(black_box(ours_bits(black_box(bytes))))),
@@ -143,7 +154,7 @@ pub fn of_string_start(name: &str, length: usize, start: usize, checked: bool) -
         return Err(format!("{name}: the two do not read the name alike"));
     }
     let [a, b] = [string.clone(), string.clone()];
-    let sides = [
+    let sides = vec![
         repeat(move || drop(black_box(theirs(black_box(&a))))),
         repeat(move || drop(black_box(ours(black_box(&b))))),
         repeat(move || drop(black_box(ours_bits(black_box(&string))))),

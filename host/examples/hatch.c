@@ -1,6 +1,6 @@
 /* Reads a hatch body through dwg_hatch.h and prints it: measure, lend, read, print.
  *
- *     hatch [RELEASE HEX [START]]       a payload in hexadecimal and its start bit; without words one of the papers' examples is read
+ *     hatch [RELEASE HEX [START]]       a payload in hexadecimal and its start bit; without words a hatch of one seed point is read
  *
  * cc -Ihost/include host/examples/hatch.c libdwg_hatch.a -o hatch      Exit status 0: read; 1: refused; 2: bad usage. */
 #include <dwg_hatch.h>
@@ -45,11 +45,14 @@ static void numbers(Lists *lists, const char *name, size_t count) {
 static void edge(Lists *lists) {
     printf("\n  edge:");
     uint32_t kind = words(lists, 1);
-    if (kind == 1) {
+    if (kind == DWG_EDGE_LINE) {
         numbers(lists, "start, end", 4);
-    } else if (kind < 4) {
+    } else if (kind == DWG_EDGE_ARC) {
         words(lists, 1);
-        numbers(lists, kind == 2 ? "centre, radius, angles" : "centre, endpoint, ratio, angles", kind == 2 ? 5 : 7);
+        numbers(lists, "centre, radius, angles", 5);
+    } else if (kind == DWG_EDGE_ELLIPSE) {
+        words(lists, 1);
+        numbers(lists, "centre, endpoint, ratio, angles", 7);
     } else {
         const uint32_t *of = lists->words; /* degree, rational, periodic, knots, controls, fits */
         words(lists, 6);
@@ -62,7 +65,7 @@ static void edge(Lists *lists) {
 static void path(Lists *lists, size_t index) {
     printf("path %zu:", index);
     uint32_t flags = words(lists, 1);
-    if (flags & 2) {
+    if (flags & DWG_PATH_POLYLINE) {
         uint32_t bulge = *lists->words, vertices = words(lists, 3);
         numbers(lists, bulge ? "vertices with bulges" : "vertices", (size_t)vertices * (bulge ? 3 : 2));
     } else {
@@ -75,12 +78,21 @@ static void path(Lists *lists, size_t index) {
     printf("\n");
 }
 
-static void print(const DwgBodyAnswer *a, Lists lists) {
+/* A text of the main payload, its characters as far as they fit. */
+static void text(const char *what, const uint8_t *payload, size_t length, DwgTextFields at) {
+    char characters[256];
+    size_t bytes = dwg_text_utf8(payload, length, at.width, at.position, at.count, characters, sizeof characters);
+    printf("%s \"%s\"%s: %zu units of %u bits at bit %zu\n", what, characters, bytes < sizeof characters ? "" : "...", at.count, at.width, at.position);
+}
+
+static void print(const DwgBodyAnswer *a, Lists lists, const uint8_t *payload, size_t length) {
     const DwgBodyFields *f = &a->fields;
+    const double *first = lists.numbers;
     printf("read to bit %zu: %zu words, %zu numbers\n", a->place, f->words_used, f->numbers_used);
     printf("gradient: present %d, angle %.17g, %zu colours\n", a->gradient.present, a->gradient.angle, a->gradient.num_colors);
+    text("gradient's name", payload, length, a->gradient.name);
     printf("elevation %.17g, extrusion %.17g %.17g %.17g\n", a->elevation, a->extrusion_x, a->extrusion_y, a->extrusion_z);
-    printf("name: %zu units of %u bits at bit %zu\n", f->pattern_name.count, f->pattern_name.width, f->pattern_name.position);
+    text("name", payload, length, f->pattern_name);
     printf("solid %d, associative %d, style %u, type %u\n", f->solid_fill, f->associative, f->pattern_style, f->pattern_type);
     printf("pattern: angle %.17g, scale %.17g, double %d\n", a->pattern_angle, a->pattern_scale, f->pattern_double);
     printf("pixel size %.17g\n", a->pixel_size);
@@ -92,8 +104,10 @@ static void print(const DwgBodyAnswer *a, Lists lists) {
         numbers(&lists, "angle, origin, offset, dashes", 5 + (size_t)words(&lists, 1));
         printf("\n");
     }
+    DwgSeedPart seeds = dwg_hatch_seed_points(f->numbers_used, f->num_seed_points, f->numbers_used);
+    lists.numbers = first + seeds.begin;
     printf("seeds: %zu", f->num_seed_points);
-    numbers(&lists, "x, y of each", 2 * f->num_seed_points);
+    numbers(&lists, "x, y of each", seeds.count);
     printf("\n");
 }
 
@@ -110,7 +124,7 @@ static int read_hatch(const uint8_t *payload, size_t length, size_t start, uint6
     }
     DwgBodyAnswer a = dwg_hatch_decode(payload, length, start, release, list, needed.numbers, more, needed.words);
     if (a.refusal == DWG_READ) {
-        print(&a, (Lists){more, list});
+        print(&a, (Lists){more, list}, payload, length);
     }
     free(list);
     free(more);

@@ -1,22 +1,7 @@
 //! The Rust, unchanged, as a library that answers one request of the fuzzer; host/fuzz/run builds it with coverage counters, so that the
 //! fuzzer looks for inputs that take new ways through the Rust.
 
-#[allow(dead_code)]
-mod bitcursor;
-#[allow(dead_code)]
-mod code_page;
-#[allow(dead_code)]
-mod common_entity;
-#[allow(dead_code, unused_imports)]
-mod entities;
-#[allow(dead_code)]
-mod error;
-#[allow(dead_code)]
-mod string_stream;
-#[allow(dead_code)]
-mod tables;
-#[allow(dead_code)]
-mod version;
+include!("rust_modules.rs");
 
 // The oracle's answers.
 mod answer_code;

@@ -7,15 +7,34 @@
  *     ... numbers has room for lengths.numbers doubles, words for lengths.words ...
  *     DwgBodyAnswer body = dwg_hatch_decode(payload, payload_length, start, release, numbers, lengths.numbers, words, lengths.words);
  *
- * What goes to the lists, in reading order:
+ * Releases are DWG_R14 to DWG_R2018. A text is where it lies; its characters, in a buffer that is lent:
  *
- * - words: of each path its flags; then bulge, closed and the vertex count (flag value 2 set) or the edge count (clear); of each edge its
- *   kind, then ccw (kinds 2 and 3) or degree, rational, periodic, knots, controls and fits (kind 4; fits are 0 before release 5); last the
- *   path's handle count; after all paths the dash count of each pattern line;
- * - numbers: all other doubles of paths, pattern lines (angle, origin, offset, dashes) and seeds; absent bulges, weights and tangents have
- *   no entry. The seed points are the last 2 * num_seed_points of the numbers_used.
+ *     char name[256];
+ *     DwgTextFields at = body.fields.pattern_name;
+ *     dwg_text_utf8(payload, payload_length, at.width, at.position, at.count, name, sizeof name);
  *
- * dwg_hatch_codes.h says what holds for every function: pointers, refusals, threads, doubles.
+ * with the string payload in place of `payload` where at.source is DWG_SOURCE_STRING.
+ *
+ * What goes to the lists, in reading order; a point is its x and y, an angle is in radians, a switch is 0 or 1:
+ *
+ *     what            words                                                   numbers
+ *     each path       flags (values of DwgPathFlag), then
+ *       a polyline    bulges (a switch), closed (a switch), vertices          each vertex: point, and its bulge if there are bulges
+ *       or edges      edges; then of each edge its kind (of DwgEdgeKind) and
+ *         line        nothing more                                            start point, end point
+ *         arc         counterclockwise (a switch)                             centre, radius, start angle, end angle
+ *         ellipse     counterclockwise (a switch)                             centre, end of the major axis seen from the centre, minor axis
+ *                                                                             by major axis, start angle, end angle
+ *         spline      degree, rational (a switch), periodic (a switch),       the knots; each control point, and its weight if rational; if
+ *                     knots, control points, fit points (0 before R2010)      there are fit points: these, then start tangent, end tangent
+ *       last          boundary handles
+ *     each pattern    dashes                                                  angle, origin, offset to the next line, the dashes' lengths
+ *       line
+ *     seed points                                                             each point: the last 2 * num_seed_points of numbers_used
+ *
+ * A bulge is the tangent of a quarter of the angle of the arc from this vertex to the next, positive counterclockwise. A path is a polyline
+ * where its flags have DWG_PATH_POLYLINE. The comments of dwg_hatch_codes.h say what holds for every function: pointers, refusals, threads,
+ * doubles.
  */
 #ifndef DWG_HATCH_H
 #define DWG_HATCH_H
@@ -26,6 +45,23 @@
 #ifdef __cplusplus
 extern "C" {
 #endif
+
+/* The flags of a path, a word of its own; a hatch with a path that has DWG_PATH_DERIVED has a pixel size. */
+typedef enum DwgPathFlag {
+    DWG_PATH_EXTERNAL = 1,  /* an outer boundary */
+    DWG_PATH_POLYLINE = 2,  /* the path is a polyline and no list of edges */
+    DWG_PATH_DERIVED = 4,   /* the path comes from a boundary object */
+    DWG_PATH_TEXTBOX = 8,   /* the path is a text's box */
+    DWG_PATH_OUTERMOST = 16 /* the outermost path */
+} DwgPathFlag;
+
+/* The kinds of an edge, a word of its own. */
+typedef enum DwgEdgeKind {
+    DWG_EDGE_LINE = 1,
+    DWG_EDGE_ARC = 2,
+    DWG_EDGE_ELLIPSE = 3,
+    DWG_EDGE_SPLINE = 4
+} DwgEdgeKind;
 
 /* The most colours that a gradient has. */
 #define DWG_GRADIENT_COLORS 16
@@ -54,7 +90,7 @@ typedef struct DwgTextFields {
     size_t count;
 } DwgTextFields;
 
-/* The gradient of a hatch, or 0 for each where there is none; colours past their count are 0. */
+/* The gradient of a hatch, or 0 for each where there is none; colours past their count are 0. The angle is in radians. */
 typedef struct DwgGradientFields {
     bool present;
     double angle;
@@ -94,7 +130,8 @@ typedef struct DwgBodyFields {
 } DwgBodyFields;
 
 /* What a hatch gives: the refusal's number or 0, the final place in each payload (without a string reader the second is 0), and the fields
- * or 0 for each. */
+ * or 0 for each. The pattern's angle is in radians; angle, scale and double are 0 where the hatch is solid, the pixel size where no path asks for
+ * one. */
 typedef struct DwgBodyAnswer {
     uint64_t refusal;
     size_t place;
@@ -135,27 +172,35 @@ typedef struct DwgLengthsAnswer {
     size_t numbers;
 } DwgLengthsAnswer;
 
+/* A part of the list of numbers: its first index, and how many numbers it has. */
+typedef struct DwgSeedPart {
+    size_t begin;
+    size_t count;
+} DwgSeedPart;
+
 /* ---- measuring: nothing is lent but the payloads, and nothing is written */
 
-/* The lengths that the lists must have for the hatch body at bit `start`, texts inline. On a refusal (9, then 10, then 1, 2, 3, 4, 7 as the
- * fields have it; never 11): number, place (9, 10: `start`), string_place 0, both lengths 0. */
+/* The lengths that the lists must have for the hatch body at bit `start`, texts inline. Refused, in this order: DWG_UNKNOWN_RELEASE and
+ * DWG_PAYLOAD_TOO_LONG (place: `start`), then DWG_TOO_FEW_BITS, DWG_RESERVED_TAG, DWG_COUNT_TOO_LARGE, DWG_EDGE_KIND and DWG_NOT_UTF16 as the
+ * fields have it; never DWG_LIST_TOO_SHORT. Then string_place and both lengths are 0. */
 DwgLengthsAnswer dwg_hatch_measure(const uint8_t *main, size_t main_length, size_t start, uint64_t release);
 
 /* The same with a string reader: the texts come from the string payload, at every release, from bit `string_start` on; the reader ends at
- * bit `string_end`, which may be any number. The two payloads may be the same bytes. On a refusal (9; 10 of the main, then of the string
- * payload; 1 if string_start is past that payload, with `start` and that payload's length in bits as places; then 1, 2, 3, 4, 6, 7 as the
- * fields have it; never 11): number, both places (9, 10: the start bits), both lengths 0. */
+ * bit `string_end`, which may be any number. The two payloads may be the same bytes. Refused, in this order: DWG_UNKNOWN_RELEASE, then
+ * DWG_PAYLOAD_TOO_LONG of the main and then of the string payload (places: the start bits); DWG_TOO_FEW_BITS if string_start is past that
+ * payload (places: `start` and that payload's length in bits); then as without a reader, and DWG_TEXT_PAST_END, as the fields have it; never
+ * DWG_LIST_TOO_SHORT. Then both lengths are 0. */
 DwgLengthsAnswer dwg_hatch_measure_with_strings(const uint8_t *main, size_t main_length, size_t start, const uint8_t *string,
                                                 size_t string_length, size_t string_start, size_t string_end, uint64_t release);
 
 /* ---- reading: two lists are lent. They are the caller's own arrays, lent as they lie: nothing is copied or converted, and the two must
  * lie apart from each other and from the payloads. The entries up to words_used and numbers_used are what was read; entries past them
- * keep every bit that they had. A list longer than needed is fine; one too short is refusal 11, after all other refusals. */
+ * keep every bit that they had. A list longer than needed is fine; one too short is refused, DWG_LIST_TOO_SHORT, after all other refusals. */
 
 /* The hatch body at bit `start`, texts inline, doubles as double. The host's array of doubles `numbers` is lent as it lies, bit for bit:
  * an entry read has the payload's 64 bits (where these are a NaN's it is a NaN, of no promised pattern), and an entry not read keeps all
- * its 64 bits, also a NaN's. On a refusal (as of dwg_hatch_measure, and last 11): number, place (9, 10: `start`; 11: where the body
- * ends), string_place 0, every other field 0, and both lists unchanged, bit for bit. */
+ * its 64 bits, also a NaN's. Refused as dwg_hatch_measure is, and last DWG_LIST_TOO_SHORT (place: where the body ends); then string_place and
+ * every other field are 0, and both lists unchanged, bit for bit. */
 DwgBodyAnswer dwg_hatch_decode(const uint8_t *main, size_t main_length, size_t start, uint64_t release, double *numbers,
                                size_t numbers_length, uint32_t *words, size_t words_length);
 
@@ -166,8 +211,8 @@ DwgBodyBitsAnswer dwg_hatch_decode_bits(const uint8_t *main, size_t main_length,
                                         size_t bits_length, uint32_t *words, size_t words_length);
 
 /* The hatch body with a string reader, as dwg_hatch_measure_with_strings has it, doubles as double. The host's array of doubles is lent as
- * it lies, bit for bit, as of dwg_hatch_decode. On a refusal (as of dwg_hatch_measure_with_strings, and last 11): number, both places (9,
- * 10: the start bits; 11: where the body ends), every other field 0, and both lists unchanged, bit for bit. */
+ * it lies, bit for bit, as of dwg_hatch_decode. Refused as dwg_hatch_measure_with_strings is, and last DWG_LIST_TOO_SHORT (places: where the
+ * body ends); then every other field is 0, and both lists are unchanged, bit for bit. */
 DwgBodyAnswer dwg_hatch_decode_with_strings(const uint8_t *main, size_t main_length, size_t start, const uint8_t *string,
                                             size_t string_length, size_t string_start, size_t string_end, uint64_t release,
                                             double *numbers, size_t numbers_length, uint32_t *words, size_t words_length);
@@ -177,6 +222,12 @@ DwgBodyAnswer dwg_hatch_decode_with_strings(const uint8_t *main, size_t main_len
 DwgBodyBitsAnswer dwg_hatch_decode_with_strings_bits(const uint8_t *main, size_t main_length, size_t start, const uint8_t *string,
                                                      size_t string_length, size_t string_start, size_t string_end, uint64_t release,
                                                      uint64_t *bits, size_t bits_length, uint32_t *words, size_t words_length);
+
+/* ---- the seed points of a reading */
+
+/* Where the seed points lie in the list of numbers, x and y of each: they are the last numbers used. It takes two fields of the answer and the
+ * list's length, and refuses nothing: an empty part, begin 0 and count 0, where the list or the numbers used are too few for them. */
+DwgSeedPart dwg_hatch_seed_points(size_t numbers_used, size_t num_seed_points, size_t length);
 
 #ifdef __cplusplus
 }

@@ -3,9 +3,9 @@
  * What holds for every function of the three headers:
  *
  * - A payload is a pointer to its first byte and its length in bytes. Bits are numbered from 0, from the top bit of each byte. A start bit
- *   may be any number; one past the payload is refusal 1 at that bit (dwg_read_string_tv asks its end bit first).
- * - `release` is 1 R14, 2 R2000, 3 R2004, 4 R2007, 5 R2010, 6 R2013, 7 R2018; any other number is refusal 9.
- * - A payload above DWG_PAYLOAD_LIMIT bytes is refusal 10, and none of its bytes is read.
+ *   may be any number; one past the payload is refused at that bit, DWG_TOO_FEW_BITS (dwg_read_string_tv asks its end bit first).
+ * - `release` is a number of DwgRelease; any other is refused, DWG_UNKNOWN_RELEASE.
+ * - A payload above DWG_PAYLOAD_LIMIT bytes is refused, DWG_PAYLOAD_TOO_LONG, and none of its bytes is read.
  * - Every call comes to an end and gives one of two: the whole reading, with `refusal` 0, or a refusal: `refusal` is a number of
  *   DwgRefusal, the places say where the reading stopped, every other field is 0, and a lent list is unchanged.
  * - Asked of the caller, and nothing else is: a pointer is never null, also where its length is 0, is aligned for what it points to, and
@@ -28,6 +28,7 @@
 #include <stdbool.h>
 #include <stddef.h>
 #include <stdint.h>
+#include <string.h>
 
 #ifdef __cplusplus
 extern "C" {
@@ -35,6 +36,17 @@ extern "C" {
 
 /* The most bytes that a payload may have. */
 #define DWG_PAYLOAD_LIMIT 268435456u
+
+/* The releases: the parameter `release`. */
+typedef enum DwgRelease {
+    DWG_R14 = 1,   /* a drawing of it begins with AC1014 */
+    DWG_R2000 = 2, /* AC1015 */
+    DWG_R2004 = 3, /* AC1018 */
+    DWG_R2007 = 4, /* AC1021 */
+    DWG_R2010 = 5, /* AC1024 */
+    DWG_R2013 = 6, /* AC1027 */
+    DWG_R2018 = 7  /* AC1032 */
+} DwgRelease;
 
 /* Why a reading stopped: the numbers of the field `refusal`. */
 typedef enum DwgRefusal {
@@ -108,7 +120,7 @@ typedef enum DwgSource {
     DWG_SOURCE_STRING = 2 /* the string payload */
 } DwgSource;
 
-/* What a text gives. Characters are left to the host: a text is where it lies. Unit number i starts at bit `position` + i * `width` of its
+/* What a text gives: where it lies. dwg_text_utf8 below makes characters of it. Unit number i starts at bit `position` + i * `width` of its
  * payload; a unit of 16 bits has its low byte first. One closing zero unit is not counted. Empty text has the position after its length
  * code, or the unmoved position. */
 typedef struct DwgTextAnswer {
@@ -120,75 +132,146 @@ typedef struct DwgTextAnswer {
     size_t count;    /* the unit count */
 } DwgTextAnswer;
 
-/* ---- codes of `length` bytes at `s`, from bit `at` on. Each says which refusals it has; then `refusal` is that number, `place` the bit
- * where the reading stopped (10: `at`), and all other fields are 0. A number cut short stops after its last whole byte (1). */
+/* ---- codes of `length` bytes at `s`, from bit `at` on. Each may be refused for DWG_PAYLOAD_TOO_LONG (place: `at`) and then for
+ * DWG_TOO_FEW_BITS, and says what else refuses it; then `place` is the bit where the reading stopped, and all other fields are 0, a double
+ * +0.0. A number cut short stops after its last whole byte. */
 
-/* B: one bit, 0 or 1. On a refusal (1, 10): number, place, value 0. */
+/* B: one bit, 0 or 1. */
 DwgCodeAnswer dwg_read_b(const uint8_t *s, size_t length, size_t at);
 
-/* BB: two bits. On a refusal (1, 10): number, place, value 0. */
+/* BB: two bits. */
 DwgCodeAnswer dwg_read_bb(const uint8_t *s, size_t length, size_t at);
 
-/* 3B: three bits. On a refusal (1, 10): number, place, value 0. */
+/* 3B: three bits. */
 DwgCodeAnswer dwg_read_3b(const uint8_t *s, size_t length, size_t at);
 
-/* RC: one byte. On a refusal (1, 10): number, place, value 0. */
+/* RC: one byte. */
 DwgCodeAnswer dwg_read_rc(const uint8_t *s, size_t length, size_t at);
 
-/* RS: two bytes, signed. On a refusal (1, 10): number, place, value 0. */
+/* RS: two bytes, signed. */
 DwgSignedAnswer dwg_read_rs(const uint8_t *s, size_t length, size_t at);
 
-/* RL: four bytes, unsigned. On a refusal (1, 10): number, place, value 0. */
+/* RL: four bytes, unsigned. */
 DwgCodeAnswer dwg_read_rl(const uint8_t *s, size_t length, size_t at);
 
-/* RD: a double. On a refusal (1, 10): number, place, value +0.0. A NaN's pattern gives a NaN. */
+/* RD: a double. A NaN's pattern gives a NaN. */
 DwgDoubleAnswer dwg_read_rd(const uint8_t *s, size_t length, size_t at);
 
-/* RD, as its 64 bits, bit for bit. On a refusal (1, 10): number, place, value 0. */
+/* RD, as its 64 bits, bit for bit. */
 DwgCodeAnswer dwg_read_rd_bits(const uint8_t *s, size_t length, size_t at);
 
-/* BS, signed 16 bits. On a refusal (1, 10): number, place, value 0. */
+/* BS, signed 16 bits. */
 DwgSignedAnswer dwg_read_bs(const uint8_t *s, size_t length, size_t at);
 
-/* BS, unsigned 16 bits. On a refusal (1, 10): number, place, value 0. */
+/* BS, unsigned 16 bits. */
 DwgCodeAnswer dwg_read_bs_u(const uint8_t *s, size_t length, size_t at);
 
-/* BL, signed 32 bits. On a refusal (1, 2, 10): number, place, value 0. */
+/* BL, signed 32 bits. Also refused: DWG_RESERVED_TAG. */
 DwgSignedAnswer dwg_read_bl(const uint8_t *s, size_t length, size_t at);
 
-/* BL, unsigned 32 bits. On a refusal (1, 2, 10): number, place, value 0. */
+/* BL, unsigned 32 bits. Also refused: DWG_RESERVED_TAG. */
 DwgCodeAnswer dwg_read_bl_u(const uint8_t *s, size_t length, size_t at);
 
-/* BLL: three bits, and that many bytes. On a refusal (1, 10): number, place, value 0. */
+/* BLL: three bits, and that many bytes. */
 DwgCodeAnswer dwg_read_bll(const uint8_t *s, size_t length, size_t at);
 
-/* BD: a double. On a refusal (1, 2, 10): number, place, value +0.0. A NaN's pattern gives a NaN. */
+/* BD: a double. Also refused: DWG_RESERVED_TAG. A NaN's pattern gives a NaN. */
 DwgDoubleAnswer dwg_read_bd(const uint8_t *s, size_t length, size_t at);
 
-/* BD, as its 64 bits, bit for bit. On a refusal (1, 2, 10): number, place, value 0. */
+/* BD, as its 64 bits, bit for bit. Also refused: DWG_RESERVED_TAG. */
 DwgCodeAnswer dwg_read_bd_bits(const uint8_t *s, size_t length, size_t at);
 
-/* DD with a default: a double. On a refusal (1, 10): number, place, value +0.0. A default that is a NaN counts as 7ff8000000000000; to
+/* DD with a default: a double. A default that is a NaN counts as 7ff8000000000000; to
  * patch its own bits, call dwg_read_dd_bits. */
 DwgDoubleAnswer dwg_read_dd(const uint8_t *s, size_t length, size_t at, double fallback);
 
-/* DD with a default, both as their 64 bits, bit for bit. On a refusal (1, 10): number, place, value 0. */
+/* DD with a default, both as their 64 bits, bit for bit. */
 DwgCodeAnswer dwg_read_dd_bits(const uint8_t *s, size_t length, size_t at, uint64_t fallback);
 
-/* A handle: 4 bits code, 4 bits counter, counter bytes with the high one first. On a refusal (1, 5, 10): number, place, and code, counter
- * and value 0. */
+/* A handle: 4 bits code, 4 bits counter, counter bytes with the high one first. Also refused: DWG_HANDLE_COUNTER. */
 DwgHandleAnswer dwg_read_handle(const uint8_t *s, size_t length, size_t at);
 
 /* ---- texts */
 
-/* TV: inline text of a release, in 8-bit units before release 4 and 16-bit ones from then on. On a refusal (9, then 10, then 1, 7): number,
- * place (9, 10: `at`), and source, width, position and count 0. */
+/* TV: inline text of a release, in 8-bit units before DWG_R2007 and 16-bit ones from then on. Refused, in this order: DWG_UNKNOWN_RELEASE and
+ * DWG_PAYLOAD_TOO_LONG (place: `at`), DWG_TOO_FEW_BITS, DWG_NOT_UTF16; then source, width, position and count are 0. */
 DwgTextAnswer dwg_read_tv(const uint8_t *s, size_t length, size_t at, uint64_t release);
 
 /* Text from a string reader that stands at bit `at` of a string payload and has the end bit `end`, which may be any number. At or past its
- * end bit the text is empty and `place` is `at`. On a refusal (10, then 1, 6, 7): number, place (10: `at`), and source, width, position
- * and count 0. */
+ * end bit the text is empty and `place` is `at`. Refused, in this order: DWG_PAYLOAD_TOO_LONG (place: `at`), DWG_TOO_FEW_BITS,
+ * DWG_TEXT_PAST_END, DWG_NOT_UTF16; then source, width, position and count are 0. */
 DwgTextAnswer dwg_read_string_tv(const uint8_t *s, size_t length, size_t at, size_t end);
+
+/* The unit of a text at a bit; the caller has seen that the payload has it. */
+static inline uint32_t dwg_unit_at(const uint8_t *s, uint8_t width, size_t bit) {
+    uint32_t shift = (uint32_t)(bit % 8), value = 0;
+    size_t bytes = width / 8u, i;
+    for (i = bytes; i > 0; i--) {
+        const uint8_t *at = s + bit / 8 + (i - 1);
+        uint32_t byte = shift == 0 ? at[0] : ((uint32_t)at[0] << shift | (uint32_t)at[1] >> (8 - shift)) & 255u;
+        value = value << 8 | byte;
+    }
+    return value;
+}
+
+/* The character of the unit at a bit, and of the one behind it where the two are a pair. `left` is how many units there are from here on, and
+ * `*taken` becomes how many the character has. */
+static inline uint32_t dwg_character_at(const uint8_t *s, uint8_t width, size_t bit, size_t left, size_t *taken) {
+    uint32_t unit = dwg_unit_at(s, width, bit), next = left > 1 ? dwg_unit_at(s, width, bit + width) : 0;
+    *taken = 1;
+    if (width == 8) {
+        return unit > 0x7fu ? 0xfffdu : unit;
+    }
+    if ((unit & 0xf800u) != 0xd800u) {
+        return unit;
+    }
+    if (unit >= 0xdc00u || (next & 0xfc00u) != 0xdc00u) {
+        return 0xfffdu;
+    }
+    *taken = 2;
+    return 0x10000u + ((unit & 0x3ffu) << 10) + (next & 0x3ffu);
+}
+
+/* Puts a character's UTF-8 into four bytes, and gives how many it has. */
+static inline size_t dwg_put_utf8(uint32_t character, char bytes[4]) {
+    static const uint32_t first[] = {0, 0, 0xc0, 0xe0, 0xf0};
+    size_t count = character < 0x80u ? 1 : character < 0x800u ? 2 : character < 0x10000u ? 3 : 4, i;
+    for (i = count - 1; i > 0; i--) {
+        bytes[i] = (char)(0x80u | (character & 0x3fu));
+        character >>= 6;
+    }
+    bytes[0] = (char)(first[count] | character);
+    return count;
+}
+
+/* A text's characters as UTF-8 in a lent buffer, with a closing zero: whole characters, as many as fit. `s` is the payload that the text lies
+ * in; width, position and count are the text's. Gives how many bytes the whole text has without the closing zero, so that the buffer was long
+ * enough if this is below `size`; with `size` 0 nothing is written, and `buffer` may be null. Gives SIZE_MAX, and no characters, where the units
+ * do not all lie in the payload, which then is another one.
+ *
+ * U+FFFD stands for an 8-bit unit above 7F, whose character hangs on the drawing's code page, and for a 16-bit unit that is half of a pair;
+ * in a text that was read there is no such half. A zero among the units is a zero byte. */
+static inline size_t dwg_text_utf8(const uint8_t *s, size_t length, uint8_t width, size_t position, size_t count, char *buffer, size_t size) {
+    size_t bits = length > SIZE_MAX / 8 ? SIZE_MAX : 8 * length, needed = 0, taken, i;
+    bool fits = size > 0;
+    if (fits) {
+        buffer[0] = 0;
+    }
+    if (count > 0 && ((width != 8 && width != 16) || position > bits || count > (bits - position) / width)) {
+        return SIZE_MAX;
+    }
+    for (i = 0; i < count; i += taken) {
+        char bytes[4];
+        size_t more = dwg_put_utf8(dwg_character_at(s, width, position + i * width, count - i, &taken), bytes);
+        fits = fits && more < size - needed;
+        if (fits) {
+            memcpy(buffer + needed, bytes, more);
+            buffer[needed + more] = 0;
+        }
+        needed += more;
+    }
+    return needed;
+}
 
 #ifdef __cplusplus
 }

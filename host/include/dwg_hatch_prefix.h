@@ -64,8 +64,9 @@ typedef struct DwgPrefixBitsAnswer {
     DwgPrefixFields fields;
 } DwgPrefixBitsAnswer;
 
-/* The entity prefix at bit `at` of `length` bytes at `s`. On a refusal (9, then 10, then 1, 2, 5, 7, 8 as the fields have it): number, place
- * (9, 10: `at`), and every other field 0 or false, is_on_layer too. A scale with a NaN's pattern gives a NaN. */
+/* The entity prefix at bit `at` of `length` bytes at `s`; `release` is a number of DwgRelease. Refused, in this order: DWG_UNKNOWN_RELEASE and
+ * DWG_PAYLOAD_TOO_LONG (place: `at`), then DWG_TOO_FEW_BITS, DWG_RESERVED_TAG, DWG_HANDLE_COUNTER, DWG_NOT_UTF16 and DWG_TOO_MANY_XDATA_BLOCKS
+ * as the fields have it; then every other field is 0 or false, is_on_layer too. A scale with a NaN's pattern gives a NaN. */
 DwgPrefixAnswer dwg_read_common_entity_data(const uint8_t *s, size_t length, size_t at, uint64_t release);
 
 /* The same with the scale as its 64 bits, bit for bit. On a refusal: as above, the scale 0 too. */

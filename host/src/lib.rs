@@ -1,4 +1,4 @@
-//! Safe calls over the proved reader of DWG hatch bodies and entity prefixes, and what its command-line tool is made of.
+//! Safe calls over the proved reader of DWG hatch bodies and entity prefixes.
 //!
 //! A payload is a slice of bytes, a place a bit of it, numbered from 0 from the top bit of each byte. A reading gives its value and the
 //! place after it, or a [`Refusal`]:
@@ -9,51 +9,28 @@
 //! assert_eq!((value, place), (-1, 18));
 //!
 //! let refusal = dwg_hatch::read_rl(&payload, 0).unwrap_err();
-//! assert_eq!((refusal.number, refusal.place), (1, 24));
+//! assert_eq!((refusal.reason, refusal.place), (dwg_hatch::Reason::TooFewBits, 24));
 //! # Ok::<(), dwg_hatch::Refusal>(())
 //! ```
 //!
 //! [`read_hatch`], [`read_hatch_with_strings`] and [`read_prefix`] give a whole hatch, with its paths, pattern lines and seed points as a tree
-//! ([`outlines`]), and a whole prefix. Below them are the codes of document 01's section on bitcursor.rs ([`codes`]), texts ([`texts`]), the
-//! entity prefix ([`prefixes`]), and hatch bodies with their two lists, as the library hands them over ([`hatches`]).
-//!
-//! The tool's commands have a module each, and share [`words`], [`input`], [`lines`], [`each`] and [`failure`].
+//! ([`TypedHatch`]), and a whole prefix ([`CommonEntityData`]). [`HatchBody`] reads a hatch into lists of the caller's. Below them are inline text
+//! and text from a string reader ([`read_tv`], [`read_string_tv`]), and the codes of document 01's section on bitcursor.rs, each by its name.
 
-pub mod answer;
-pub mod codes;
-pub mod draw;
-mod draw_arcs;
-mod draw_runs;
-mod draw_splines;
-mod draw_svg;
-mod draw_view;
-pub mod each;
-pub mod failure;
-mod ffi;
-mod hatch_form;
-mod hatch_record;
-pub mod hatches;
-pub mod input;
-pub mod json;
-mod json_forms;
-pub mod lines;
-mod out_file;
-mod outline_lists;
-pub mod outlines;
-pub mod payload;
-pub mod prefixes;
-pub mod read;
-pub mod refusal;
-pub mod request;
-mod summary;
-pub mod texts;
-pub mod typed;
-pub mod words;
+mod boundary;
+mod calls;
 
-pub use codes::*;
-pub use hatches::*;
-pub use outlines::*;
-pub use prefixes::*;
-pub use refusal::Refusal;
-pub use texts::*;
-pub use typed::*;
+pub use calls::codes::{
+    read_3b, read_b, read_bb, read_bd, read_bd_bits, read_bl, read_bl_u, read_bll, read_bs, read_bs_u, read_dd, read_dd_bits, read_handle, read_rc,
+    read_rd, read_rd_bits, read_rl, read_rs, Handle, Reading,
+};
+pub use calls::hatches::{GradientColor, GradientFill, Hatch, HatchBody, Lengths, Places, ReadHatch, StringReader};
+pub use calls::outlines::{
+    ControlPoint, Fits, HatchEdge, HatchPath, HatchPathSegments, PatternLine, Point2D, Vertex, FLAG_DERIVED, FLAG_EXTERNAL, FLAG_OUTERMOST,
+    FLAG_POLYLINE, FLAG_TEXTBOX,
+};
+pub use calls::prefixes::{read_common_entity_bits, read_common_entity_data, read_prefix, CommonEntityBits, CommonEntityData, EntityMode};
+pub use calls::refusal::{Reason, Refusal};
+pub use calls::release::{Release, UnknownRelease};
+pub use calls::texts::{read_string_tv, read_tv, Source, Text};
+pub use calls::typed::{read_hatch, read_hatch_with_strings, Name, TypedHatch};

@@ -5,7 +5,8 @@
 const LIB: &str = concat!(env!("CARGO_MANIFEST_DIR"), "/../crates/dwg_hatch/src/lib.rt");
 const COLORS: &str = concat!(env!("CARGO_MANIFEST_DIR"), "/../crates/hatch_format/src/lib.rt");
 const BODIES: &str = concat!(env!("CARGO_MANIFEST_DIR"), "/../crates/dwg_hatch/src/bodies.rt");
-const RUST: &str = concat!(env!("CARGO_MANIFEST_DIR"), "/src/ffi.rs");
+const SEEDS: &str = concat!(env!("CARGO_MANIFEST_DIR"), "/../crates/dwg_hatch/src/seeds.rt");
+const RUST: &str = concat!(env!("CARGO_MANIFEST_DIR"), "/src/boundary/ffi.rs");
 
 /// How a function starts in each text.
 const EXPORTED: &str = "pub extern \"C\" fn ";
@@ -17,7 +18,7 @@ fn text(path: &str) -> String {
 
 /// The Rattle texts whose functions and structs cross the boundary, in ffi.rs's order.
 fn rattle() -> String {
-    [LIB, COLORS, BODIES].map(text).join("\n")
+    [LIB, COLORS, BODIES, SEEDS].map(text).join("\n")
 }
 
 fn lines(text: &str) -> Vec<&str> {
@@ -96,6 +97,7 @@ fn edits_of_the_declarations_are_seen() {
         ("    pub invisibility: i16,\n", "    pub invisibility: u16,\n"),
         ("at: usize, release: u64) -> PrefixAnswer", "at: usize, release: u64) -> PrefixBitsAnswer"),
         ("    pub place: usize,\n    pub source: u8,\n", "    pub source: u8,\n    pub place: usize,\n"),
+        ("numbers_used: usize, num_seed_points: usize, length: usize", "num_seed_points: usize, numbers_used: usize, length: usize"),
         ("colors: [GradientColor; 16]", "colors: [GradientColor; 15]"),
         ("colors: [GradientColorBits; 16]", "colors: [GradientColor; 16]"),
         (" start: usize,\n        release: u64,\n        numbers: *mut f64,\n        numbers_length: usize,\n", " start: usize,\n        release: u64,\n        numbers: *mut f64,\n"),
@@ -108,4 +110,44 @@ fn edits_of_the_declarations_are_seen() {
         let same = functions(&edited, DECLARED) == functions(&rust, DECLARED) && structs(&edited) == structs(&rust);
         assert!(!same, "{old:?} may become {new:?} unseen");
     }
+}
+
+/// The constants of the C headers are the numbers that this library has: releases, the flags of paths, and the kinds of edges as a list of words has them.
+#[test]
+fn the_headers_constants_are_the_librarys() {
+    use dwg_hatch::{HatchEdge, Point2D, Release};
+    let folder = concat!(env!("CARGO_MANIFEST_DIR"), "/include");
+    let headers = ["dwg_hatch.h", "dwg_hatch_codes.h"].map(|name| text(&format!("{folder}/{name}"))).concat();
+    let constants: Vec<&str> = lines(&headers).into_iter().filter(|line| line.starts_with("DWG_")).collect();
+    let has = |name: &str, number: u64| {
+        let constant = format!("DWG_{name} = {number}");
+        assert!(constants.iter().any(|line| line.split([',', '/']).next().map(str::trim) == Some(constant.as_str())), "{constant}");
+    };
+    for release in Release::ALL {
+        has(release.name(), release.number());
+        let line = lines(&headers).into_iter().find(|line| line.starts_with(&format!("DWG_{release} "))).expect("a release");
+        assert!(line.contains(release.signature()), "{line}");
+    }
+    let flags = [dwg_hatch::FLAG_EXTERNAL, dwg_hatch::FLAG_POLYLINE, dwg_hatch::FLAG_DERIVED, dwg_hatch::FLAG_TEXTBOX, dwg_hatch::FLAG_OUTERMOST];
+    for (name, flag) in ["EXTERNAL", "POLYLINE", "DERIVED", "TEXTBOX", "OUTERMOST"].iter().zip(flags) {
+        has(&format!("PATH_{name}"), u64::from(flag));
+    }
+    let point = Point2D { x: 0.0, y: 0.0 };
+    let edges = [
+        ("LINE", HatchEdge::Line { start: point, end: point }),
+        ("ARC", HatchEdge::Arc { center: point, radius: 1.0, start_angle: 0.0, end_angle: 1.0, counter_clockwise: true }),
+        ("ELLIPSE", HatchEdge::Ellipse { center: point, endpoint: point, axis_ratio: 1.0, start_angle: 0.0, end_angle: 1.0, counter_clockwise: true }),
+        ("SPLINE", HatchEdge::Spline { degree: 3, is_rational: false, is_periodic: false, knots: vec![], control_points: vec![], fits: None }),
+    ];
+    for (name, edge) in edges {
+        has(&format!("EDGE_{name}"), kind(edge));
+    }
+}
+
+/// The kind of an edge in the list of words: behind the path's flags and the count of its edges.
+fn kind(edge: dwg_hatch::HatchEdge) -> u64 {
+    use dwg_hatch::{read_hatch, HatchPath, HatchPathSegments, Release, TypedHatch};
+    let empty = read_hatch(&[0xa9, 0xaa, 0xa0], 0, Release::R2000).expect("a hatch of no path");
+    let path = HatchPath { flags: 0, segments: HatchPathSegments::Edges(vec![edge]), num_boundary_handles: 0 };
+    u64::from(TypedHatch { paths: vec![path], ..empty }.lists().0[2])
 }

@@ -78,6 +78,36 @@ fn outputs_that_cannot_be_written_are_one_line_and_status_1() {
     assert!(names(&folder).is_empty() && !fs::metadata("/dev/null").expect("the null device").is_file());
 }
 
+/// The folder could be written to, and so the file could be replaced; its own rights say that it is not to be.
+#[test]
+fn a_file_that_may_not_be_written_is_not_replaced() {
+    let folder = folder("draw-read-only");
+    let output = folder.join("old.svg");
+    fs::write(&output, "old").expect("a file");
+    fs::set_permissions(&output, fs::Permissions::from_mode(0o444)).expect("permissions");
+    symlink("old.svg", folder.join("link.svg")).expect("a link");
+    for name in ["old.svg", "link.svg"] {
+        let words = ["draw".into(), "--output".into(), folder.join(name).into_os_string()];
+        let said = refuses(&call(&words, polyline(&TRIANGLE, None).as_bytes()), 1);
+        assert!(said.contains(&format!("{name} cannot be written: its rights do not let it be written to")), "{said}");
+    }
+    assert_eq!((fs::read_to_string(&output).expect("a file").as_str(), names(&folder)), ("old", vec!["link.svg".to_string(), "old.svg".to_string()]));
+}
+
+/// A file that fails while it is written, here for a limit of its length, is named; the old one stays.
+#[test]
+fn a_picture_without_room_names_its_file() {
+    let folder = folder("draw-no-room");
+    let (output, input) = (folder.join("old.svg"), folder.join("in.txt"));
+    fs::write(&output, "old").expect("a file");
+    fs::write(&input, polyline(&TRIANGLE, None)).expect("a file");
+    let line = "trap '' XFSZ; ulimit -f 0; exec \"$0\" draw --output \"$1\" \"$2\"";
+    let given = Command::new("sh").args(["-c", line]).arg(tool().get_program()).args([&output, &input]).output().expect("a shell");
+    let said = refuses(&given, 1);
+    assert!(said.contains(&format!("{} cannot be written: File too large", output.display())), "{said}");
+    assert_eq!((fs::read_to_string(&output).expect("a file").as_str(), names(&folder)), ("old", vec!["in.txt".to_string(), "old.svg".to_string()]));
+}
+
 #[test]
 fn the_input_is_never_written_to() {
     let folder = folder("draw-input");
@@ -99,7 +129,7 @@ fn a_full_disk_is_one_line_and_status_1() {
     let full = fs::OpenOptions::new().write(true).open("/dev/full").expect("the full device");
     let input = file("draw-full.txt", polyline(&TRIANGLE, None).as_bytes());
     let output = tool().arg("draw").arg(input).stdout(full).output().expect("the tool starts");
-    assert!(refuses(&output, 1).contains("writing failed"));
+    assert!(refuses(&output, 1).contains("standard output (/dev/full) cannot be written: No space left on device"));
 }
 
 /// A limit on the length of files stops the picture's writing in its midst.

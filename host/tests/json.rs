@@ -3,13 +3,13 @@
 mod calls;
 mod json_text;
 mod layouts;
+mod requests;
 
 use calls::{answers, call};
-use dwg_hatch::payload::Zeros;
-use dwg_hatch::request::{self, Request};
 use dwg_hatch::{Hatch, HatchBody, Name, ReadHatch, Source, StringReader, Text};
 use json_text::{parse, Value};
 use layouts::{Numbers, Plan};
+use requests::Request;
 
 /// The bytes in hexadecimal, as a request has them.
 fn hexadecimal(bytes: &[u8]) -> String {
@@ -128,6 +128,9 @@ fn same_text(value: &Value, text: &Text, payload: &[u8], name: &Name) {
 /// The object has what was read.
 fn same(value: &Value, body: &HatchBody, read: &ReadHatch<u64>) {
     let (hatch, typed) = (&read.hatch, body.typed(read.clone()).expect("the lists fit"));
+    assert_eq!(value.at("payload_bits").whole(), 8 * body.payload.len() as u64);
+    let string_bits = body.strings.map(|strings| 8 * strings.payload.len() as u64);
+    assert_eq!((*value.at("strings") != Value::Null).then(|| value.at("strings").at("payload_bits").whole()), string_bits);
     let lists = Lists::of(value);
     assert_eq!((lists.words, lists.numbers), (read.words.clone(), read.numbers.clone()));
     let Hatch { elevation, pattern_angle, pattern_scale, pixel_size, .. } = hatch;
@@ -169,12 +172,12 @@ fn laid_out_hatches_are_in_their_json_bit_by_bit() {
         Some((text, end)) => format!("hatchs {release} 0 {} 0 {end} {}\n", hexadecimal(payload), hexadecimal(text)),
         None => format!("hatch {release} 0 {}\n", hexadecimal(payload)),
     }).collect();
-    let printed = answers(&["read", "--json"], lines.concat().as_bytes());
+    let printed = answers(&["read", "--json", "--quiet"], lines.concat().as_bytes());
     assert_eq!(printed.lines().count(), bodies.len());
     for (at, (line, (release, payload, strings))) in printed.lines().zip(&bodies).enumerate() {
         let value = parse(line);
         let strings = strings.as_ref().map(|(text, end)| StringReader { payload: text, start: 0, end: *end });
-        let body = HatchBody { payload, start: 0, release: *release, strings };
+        let body = HatchBody { payload, start: 0, release_number: *release, strings };
         same(&value, &body, &body.decode_bits().expect("the body is read"));
         assert_eq!(value.at("origin").text(), format!("standard input:{}", at + 1));
         assert_eq!((value.at("request").text(), value.at("release").whole()), (if strings.is_some() { "hatchs" } else { "hatch" }, *release));
@@ -191,7 +194,7 @@ fn stored_requests_have_an_object_each() {
     let taken = |line: &&str| line.starts_with("hatch") || line.starts_with("prefix");
     let pairs: Vec<(&str, &str)> = list.lines().filter(taken).filter_map(|line| line.split_once('\t')).collect();
     let requests: String = pairs.iter().map(|pair| format!("{}\n", pair.0)).collect();
-    let output = call(&["read", "--json"], requests.as_bytes());
+    let output = call(&["read", "--json", "--quiet"], requests.as_bytes());
     let (printed, errors) = (String::from_utf8(output.stdout).expect("UTF-8"), String::from_utf8(output.stderr).expect("UTF-8"));
     assert_eq!((output.status.code(), printed.lines().count()), (Some(1), pairs.len()));
     for (line, (request, answer)) in printed.lines().zip(&pairs) {
@@ -210,15 +213,12 @@ fn stored_requests_have_an_object_each() {
 }
 
 fn same_as_answered(value: &Value, line: &str, answer: &str) {
-    match request::parse(line.as_bytes()) {
-        Some(Request::Hatch(request)) => {
-            let mut zeros = Zeros::default();
-            let body = request.body(&mut zeros);
-            same(value, &body, &body.decode_bits().expect("the body is read"));
-        }
-        Some(Request::Prefix(_)) => assert_eq!(prefix_answer(value), answer),
-        other => panic!("{other:?}"),
+    if line.starts_with("prefix ") {
+        return assert_eq!(prefix_answer(value), answer);
     }
+    let request = Request::of(line);
+    let body = request.body();
+    same(value, &body, &body.decode_bits().expect("the body is read"));
 }
 
 /// The protocol's answer of a prefix, from its JSON.
@@ -247,7 +247,8 @@ fn prefix_answer(value: &Value) -> String {
 fn a_refusal_is_an_object() {
     let output = call(&["read", "--json", "-"], b"hatchs 2 0 A9 0 16 4040\n");
     let expected = concat!(
-        r#"{"origin":"standard input:1","request":"hatchs","release":2,"start":0,"strings":{"start":0,"end":16},"refusal":{"number":6,"#,
+        r#"{"origin":"standard input:1","request":"hatchs","release":2,"start":0,"payload_bits":8,"#,
+        r#""strings":{"start":0,"end":16,"payload_bits":16},"refusal":{"number":6,"#,
         r#""meaning":"a text of the string payload passes the string reader's end bit","#,
         r#""advice":"check the string payload, its start bit and its end bit","place":8,"second_place":10}}"#,
         "\n"

@@ -54,7 +54,7 @@ fn a_summary_keeps_every_digit() {
     for _ in 0..60 {
         let plan = Plan::new(&mut n, 7, false);
         let body = file("summary.bin", &plan.lay_out(&mut n, false)[0].bytes(200));
-        let printed = answers(&[OsStr::new("read"), OsStr::new("--release=7"), body.as_os_str()], b"");
+        let printed = answers(&[OsStr::new("read"), OsStr::new("--quiet"), OsStr::new("--release=7"), body.as_os_str()], b"");
         let found: Vec<Vec<u64>> = printed.lines().filter(|line| line.starts_with("  seed ")).map(doubles).collect();
         let seeds: Vec<Vec<u64>> = plan.seeds.iter().map(|seed| vec![seed.x, seed.y]).collect();
         assert_eq!(found, seeds);
@@ -75,8 +75,8 @@ fn what_is_refused_or_no_request_is_told_with_its_line_and_the_rest_is_read() {
     let (printed, errors) = (String::from_utf8_lossy(&output.stdout), String::from_utf8_lossy(&output.stderr));
     let titles: Vec<&str> = printed.lines().filter(|line| !line.starts_with(' ')).collect();
     assert_eq!(titles, [
-        format!("{name}:3: hatch, release 2 (R2000), bits 0 to 20"),
-        format!("{name}:6: prefix, release 2 (R2000), bits 0 to 26"),
+        format!("{name}:3: hatch, release 2 (R2000), bits 0 to 20 of 24"),
+        format!("{name}:6: prefix, release 2 (R2000), bits 0 to 26 of 32"),
     ]);
     let cut = "too few bits are left for the next read; check that the payload is whole, the release and the start bit";
     let counter = "a handle's counter is above 8; check the release and the start bit, else the payload is damaged";
@@ -137,9 +137,54 @@ fn binary_files_are_read_as_request_lines_are() {
 fn standard_input_may_be_lines_or_bytes() {
     let lines = format!("\u{feff}hatch 2 0 {EMPTY}\r\n \t\r\n# {EMPTY}\r\n");
     let printed = answers(&["read", "-"], lines.as_bytes());
-    assert!(printed.starts_with("standard input:1: hatch, release 2 (R2000), bits 0 to 20\n"), "{printed}");
+    assert!(printed.starts_with("standard input:1: hatch, release 2 (R2000), bits 0 to 20 of 24\n"), "{printed}");
     assert_eq!(answers(&["read"], lines.as_bytes()), printed);
     assert_eq!(answers(&["read", "--release", "2"], &[0xa9, 0xaa, 0xa0]), printed.replace("input:1", "input"));
+}
+
+/// A hatch that may have been read wrongly: all of it is printed, the status stays, and there is one line of warning unless none is asked for.
+#[test]
+fn what_may_be_read_wrongly_is_warned_of() {
+    let cases = [
+        ("hatch 2 0 A9AAA0", ""),
+        ("hatch 2 0 A9AAA00000", "20 bits are left unread behind it; check the release and the start bit, and that the payload is its own"),
+        ("hatch 5 0 AAAAA9AAA0", "it is read without strings, though R2010's drawings have them; lend them by hatchs or --strings"),
+        ("hatchs 5 0 AAAAA6AA 0 0 -", ""),
+        ("hatchs 2 0 A9AAA00000 0 0 -", "22 bits are left"),
+        ("prefix 2 0 85D087400000000000", ""),
+    ];
+    for (line, told) in cases {
+        for json in [&["read"][..], &["read", "--json"]] {
+            let quiet = answers(&[json, &["--quiet"]].concat(), line.as_bytes());
+            let output = call(json, line.as_bytes());
+            assert!(output.status.success() && output.stdout == quiet.as_bytes() && !quiet.is_empty(), "{line}: {output:?}");
+            let warned = String::from_utf8_lossy(&output.stderr).into_owned();
+            match told {
+                "" => assert_eq!(warned, "", "{line}"),
+                _ => assert!(warned.starts_with(&format!("dwg-hatch: standard input:1: warning: {told}")) && warned.lines().count() == 1, "{line}: {warned}"),
+            }
+        }
+    }
+    // A refusal and a bad line are told all the same, and count.
+    let output = call(&["read", "--quiet"], b"hatch 2 0 A9\nhatch 2 0 A9A\n");
+    assert_eq!((output.status.code(), String::from_utf8_lossy(&output.stderr).lines().count()), (Some(2), 2));
+    refuses(&call(&["prefix", "--quiet"], b""), 2);
+}
+
+#[test]
+fn a_release_is_named_or_numbered() {
+    let by = |release: &str| answers(&["read", "--release", release], &[0xa9, 0xaa, 0xa0]);
+    let spellings = ["R2000", "r2000", "AC1015", "ac1015", "02"];
+    assert!(spellings.iter().all(|release| by(release) == by("2")));
+    assert_eq!(answers(&["prefix", "--release=R2018"], &[0x85; 40]), answers(&["prefix", "--release=7"], &[0x85; 40]));
+    for unknown in ["R2001", "AC1016", "2000", "2.0", "R2000 "] {
+        let output = call(&["read", "--release", unknown, "-"], &[0xa9, 0xaa, 0xa0]);
+        match unknown {
+            // Any number is handed to the library, which refuses it.
+            "2000" => assert!(refuses(&output, 1).contains("refusal 9 at bit 0")),
+            _ => assert!(refuses(&output, 2).contains("which is none of R14, R2000, R2004, R2007, R2010, R2013, R2018, nor a number")),
+        }
+    }
 }
 
 #[test]
@@ -206,9 +251,9 @@ fn what_is_no_text_is_told_once() {
 #[test]
 fn long_lines_are_read() {
     for spare in [0, 1, 32_757, 32_758, 32_759, 32_760, 32_761, 200_000] {
-        let printed = answers(&["read"], format!("hatch 2 0 {EMPTY}{}\n\nhatch 2 0 {EMPTY}", "00".repeat(spare)).as_bytes());
-        let titles: Vec<&str> = printed.lines().filter(|line| !line.starts_with(' ')).collect();
-        assert_eq!(titles, [1, 3].map(|line| format!("standard input:{line}: hatch, release 2 (R2000), bits 0 to 20")), "{spare}");
+        let printed = answers(&["read", "--quiet"], format!("hatch 2 0 {EMPTY}{}\n\nhatch 2 0 {EMPTY}", "00".repeat(spare)).as_bytes());
+        let ends: Vec<&str> = printed.lines().filter(|line| !line.starts_with(' ')).filter_map(|line| line.split_once(" of ")).map(|title| title.0).collect();
+        assert_eq!(ends, [1, 3].map(|line| format!("standard input:{line}: hatch, release 2 (R2000), bits 0 to 20")), "{spare}");
     }
 }
 
@@ -278,7 +323,7 @@ fn output_that_cannot_be_written_is_one_line_and_status_1() {
     let full = fs::OpenOptions::new().write(true).open("/dev/full").expect("/dev/full");
     let path = file("full.txt", format!("hatch 2 0 {EMPTY}\n").as_bytes());
     let output = tool().arg("read").arg(path).stdout(full).output().expect("the tool starts");
-    assert!(refuses(&output, 1).contains("writing failed"));
+    assert!(refuses(&output, 1).contains("standard output (/dev/full) cannot be written: No space left on device"));
 }
 
 #[test]

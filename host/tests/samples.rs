@@ -1,6 +1,7 @@
 //! What is stored under samples/: files and pictures are as they are made, and show what they are to show.
 
 mod calls;
+mod requests;
 mod svg_text;
 
 #[allow(dead_code)]
@@ -10,16 +11,20 @@ mod files;
 use std::collections::BTreeSet;
 use std::path::PathBuf;
 
-use dwg_hatch::payload::Zeros;
-use dwg_hatch::request::{self, Request};
 use dwg_hatch::{HatchEdge, HatchPathSegments, Point2D, TypedHatch};
+use requests::Request;
 
-fn folder() -> PathBuf {
-    PathBuf::from(env!("CARGO_MANIFEST_DIR")).join("../samples")
+/// The repository's folder.
+fn root() -> PathBuf {
+    PathBuf::from(env!("CARGO_MANIFEST_DIR")).join("..")
+}
+
+fn text(file: &str) -> String {
+    std::fs::read_to_string(root().join(file)).unwrap_or_else(|error| panic!("{file}: {error}"))
 }
 
 fn stored(name: &str) -> String {
-    std::fs::read_to_string(folder().join(name)).unwrap_or_else(|error| panic!("samples/{name}: {error}"))
+    text(&format!("samples/{name}"))
 }
 
 /// The pictures that are listed: name, status, and the words of the command.
@@ -35,30 +40,46 @@ fn pictures() -> Vec<(String, i32, Vec<String>)> {
 
 #[test]
 fn files_are_as_they_are_made() {
-    for (name, text) in files::all() {
-        assert!(text == stored(name), "samples/{name} is not what host/examples/samples makes: call host/samples");
+    for (name, bytes) in files::all() {
+        let stored = std::fs::read(root().join("samples").join(name)).unwrap_or_else(|error| panic!("samples/{name}: {error}"));
+        assert!(bytes == stored, "samples/{name} is not what host/examples/samples makes: call host/samples");
     }
 }
 
 #[test]
 fn pictures_are_as_they_are_drawn() {
     for (name, status, words) in pictures() {
-        let output = calls::tool().arg("draw").args(&words).current_dir(folder()).output().expect("the tool starts");
+        let output = calls::tool().arg("draw").args(&words).current_dir(root()).output().expect("the tool starts");
         assert_eq!(output.status.code(), Some(status), "{name}");
         let drawn = String::from_utf8(output.stdout).expect("UTF-8");
-        assert!(drawn == stored(&name), "samples/{name} is not what dwg-hatch draw makes: call host/samples");
+        assert!(drawn == text(&name), "{name} is not what dwg-hatch draw makes: call host/samples");
         let elements = svg_text::elements(&drawn);
         assert!(!svg_text::path_numbers(&elements).is_empty(), "{name}");
     }
 }
 
 #[test]
-fn every_file_has_a_picture_and_every_picture_is_listed() {
+fn every_file_but_an_object_has_a_picture_and_every_picture_is_listed() {
     let listed: BTreeSet<String> = pictures().into_iter().map(|picture| picture.0).collect();
-    let names = std::fs::read_dir(folder()).expect("samples").map(|entry| entry.expect("an entry").file_name().into_string().expect("a name"));
+    let entries = std::fs::read_dir(root().join("samples")).expect("samples").map(|entry| entry.expect("an entry").file_name());
+    let names = entries.map(|name| format!("samples/{}", name.into_string().expect("a name")));
     assert_eq!(names.filter(|name| name.ends_with(".svg")).collect::<BTreeSet<_>>(), listed);
-    for (name, _) in files::all() {
-        assert!(pictures().iter().any(|picture| picture.2.last().is_some_and(|word| word == name)), "{name}");
+    for (name, _) in files::all().into_iter().filter(|file| !file.0.ends_with(".bin")) {
+        let name = format!("samples/{name}");
+        assert!(pictures().iter().any(|picture| picture.2.last().is_some_and(|word| *word == name)), "{name}");
+    }
+}
+
+/// README's command for a picture that it shows is the one that makes it.
+#[test]
+fn pictures_of_the_readme_are_made_by_its_commands() {
+    let readme = text("README.md");
+    let shown: Vec<&str> = readme.split("](").skip(1).filter_map(|link| link.split(')').next()).filter(|link| link.ends_with(".svg")).collect();
+    assert!(shown.len() >= 4, "{shown:?}");
+    for name in shown {
+        let (_, _, words) = pictures().into_iter().find(|picture| picture.0 == name).unwrap_or_else(|| panic!("{name} is not listed"));
+        let command = format!("./dwg-hatch draw --output {} {}", name.rsplit('/').next().expect("a name"), words.join(" "));
+        assert!(readme.contains(&command), "README shows {name}, and has no command \"{command}\"");
     }
 }
 
@@ -79,10 +100,7 @@ fn bad_lines_are_refused_by_their_numbers() {
 
 /// The campus's hatches, as doubles.
 fn campus() -> Vec<TypedHatch> {
-    let hatch = |line: &str| match request::parse(line.as_bytes()) {
-        Some(Request::Hatch(request)) => request.body(&mut Zeros::default()).read().expect("a hatch"),
-        _ => panic!("{line}"),
-    };
+    let hatch = |line: &str| Request::of(line).body().read().expect("a hatch");
     stored("campus.txt").lines().filter(|line| line.starts_with("hatch")).map(hatch).collect()
 }
 

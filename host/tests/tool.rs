@@ -7,7 +7,7 @@ use std::io::Write;
 use std::os::unix::ffi::OsStrExt;
 use std::process::Stdio;
 
-use calls::{answers, call, refuses, tool};
+use calls::{answers, call, file, refuses, tool};
 
 #[test]
 fn examples_are_answered() {
@@ -97,13 +97,58 @@ fn lines_of_any_bytes_are_answered() {
 #[test]
 fn help_is_there_for_all_commands() {
     let help = answers(&["--help"], b"");
-    for (command, option) in [("answer", "--f64"), ("read", "--json"), ("prefix", "--json"), ("draw", "--view")] {
+    for (command, option) in [("answer", "--f64"), ("read", "--json"), ("prefix", "--json"), ("draw", "--view"), ("cut", "--prefixes")] {
         assert!(help.contains(&format!("\n  {command} ")), "{command}");
         for word in ["--help", "-h"] {
             let help = answers(&[command, word], b"");
             assert!(help.contains(&format!("usage: dwg-hatch {command} ")) && help.contains(option), "{help}");
         }
     }
+}
+
+#[test]
+fn help_is_a_command_too() {
+    assert_eq!(answers(&["help"], b""), answers(&["--help"], b""));
+    for command in ["read", "prefix", "draw", "cut", "answer"] {
+        assert_eq!(answers(&["help", command], b""), answers(&[command, "--help"], b""));
+    }
+    for words in [&["help", "nothing"][..], &["help", "read", "draw"], &["help", ""], &["--help", "read"]] {
+        refuses(&call(words, b""), 2);
+    }
+}
+
+#[test]
+fn the_version_is_the_crates() {
+    for word in ["--version", "-V"] {
+        assert_eq!(answers(&[word], b""), format!("dwg-hatch {}\n", env!("CARGO_PKG_VERSION")));
+        refuses(&call(&[word, "read"], b""), 2);
+    }
+}
+
+/// A closed stream is told, and so is a file without room; the line names which.
+#[test]
+fn streams_that_are_closed_or_full_are_one_line_and_status_1() {
+    let requests = file("streams.txt", b"hatch 2 0 A9AAA0\n");
+    let shell = |line: &str| {
+        let mut shell = std::process::Command::new("sh");
+        shell.args(["-c", line]).arg(tool().get_program()).arg(&requests).output().expect("a shell")
+    };
+    let closed = "standard output cannot be written: it is closed";
+    let full = "standard output (/dev/full) cannot be written: No space left on device";
+    for (to, told) in [(">&-", closed), (">/dev/full", full)] {
+        for words in ["read \"$1\"", "read --json \"$1\"", "draw \"$1\"", "answer <\"$1\"", "help", "--version"] {
+            let line = refuses(&shell(&format!("\"$0\" {words} {to}")), 1);
+            assert!(line.contains(told), "{words} {to}: {line}");
+        }
+    }
+    for command in ["read", "prefix", "draw", "cut", "answer", "read --release 2"] {
+        let line = refuses(&shell(&format!("\"$0\" {command} <&-")), 1);
+        assert!(line.contains("standard input cannot be read: it is closed"), "{command}: {line}");
+    }
+    // What is not written to may be closed.
+    let picture = requests.with_file_name("streams.svg");
+    let output = shell(&format!("\"$0\" draw --output '{}' \"$1\" >&- <&-", picture.display()));
+    assert!(output.status.success() && output.stderr.is_empty() && picture.exists(), "{output:?}");
 }
 
 #[test]

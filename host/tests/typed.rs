@@ -1,24 +1,17 @@
 //! Hatches as trees: nothing of the two lists is lost, and what was laid out is what is in the tree.
 
 mod layouts;
+mod requests;
 
-use dwg_hatch::payload::{Payload, Zeros};
-use dwg_hatch::request::{self, Request};
-use dwg_hatch::{HatchBody, HatchEdge, HatchPathSegments, ReadHatch, StringReader};
+use dwg_hatch::{HatchBody, HatchEdge, HatchPathSegments, ReadHatch, Release, StringReader};
 use layouts::{Numbers, Plan};
+use requests::Request;
 
 /// Every stored request for a hatch with its answer by the original Rust, where it has one that is no refusal.
 fn stored() -> Vec<(&'static str, &'static str)> {
     let list = include_str!("../../crates/vectors/data/list");
     let pairs = list.lines().filter(|line| line.starts_with("hatch")).map(|line| line.split_once('\t').expect("REQUEST, tab, ANSWER"));
     pairs.filter(|pair| pair.1.starts_with("ok ")).collect()
-}
-
-/// A payload's bytes, its zeros spelt out.
-fn bytes(payload: &Payload) -> Vec<u8> {
-    let mut zeros = Zeros::default();
-    zeros.reserve(payload);
-    zeros.lend(payload).to_vec()
 }
 
 /// The tree holds the lists, as bits and as f64.
@@ -39,11 +32,7 @@ fn nothing_is_lost(body: &HatchBody) -> ReadHatch<u64> {
 fn stored_hatches_keep_every_word_and_number() {
     let (mut words, mut numbers) = (0, 0);
     for (line, answer) in stored() {
-        let Some(Request::Hatch(request)) = request::parse(line.as_bytes()) else { panic!("{line}") };
-        let payload = bytes(&request.payload);
-        let text = request.strings.as_ref().map(|strings| bytes(&strings.payload)).unwrap_or_default();
-        let strings = request.strings.as_ref().map(|strings| StringReader { payload: &text, start: strings.start, end: strings.end });
-        let read = nothing_is_lost(&HatchBody { payload: &payload, start: request.start, release: request.release, strings });
+        let read = nothing_is_lost(&Request::of(line).body());
         let listed = |items: Vec<String>| if items.is_empty() { "-".to_string() } else { items.join(",") };
         let form = format!(
             " words={} nums={}",
@@ -69,7 +58,7 @@ fn laid_out_hatches_are_read_as_they_were_laid_out() {
         // Handle counts must not be above the bits after them.
         let (payload, text) = (main.bytes(200), strings.bytes(0));
         let strings = reader.then_some(StringReader { payload: &text, start: 0, end: strings.0.len() });
-        let body = HatchBody { payload: &payload, start: 0, release, strings };
+        let body = HatchBody { payload: &payload, start: 0, release_number: release, strings };
         let read = nothing_is_lost(&body);
         let typed = body.typed(read).expect("the lists fit");
         assert_eq!((&typed.paths, &typed.pattern_lines, &typed.seed_points), (&plan.paths, &plan.lines, &plan.seeds));
@@ -103,7 +92,7 @@ fn lists_that_do_not_fit_are_no_tree() {
     for _ in 0..200 {
         let plan = Plan::new(&mut n, 7, false);
         let payload = plan.lay_out(&mut n, false)[0].bytes(200);
-        let body = HatchBody { payload: &payload, start: 0, release: 7, strings: None };
+        let body = HatchBody::new(&payload, 0, Release::R2018);
         let read = body.decode_bits().expect("the body is read");
         let altered = |alter: &dyn Fn(&mut ReadHatch<u64>)| {
             let mut other = read.clone();

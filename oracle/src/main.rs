@@ -1,24 +1,6 @@
 //! The judge of the port: the Rust, unchanged, behind the line protocol; a generator of requests; a comparer.
 
-// The Rust, copied byte for byte by oracle/build (hatch.rs with one wrapper appended); much of it is unused here.
-#[allow(dead_code)]
-mod bitcursor;
-#[allow(dead_code)]
-mod code_page;
-#[allow(dead_code)]
-mod common_entity;
-#[allow(dead_code, unused_imports)]
-mod entities;
-#[allow(dead_code)]
-mod string_stream;
-#[allow(dead_code)]
-mod tables;
-#[allow(dead_code)]
-mod version;
-
-// The stand-in for the Rust's error module.
-#[allow(dead_code)]
-mod error;
+include!("rust_modules.rs");
 
 mod answer;
 mod answer_code;

@@ -8,7 +8,7 @@ use native.Mathlib.Numerals.{add-one}
 use native.Mathlib.Omega.{arith}
 use lib.ListN.{length, take, drop, getD, length-append, length-drop, take-append-drop}
 use lib.Seq.{drop-append-add, drop-append-le, take-append-le, drop-cons, length-take-le}
-use lib.Pow.{pow-add, high, low, shl-exact}
+use lib.Pow.{pow-add, pow-pos, high, low, shl-exact}
 use lib.Dec.{lit<}
 use Rattle.bitcursor.specs.Bits.{bitsOf, window, number, digits}
 use Rattle.bitcursor.specs.BitLaws.{length-bits, length-digits, number-append, number-lt, number-digits, bits-append}
@@ -48,6 +48,10 @@ front a b r n h =
     rw (drop-append-le r a b h₁, take-append-le n (drop r a) b h₂)
     (sym (middle (take r a) (take n (drop r a)) (drop n (drop r a))) ∙ cc)
 
+-- the bits of the k bytes at q
+bits-taken : (k q : ℕ) (s : List ℕ) → q + k ≤ length s → length (bitsOf (take k (drop q s))) ≡ 8 * k
+bits-taken k q s h = length-bits (take k (drop q s)) ∙ ap (λ (m : ℕ). 8 * m) (length-take-le k (drop q s) (simp length-drop (omega arith)))
+
 -- the number of the k bytes at q, the first on top
 abbrev pub bigAt : List ℕ → ℕ → ℕ → ℕ
 bigAt s q zero = 0
@@ -57,6 +61,9 @@ bigAt s q (suc k) = getD s q 0 * 2 ^ (8 * k) + bigAt s (suc q) k
 pub one-shl : (n : ℕ) → n ≤ 8 → (1 * 2 ^ n) % 2 ^ 64 ≡ 2 ^ n
 one-shl n h = rw (shl-exact 1 n 64 (lit< tt) (omega arith)) (omega arith)
 
+pub shl-pos : (n : ℕ) → n ≤ 8 → 0 < (1 * 2 ^ n) % 2 ^ 64
+shl-pos n h = rw (one-shl n h) (pow-pos n)
+
 module _ (s : List ℕ) (bytes : (i : ℕ) → getD s i 0 < 256) where
   number-big : (k q : ℕ) → q + k ≤ length s → number (bitsOf (take k (drop q s))) ≡ bigAt s q k
   unfolding bitsOf number
@@ -64,7 +71,7 @@ module _ (s : List ℕ) (bytes : (i : ℕ) → getD s i 0 < 256) where
   number-big (suc k) q h =
       let h₁ : q < length s = omega arith in
       let h₂ : suc q + k ≤ length s = omega arith in
-      let l : length (bitsOf (take k (drop (suc q) s))) ≡ 8 * k = length-bits (take k (drop (suc q) s)) ∙ ap (λ (m : ℕ). 8 * m) (length-take-le k (drop (suc q) s) (simp length-drop (omega arith))) in
+      let l : length (bitsOf (take k (drop (suc q) s))) ≡ 8 * k = bits-taken k (suc q) s (omega arith) in
       rw (drop-cons s q 0 h₁)
       (number-append (digits 8 (getD s q 0)) (bitsOf (take k (drop (suc q) s)))
       ∙ rw (number-byte (getD s q 0) (bytes q), l, number-big k (suc q) h₂))
@@ -73,8 +80,9 @@ module _ (s : List ℕ) (bytes : (i : ℕ) → getD s i 0 < 256) where
   pub part : (q r n k : ℕ) → q + k ≤ length s → r + n ≤ 8 * k → number (window s (8 * q + r) n) ≡ bigAt s q k / 2 ^ (8 * k - (r + n)) % 2 ^ n
   unfolding window
   part q r n k h h′ =
-      let l : length (bitsOf (take k (drop q s))) ≡ 8 * k = length-bits (take k (drop q s)) ∙ ap (λ (m : ℕ). 8 * m) (length-take-le k (drop q s) (simp length-drop (omega arith))) in
-      let e : bitsOf (drop q s) ≡ bitsOf (take k (drop q s)) ++ bitsOf (drop k (drop q s)) = ap bitsOf (sym (take-append-drop k (drop q s))) ∙ bits-append (take k (drop q s)) (drop k (drop q s)) in
+      let l : length (bitsOf (take k (drop q s))) ≡ 8 * k = bits-taken k q s h in
+      let e : bitsOf (drop q s) ≡ bitsOf (take k (drop q s)) ++ bitsOf (drop k (drop q s)) =
+      ap bitsOf (sym (take-append-drop k (drop q s))) ∙ bits-append (take k (drop q s)) (drop k (drop q s)) in
       let h₁ : q ≤ length s = omega arith in
       ap (λ (x : List Bool). number (take n x)) (drop-bits q r s h₁ ∙ ap (drop r) e)
       ∙ front (bitsOf (take k (drop q s))) (bitsOf (drop k (drop q s))) r n (rw l h′)
@@ -85,14 +93,16 @@ module _ (s : List ℕ) (bytes : (i : ℕ) → getD s i 0 < 256) where
   part-at at n k h h′ = ap (λ (p : ℕ). number (window s p n)) (sym (div-add-mod at 8)) ∙ part (at / 8) (at % 8) n k h h′
 
   -- what `bits_at` makes of one byte, and of two
-  pub in-one : (at n b : ℕ) → 1 ≤ n → n ≤ 8 → at + n ≤ 8 * length s → at % 8 + n ≤ 8 → b ≡ getD s (at / 8) 0 → b / 2 ^ (8 - (at % 8 + n)) % ((1 * 2 ^ n) % 2 ^ 64) ≡ number (window s at n)
+  pub in-one : (at n b : ℕ) → 1 ≤ n → n ≤ 8 → at + n ≤ 8 * length s → at % 8 + n ≤ 8 → b ≡ getD s (at / 8) 0
+      → b / 2 ^ (8 - (at % 8 + n)) % ((1 * 2 ^ n) % 2 ^ 64) ≡ number (window s at n)
   in-one at n b h₁ h₈ h f e =
       rw (one-shl n h₈, e) (sym (part-at at n 1 (omega arith) f ∙ rw (one (getD s (at / 8) 0))))
     where
       one : (x : ℕ) → x * 1 + 0 ≡ x
       one x = omega arith
 
-  pub in-two : (at n b d : ℕ) → 1 ≤ n → n ≤ 8 → at + n ≤ 8 * length s → 8 < at % 8 + n → b ≡ getD s (at / 8) 0 → d ≡ getD s (at / 8 + 1) 0 → (b * 256 + d) / 2 ^ (16 - (at % 8 + n)) % ((1 * 2 ^ n) % 2 ^ 64) ≡ number (window s at n)
+  pub in-two : (at n b d : ℕ) → 1 ≤ n → n ≤ 8 → at + n ≤ 8 * length s → 8 < at % 8 + n → b ≡ getD s (at / 8) 0 → d ≡ getD s (at / 8 + 1) 0
+      → (b * 256 + d) / 2 ^ (16 - (at % 8 + n)) % ((1 * 2 ^ n) % 2 ^ 64) ≡ number (window s at n)
   in-two at n b d h₁ h₈ h f e e′ =
       rw (one-shl n h₈, e, e′, add-one (at / 8)) (sym (part-at at n 2 (omega arith) (omega arith) ∙ rw (two (getD s (at / 8) 0) (getD s (suc (at / 8)) 0))))
     where

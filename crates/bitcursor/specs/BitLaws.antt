@@ -74,9 +74,10 @@ digits-low (suc n) k a v h = ap₂ _∷_ (ap (λ (x : ℕ). eqb x 1) (low-bit n 
   where
     low-bit : (n k a v : ℕ) → suc n ≤ k → (a * 2 ^ k + v) / 2 ^ n % 2 ≡ v / 2 ^ n % 2
     low-bit n k a v h =
-        let e : k ≡ k - suc n + 1 + n = omega arith in
-        rw (e, pow-add 2 (k - suc n + 1) n, ← mul-assoc a (2 ^ (k - suc n + 1)) (2 ^ n), mul-add-div-right (pow-pos n) (a * 2 ^ (k - suc n + 1)) v, pow-add 2 (k - suc n) 1, ← mul-assoc a (2 ^ (k - suc n)) 2)
-        (mul-add-mod-self-right (a * 2 ^ (k - suc n)) 2 (v / 2 ^ n))
+        let j = k - suc n in
+        let e : k ≡ j + 1 + n = omega arith in
+        rw (e, pow-add 2 (j + 1) n, ← mul-assoc a (2 ^ (j + 1)) (2 ^ n), mul-add-div-right (pow-pos n) (a * 2 ^ (j + 1)) v)
+        (rw (pow-add 2 j 1, ← mul-assoc a (2 ^ j) 2) (mul-add-mod-self-right (a * 2 ^ j) 2 (v / 2 ^ n)))
 
 pub digits-number : (bs : List Bool) → digits (length bs) (number bs) ≡ bs
 unfolding digits number
@@ -116,10 +117,14 @@ module _ (xs : List ℕ) (p : ℕ) (cs ds : List Bool) (h : Stands xs p (cs ++ d
       (omega (arith, stands-fits xs p (cs ++ ds) h, length-append cs ds))
 
   pub stands-left : Stands xs p cs
-  stands-left = sym (take-at (window xs p (length cs)) (window xs (p + length cs) (length ds)) (length cs) first) ∙ ap (take (length cs)) both ∙ take-append-seam cs ds
+  stands-left =
+      sym (take-at (window xs p (length cs)) (window xs (p + length cs) (length ds)) (length cs) first)
+      ∙ ap (take (length cs)) both ∙ take-append-seam cs ds
 
   pub stands-right : Stands xs (p + length cs) ds
-  stands-right = sym (drop-at (window xs p (length cs)) (window xs (p + length cs) (length ds)) (length cs) first) ∙ ap (drop (length cs)) both ∙ drop-append-seam cs ds
+  stands-right =
+      sym (drop-at (window xs p (length cs)) (window xs (p + length cs) (length ds)) (length cs) first)
+      ∙ ap (drop (length cs)) both ∙ drop-append-seam cs ds
 
 -- ---- payloads that are alike
 pub alike-down : {xs ys : List ℕ} {p q : ℕ} → p ≤ q → Alike xs ys q → Alike xs ys p

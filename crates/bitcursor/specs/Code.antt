@@ -13,7 +13,9 @@ use borrow.Author.Tests.{le-leb, leb-true, not-false}
 use Rattle.bitcursor.specs.declared.Refusal.{Refusal}
 use Rattle.bitcursor.specs.declared.Refusal.the-variants.{TooFewBits}
 use Rattle.bitcursor.specs.Bits.{size, window, number, digits, Stands, Alike, Begins}
-use Rattle.bitcursor.specs.BitLaws.{length-digits, number-digits, digits-number, number-lt, window-whole, stands-fits, stands-window, stands-none, stands-join, stands-left, stands-right, alike-down, alike-window, begins-size, begins-window}
+use Rattle.bitcursor.specs.BitLaws.{length-digits, number-digits, digits-number, number-lt, window-whole}
+use Rattle.bitcursor.specs.BitLaws.{stands-fits, stands-window, stands-none, stands-join, stands-left, stands-right}
+use Rattle.bitcursor.specs.BitLaws.{alike-down, alike-window, begins-size, begins-window}
 use Rattle.bitcursor.specs.Reading.{Out, got, refused, place, andThen, never, missing, Lacking, shortThen, then-why, then-longer, lacking-on}
 
 -- from p to q the payload is not gone back in, and is not left by a place that is in it
@@ -271,7 +273,8 @@ module _ (n : ℕ) where
   raw-why xs p true e = never-true e
   raw-why xs p false e = missing
 
-  pub raw-longer : (xs ys : List ℕ) (p : ℕ) → Begins xs ys → leb n (size xs - p) ≡ true → raw-out (leb n (size ys - p)) ys p ≡ raw-out (leb n (size xs - p)) xs p
+  pub raw-longer : (xs ys : List ℕ) (p : ℕ) → Begins xs ys → leb n (size xs - p) ≡ true
+      → raw-out (leb n (size ys - p)) ys p ≡ raw-out (leb n (size xs - p)) xs p
   raw-longer xs ys p h e =
       let fits : n ≤ size xs - p = leb-true _ _ e in
       let more = begins-size h in

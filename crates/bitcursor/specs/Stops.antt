@@ -154,7 +154,9 @@ pub stops-behind : {A : Type 0} (n : ℕ) (g : ℕ → Code A) (S : Stop) → ((
 unfolding _>>=_
 stops-behind n g S s xs p r q e =
     ⊎-elim
-    (λ (w : n ≤ size xs - p). inr (w, s (number (window xs p n)) xs (p + n) r q (sym (ap (λ (o : Out ℕ ℕ). andThen o (λ t m. (g t) .read xs m)) (raw-there n xs p w)) ∙ e)))
+    (λ (w : n ≤ size xs - p).
+    let m = sym (ap (λ (o : Out ℕ ℕ). andThen o (λ t m. (g t) .read xs m)) (raw-there n xs p w)) ∙ e in
+    inr (w, s (number (window xs p n)) xs (p + n) r q m))
     (λ (w : size xs - p < n). let m = sym e ∙ ap (λ (o : Out ℕ ℕ). andThen o (λ t m. (g t) .read xs m)) (raw-short n xs p w) in inl ((cc, cc), w))
     (le-or-lt n (size xs - p))
 

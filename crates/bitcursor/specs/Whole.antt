@@ -23,14 +23,14 @@ module _ {M : Input} {A : Type 0} (f : Format M A) (γ : M .Bytes) where
   refused-none p n q e a r l = never (sym e ∙ f .complete γ a p r l)
 
   -- there is a layout, or there is a refusal and no layout
-  pub data Fate (p : M .Place) : Type 0 where
-    laid : (a : A) (q : M .Place) → f .lays γ a p q → f .read γ p ≡ got a q → Fate p
-    none : (n : Refusal) (q : M .Place) → f .read γ p ≡ refused n q → ((a : A) (r : M .Place) → f .lays γ a p r → ⊥) → Fate p
+  pub data Outcome (p : M .Place) : Type 0 where
+    laid : (a : A) (q : M .Place) → f .lays γ a p q → f .read γ p ≡ got a q → Outcome p
+    none : (n : Refusal) (q : M .Place) → f .read γ p ≡ refused n q → ((a : A) (r : M .Place) → f .lays γ a p r → ⊥) → Outcome p
 
-  pub fate : (p : M .Place) → Fate p
-  fate p = go (f .read γ p) refl
+  pub laid-or-refused : (p : M .Place) → Outcome p
+  laid-or-refused p = go (f .read γ p) refl
     where
-      go : (o : Out (M .Place) A) → f .read γ p ≡ o → Fate p
+      go : (o : Out (M .Place) A) → f .read γ p ≡ o → Outcome p
       go (got a q) e = laid a q (f .sound γ a p q e) e
       go (refused n q) e = none n q e (refused-none p n q e)
 

@@ -112,6 +112,14 @@ pub fn low_at(s: &[u8], at: usize, n: usize) -> u64
     swap(high_at(s, at, n)) >> (64 - n * 8)
 }
 
+// The eight bytes at `at` as a number, the low one first. It asks for no length: for runs that are known to be there.
+pub fn eight_at(s: &[u8], at: usize) -> u64
+    requires { ⌜ at + 64 ≤ 8 * length (now s) ⌝ }
+    ensures { λ r. ⌜ r ≡ lowNumber (bytesAt (now (s .entry)) at 8) ⌝ }
+{
+    swap(word_at(s, at))
+}
+
 // The bits from `at` to the end of the eighth byte, on top of the word.
 pub fn top_at(s: &[u8], at: usize) -> u64
     requires { ⌜ at / 8 + 8 ≤ length (now s) ⌝ }

@@ -29,6 +29,10 @@ pub record Case : Type 0 where
   pub computed : Shown
   pub stated : Shown
 
+-- a row of the table that names no release: a case of each of the seven, before the rows that follow
+abbrev pub of-each-release : (ℕ → Case) → List Case → List Case
+of-each-release row rows = row 1 ∷ (row 2 ∷ (row 3 ∷ (row 4 ∷ (row 5 ∷ (row 6 ∷ (row 7 ∷ rows))))))
+
 -- ---- the test
 abbrev pub sameZ : ℤ → ℤ → Bool
 sameZ (pos a) (pos b) = eqb a b

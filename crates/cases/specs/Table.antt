@@ -13,7 +13,7 @@ use Rattle.bitcursor.specs.Handles.{BLL, BLL-read, HANDLE, HANDLE-read, HANDLE-
 use Rattle.bitcursor.specs.Sequence.{held}
 use Rattle.bitcursor.specs.Answers.{limited}
 use Rattle.bitcursor.specs.Format.{pure, refuse as refuse-format, _>>=_ as bind-format, peek, relay, either}
-use Rattle.bitcursor.specs.Fields.{within}
+use Rattle.bitcursor.specs.Fields.{at-least, within}
 use Rattle.text.specs.declared.Text.{Text}
 use Rattle.text.specs.Units.{units, units-read}
 use Rattle.text.specs.Texts.{judged, TV, TV-read}
@@ -22,21 +22,24 @@ use Rattle.text.specs.Layouts.{reader-text}
 use Rattle.text.specs.TextField.{lent, TV-field, TV-read as TV-field-read}
 use Rattle.text.specs.Answers.{released, readerText}
 use Rattle.common_entity.specs.declared.CommonEntityBits.{CommonEntityBits}
-use Rattle.common_entity.specs.Prefix.{chain, extended, drawing, graphics, name, prefixBy, prefix}
+use Rattle.common_entity.specs.Prefix.{chain, extended, drawing, graphics, name, prefixBy}
+use Rattle.common_entity.specs.Format.{prefix}
 use Rattle.common_entity.specs.Call.{prefixCall}
 use Rattle.hatch_format.specs.Caps.{documentCaps}
+use Rattle.hatch_format.specs.HandleRule.{in-payload}
 use Rattle.hatch_format.specs.Values.{Body}
-use Rattle.hatch_format.specs.Counts.{bits-left, times-read, times, bounded-read, bounded, counted, listed-read, listed}
+use Rattle.hatch_format.specs.Counts.{summed, times-read, times, capped-read, capped, bounded-read, bounded, counted}
+use Rattle.hatch_format.specs.Counts.{listed-by-read, listed-by, listed-read, listed}
 use Rattle.hatch_format.specs.Points.{point-read, point, vertex-read, vertex, arc-read, arc-edge, ellipse-read, ellipse-edge}
 use Rattle.hatch_format.specs.Splines.{fitted-by, fits-read, fits, spline-lists, spline-controls, spline-counts, spline-read, spline-edge}
 use Rattle.hatch_format.specs.Edges.{edge-of, edge-read, edge}
-use Rattle.hatch_format.specs.Paths.{handle-count, segments-read, segments, path-read, path}
+use Rattle.hatch_format.specs.Paths.{handle-count-read, handle-count, segments-read, segments, path-read, path, paths}
 use Rattle.hatch_format.specs.Patterns.{pattern-line-read, pattern-line, pattern-read, pattern, ending-read, ending, tail-read, tail, rest-read, rest}
 use Rattle.hatch_format.specs.Gradients.{color-read, color, block-read, block, gradient-read, gradient}
 use Rattle.hatch_format.specs.Hatch.{plane-read, plane, hatch-read, hatch}
 use Rattle.hatch_format.specs.Entries.{words, numbers}
-use Rattle.hatch_format.specs.Call.{Strings, none, lent as lent-reader, hatchCall}
-use Rattle.cases.specs.Shown.{Shown, reading, refusal, shown, shown-both, Case, Holds, holds, allSame}
+use Rattle.hatch_format.specs.Call.{Strings, none, lent as lent-reader, callOn, hatchCall}
+use Rattle.cases.specs.Shown.{Shown, reading, refusal, shown, shown-both, Case, of-each-release, Holds, holds, allSame}
 
 abbrev number-of : ℕ → List ℤ
 number-of v = pos v ∷ []
@@ -52,21 +55,35 @@ numbers-of t = pos (t .width) ∷ (pos (t .position) ∷ (pos (t .count) ∷ [])
 abbrev fields-of : CommonEntityBits → List ℤ
 fields-of d = pos (d .«color_raw») ∷ (pos (d .«ltype_scale») ∷ (pos (d .lineweight) ∷ []))
 
+-- a prefix call from bit 0: release, payload
+abbrev prefix-call : ℕ → List ℕ → Shown
+prefix-call release xs = shown fields-of (prefixCall release xs 0)
+
 -- the lengths used of both lists
 abbrev lengths-of : Body → List ℤ
 lengths-of a = pos (length (words (a .rest))) ∷ (pos (length (numbers (a .rest))) ∷ [])
 
--- a hatch call from bit 0 with document 01's caps: release, payload, strings, lengths of the lent words and numbers
-abbrev hatch-case : ℕ → List ℕ → Strings → ℕ → ℕ → Shown
-hatch-case release xs strings nw nn =
-    shown-both lengths-of (hatchCall documentCaps (record { release = release; main = xs; start = 0; strings = strings; words = nw; numbers = nn }))
+-- a hatch call from bit 0, its caps document 01's and its handles in the payload: release, payload, strings, lengths of the lent words and numbers
+abbrev hatch-call : ℕ → List ℕ → Strings → ℕ → ℕ → Shown
+hatch-call release xs strings nw nn =
+    shown-both lengths-of
+    (hatchCall
+    (record {
+      release = release;
+      main = xs;
+      start = 0;
+      strings = strings;
+      caps = documentCaps;
+      handles = in-payload;
+      words = nw;
+      numbers = nn;
+    }))
 
--- "src/bitcursor.rs": 3F FF C0 is −1 signed and 65,535 unsigned as BS, ends at 18; C0 as BD is refusal 2 at 2; 31 80 as BLL is
--- 140, ends at 11. "Why a reading stops", 6 and 7, as far as they concern text alone: the reader's string 40 40, bits 0 to 16, is
--- refusal 6 at 10, and 40 40 36 00, bits 0 to 32, refusal 7 at 26. The prefix: 85 D0 87 40 of release 2 has colour 256, scale 1.0 and
--- lineweight 29, and ends at 26; 40 42 40 is refusal 5 at 18.
--- The hatch: A9 AA A0 of release 2 ends at 20, both lists empty, and of release 3 is refusal 1 at 22; no bytes are refusal 1 at 0, here of both
--- releases; then the rows 2, 3, 4, 6, 7 and 11 of "Why a reading stops"
+-- the codes: 3F FF C0 is −1 signed and 65,535 unsigned as BS, ends at 18; C0 as BD is refusal 2 at 2; 31 80 as BLL is 140, ends at 11.
+-- Reader's text, "Why a reading stops" 6 and 7: 40 40, bits 0 to 16, is refusal 6 at 10; 40 40 36 00, bits 0 to 32, is refusal 7 at 26.
+-- The prefix: 85 D0 87 40 of release 2 has colour 256, scale 1.0 and lineweight 29, ends at 26; 40 42 40, of no named release, is refusal 5 at 18.
+-- The hatch: A9 AA A0 of release 2 ends at 20, both lists empty, and of release 3 is refusal 1 at 22; no bytes, of no named release, are refusal 1
+-- at 0; then the rows 2, 3, 4, 6, 7 and 11 of "Why a reading stops"
 unfoldable pub cases : List Case
 cases =
     record { computed = shown integer-of (signed-BS .read (0x3f ∷ 0xff ∷ 0xc0 ∷ []) 0); stated = reading (negsuc 0 ∷ []) 18 0 }
@@ -75,20 +92,28 @@ cases =
     ∷ record { computed = shown number-of (BLL .read (0x31 ∷ 0x80 ∷ []) 0); stated = reading (pos 140 ∷ []) 11 0 }
     ∷ record { computed = shown numbers-of (readerText 16 (0x40 ∷ 0x40 ∷ []) 0); stated = refusal 6 10 0 }
     ∷ record { computed = shown numbers-of (readerText 32 (0x40 ∷ 0x40 ∷ 0x36 ∷ 0x00 ∷ []) 0); stated = refusal 7 26 0 }
-    ∷ record { computed = shown fields-of (prefixCall 2 (0x85 ∷ 0xd0 ∷ 0x87 ∷ 0x40 ∷ []) 0); stated = reading (pos 256 ∷ (pos 0x3ff0000000000000 ∷ (pos 29 ∷ []))) 26 0 }
-    ∷ record { computed = shown fields-of (prefixCall 2 (0x40 ∷ 0x42 ∷ 0x40 ∷ []) 0); stated = refusal 5 18 0 }
-    ∷ record { computed = hatch-case 2 (0xa9 ∷ 0xaa ∷ 0xa0 ∷ []) none 0 0; stated = reading (pos 0 ∷ (pos 0 ∷ [])) 20 0 }
-    ∷ record { computed = hatch-case 3 (0xa9 ∷ 0xaa ∷ 0xa0 ∷ []) none 0 0; stated = refusal 1 22 0 }
-    ∷ record { computed = hatch-case 2 [] none 0 0; stated = refusal 1 0 0 }
-    ∷ record { computed = hatch-case 3 [] none 0 0; stated = refusal 1 0 0 }
-    ∷ record { computed = hatch-case 3 (0xc0 ∷ []) none 0 0; stated = refusal 2 2 0 }
-    ∷ record { computed = hatch-case 2 (0xa9 ∷ 0xa7 ∷ 0xfc ∷ []) none 0 0; stated = refusal 3 22 0 }
-    ∷ record { computed = hatch-case 2 (0xa9 ∷ 0xa4 ∷ 0x06 ∷ 0x40 ∷ 0x41 ∷ 0x40 ∷ []) none 0 0; stated = refusal 4 42 0 }
-    ∷ record { computed = hatch-case 2 (0xa9 ∷ []) (lent-reader (0x40 ∷ 0x40 ∷ []) 0 16) 0 0; stated = refusal 6 8 10 }
-    ∷ record { computed = hatch-case 2 (0xa9 ∷ []) (lent-reader (0x40 ∷ 0x40 ∷ 0x36 ∷ 0x00 ∷ []) 0 32) 0 0; stated = refusal 7 8 26 }
-    ∷ record { computed = hatch-case 2 (0xa9 ∷ 0xaa ∷ 0x90 ∷ 0x10 ∷ replicate 16 0) none 0 1; stated = refusal 11 156 0 }
-    ∷ []
+    ∷ record { computed = prefix-call 2 (0x85 ∷ 0xd0 ∷ 0x87 ∷ 0x40 ∷ []); stated = reading (pos 256 ∷ (pos one-pattern ∷ (pos 29 ∷ []))) 26 0 }
+    ∷ of-each-release (λ release. record { computed = prefix-call release (0x40 ∷ 0x42 ∷ 0x40 ∷ []); stated = refusal 5 18 0 }) (
+    record { computed = hatch-call 2 (0xa9 ∷ 0xaa ∷ 0xa0 ∷ []) none 0 0; stated = reading (pos 0 ∷ (pos 0 ∷ [])) 20 0 }
+    ∷ record { computed = hatch-call 3 (0xa9 ∷ 0xaa ∷ 0xa0 ∷ []) none 0 0; stated = refusal 1 22 0 }
+    ∷ of-each-release (λ release. record { computed = hatch-call release [] none 0 0; stated = refusal 1 0 0 }) (
+    record { computed = hatch-call 3 (0xc0 ∷ []) none 0 0; stated = refusal 2 2 0 }
+    ∷ record { computed = hatch-call 2 (0xa9 ∷ 0xa7 ∷ 0xfc ∷ []) none 0 0; stated = refusal 3 22 0 }
+    ∷ record { computed = hatch-call 2 (0xa9 ∷ 0xa4 ∷ 0x06 ∷ 0x40 ∷ 0x41 ∷ 0x40 ∷ []) none 0 0; stated = refusal 4 42 0 }
+    ∷ record { computed = hatch-call 2 (0xa9 ∷ []) (lent-reader (0x40 ∷ 0x40 ∷ []) 0 16) 0 0; stated = refusal 6 8 10 }
+    ∷ record { computed = hatch-call 2 (0xa9 ∷ []) (lent-reader (0x40 ∷ 0x40 ∷ 0x36 ∷ 0x00 ∷ []) 0 32) 0 0; stated = refusal 7 8 26 }
+    ∷ record { computed = hatch-call 2 (0xa9 ∷ 0xaa ∷ 0x90 ∷ 0x10 ∷ replicate 16 0) none 0 1; stated = refusal 11 156 0 }
+    ∷ []))
 
 pub all-hold : Holds cases
-unfolding cases allSame signed-BS BS BS-read BD BD-read BLL BLL-read tagged byTag raw _>>=_ tabled mapped give refuse lowFirst bytes bytes-read lowNumber window bitsOf digits number readerText measured units units-read judged checked prefixCall released limited prefix prefixBy extended chain graphics drawing held name BB RC RL BL BL-read HANDLE HANDLE-read HANDLE-value highFirst skip hatchCall hatch hatch-read plane plane-read gradient gradient-read block block-read color color-read rest rest-read tail tail-read ending ending-read pattern pattern-read pattern-line pattern-line-read path path-read segments segments-read handle-count edge edge-read edge-of spline-edge spline-read spline-counts spline-controls spline-lists fits fits-read fitted-by arc-edge arc-read ellipse-edge ellipse-read vertex vertex-read point point-read listed listed-read counted bounded bounded-read times times-read bits-left within pure refuse-format bind-format peek relay either TV-field TV-field-read lent reader-text from-reader past-end room-for here inline TV TV-read B B-read RD
+unfolding cases allSame
+    signed-BS BS BS-read BD BD-read BLL BLL-read B B-read BB RC RD RL BL BL-read HANDLE HANDLE-read HANDLE-value tagged byTag checked
+    raw _>>=_ tabled mapped measured give refuse held lowFirst highFirst bytes bytes-read lowNumber skip window bitsOf digits number limited
+    pure refuse-format bind-format peek relay either within at-least
+    readerText units units-read judged released TV TV-read TV-field TV-field-read lent reader-text from-reader past-end room-for here inline
+    prefixCall prefix prefixBy extended chain graphics drawing name
+    callOn hatch hatch-read plane plane-read gradient gradient-read block block-read color color-read rest rest-read tail tail-read ending ending-read
+    pattern pattern-read pattern-line pattern-line-read paths path path-read segments segments-read handle-count handle-count-read edge edge-read
+    edge-of spline-edge spline-read spline-counts spline-controls spline-lists fits fits-read fitted-by arc-edge arc-read ellipse-edge ellipse-read
+    vertex vertex-read point point-read listed listed-read listed-by listed-by-read counted bounded bounded-read capped capped-read summed times times-read
 all-hold = holds cases tt

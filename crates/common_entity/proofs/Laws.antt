@@ -1,7 +1,7 @@
--- What the prefix reader's proofs share: a name that is read past, and the release numbers. Assumes nothing.
+-- What the prefix reader's proofs share: a name that is read past, the mode, and the answer of a reading. Assumes nothing.
 use mathlib.Core.Path.{_≡_, refl, sym, ap, ap₂, _∙_}
 use mathlib.Core.List.{List}
-use Prim.Native.Nat.{ℕ, zero, suc, _≤_}
+use Prim.Native.Nat.{ℕ, zero, suc}
 use native.Mathlib.Omega.{arith}
 use Rattle.bitcursor.specs.declared.Refusal.{Refusal}
 use Rattle.bitcursor.specs.Reading.{Out, got, refused, andThen}
@@ -10,15 +10,17 @@ use Rattle.text.specs.declared.Source.the-variants.{Main}
 use Rattle.text.specs.declared.Text.{Text}
 use Rattle.text.specs.declared.ReadText.{ReadText}
 use Rattle.text.specs.declared.ReadText.the-variants.{Found, Refused}
-use Rattle.text.specs.declared.version.Version.{Version}
-use Rattle.text.specs.declared.version.Version.the-variants.{R14, R2000, R2004, R2007, R2010, R2013, R2018}
-use Rattle.text.specs.Releases.{releaseNumber}
 use Rattle.text.specs.Texts.{UnitWidth, Written, TV}
 use Rattle.text.specs.Fields.{widthBy}
 use Rattle.text.specs.Answers.{asText, placed}
 use mathlib.Core.Bool.{Bool}
 use Rattle.common_entity.specs.declared.EntityMode.the-variants.{Reserved}
-use Rattle.common_entity.specs.Prefix.{name, modeOf}
+use Rattle.common_entity.specs.declared.Outcome.the-variants.{Read}
+use Rattle.common_entity.specs.declared.CommonEntityBits.{CommonEntityBits}
+use Rattle.common_entity.specs.declared.PrefixBits.{PrefixBits}
+use Rattle.common_entity.specs.Values.{modeOf}
+use Rattle.common_entity.specs.Call.{asBits}
+use Rattle.common_entity.specs.Prefix.{name}
 
 module _ (b : Bool) (xs : List ℕ) (p : ℕ) {x : ReadText} (e : x ≡ asText (placed Main (widthBy b) p ((TV (widthBy b)) .read xs p))) where
   pub name-found : {t : Text} {q : ℕ} → x ≡ Found t q → (name b) .read xs p ≡ got 0 q
@@ -40,17 +42,12 @@ module _ (b : Bool) (xs : List ℕ) (p : ℕ) {x : ReadText} (e : x ≡ asText (
           let g : r ≡ q = cc in
           ap₂ refused f g
 
-pub release-range : (v : Version) → (1 ≤ releaseNumber v) × (releaseNumber v ≤ 7)
-release-range R14 = (omega arith, omega arith)
-release-range R2000 = (omega arith, omega arith)
-release-range R2004 = (omega arith, omega arith)
-release-range R2007 = (omega arith, omega arith)
-release-range R2010 = (omega arith, omega arith)
-release-range R2013 = (omega arith, omega arith)
-release-range R2018 = (omega arith, omega arith)
-
 pub mode-other : (v : ℕ) → (v ≡ 0 → ⊥) → (v ≡ 1 → ⊥) → (v ≡ 2 → ⊥) → modeOf v ≡ Reserved
 mode-other zero a b c = absurd (a refl)
 mode-other (suc zero) a b c = absurd (b refl)
 mode-other (suc (suc zero)) a b c = absurd (c refl)
 mode-other (suc (suc (suc v))) a b c = refl
+
+-- an answer with the record that was read is the answer of that reading
+pub read-as : {o : Out ℕ CommonEntityBits} {b d : CommonEntityBits} {q : ℕ} → o ≡ got d q → b ≡ d → record { outcome = Read; place = q; fields = b } ≡ asBits o
+read-as {q = q} e f = ap (λ (b : CommonEntityBits). record { outcome = Read; place = q; fields = b }) f ∙ sym (ap asBits e)

@@ -9,7 +9,7 @@ use Rattle.common_entity.specs.declared.Outcome.the-variants.{Read, Refu
 use Rattle.common_entity.specs.declared.CommonEntityBits.{CommonEntityBits}
 use Rattle.common_entity.specs.declared.Prefix.{Prefix}
 use Rattle.common_entity.specs.declared.PrefixBits.{PrefixBits}
-use Rattle.common_entity.specs.Prefix.{prefix}
+use Rattle.common_entity.specs.Format.{prefix}
 use Rattle.common_entity.specs.Record.{zeroBits, dataOf}
 
 -- the release first (9), then the limit (10), then the fields; a start past the payload is refusal 1 at that start by the first field

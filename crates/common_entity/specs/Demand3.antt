@@ -11,7 +11,8 @@ use Rattle.bitcursor.specs.declared.Refusal.{Refusal}
 use Rattle.bitcursor.specs.declared.Refusal.the-variants.{PayloadTooLong, UnknownRelease}
 use Rattle.bitcursor.specs.Bits.{Alike}
 use Rattle.bitcursor.specs.Reading.{Out, got, refused, place, never}
-use Rattle.bitcursor.specs.Code.{Code, Laid, Moves, stay}
+use Rattle.bitcursor.specs.Code.{Moves, stay}
+use Rattle.bitcursor.specs.Format.{relay}
 use Rattle.bitcursor.specs.Answers.{limit, limited}
 use Rattle.text.specs.declared.version.Version.{Version}
 use Rattle.text.specs.declared.version.MaybeVersion.{MaybeVersion}
@@ -19,15 +20,18 @@ use Rattle.text.specs.declared.version.MaybeVersion.the-variants.{Known, Unknow
 use Rattle.text.specs.Releases.{versionOf}
 use Rattle.text.specs.Answers.{released}
 use Rattle.common_entity.specs.declared.CommonEntityBits.{CommonEntityBits}
-use Rattle.common_entity.specs.Prefix.{prefix}
+use Rattle.common_entity.specs.Rows.{rowOf}
+use Rattle.common_entity.specs.Layouts.{FieldsLaid}
+use Rattle.common_entity.specs.Format.{prefix}
 use Rattle.common_entity.specs.Call.{prefixCall}
 
--- a prefix is laid out from p to q: the release is one of the seven, the payload is within the limit, and the release's fields stand there
+-- a prefix is laid out from p to q: the release is one of the seven, the payload is within the limit, and the fields of the release's row of
+-- the table stand there, by specs/Layouts
 pub record PrefixLaid (release : ℕ) (xs : List ℕ) (d : CommonEntityBits) (p q : ℕ) : Type 0 where
   pub version : Version
   pub known : versionOf release ≡ Known version
   pub within : length xs ≤ limit
-  pub laid : Laid ((prefix version) .codes) xs d p q
+  pub laid : FieldsLaid xs (rowOf version) d p q
 
 -- what a call is, by whether the release is known and whether the payload is within the limit
 abbrev by : MaybeVersion → Bool → List ℕ → ℕ → Out ℕ CommonEntityBits
@@ -46,6 +50,7 @@ call-by release xs p = go (versionOf release) (leb (length xs) limit) refl
 
 module _ (release : ℕ) (xs : List ℕ) (p : ℕ) where
   sound : (d : CommonEntityBits) (q : ℕ) → prefixCall release xs p ≡ got d q → PrefixLaid release xs d p q
+  unfolding prefix relay
   sound d q e = go (versionOf release) (leb (length xs) limit) refl refl (sym (call-by release xs p) ∙ e)
     where
       go : (m : MaybeVersion) (b : Bool) → versionOf release ≡ m → leb (length xs) limit ≡ b → by m b xs p ≡ got d q → PrefixLaid release xs d p q
@@ -54,6 +59,7 @@ module _ (release : ℕ) (xs : List ℕ) (p : ℕ) where
       go (Known v) true em eb h = record { version = v; known = em; within = leb→le _ _ (rw eb tt); laid = (prefix v) .sound xs d p q h }
 
   complete : (d : CommonEntityBits) (q : ℕ) → PrefixLaid release xs d p q → prefixCall release xs p ≡ got d q
+  unfolding prefix relay
   complete d q l =
       call-by release xs p ∙ rw (l .known, le-leb _ _ (l .within)) ((prefix (l .version)) .complete xs d p q (l .laid))
 

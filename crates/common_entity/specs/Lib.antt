@@ -1,7 +1,14 @@
 pub mod Rows
+pub mod Values
+pub mod Layouts
+pub mod Joins
 pub mod Prefix
+pub mod FieldLaws
+pub mod Format
 pub mod Blocks
+pub mod Threes
 pub mod Parts
+pub mod PlainColours
 pub mod Record
 pub mod Call
 pub mod Reads

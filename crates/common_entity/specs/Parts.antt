@@ -1,5 +1,5 @@
--- The prefix in five parts, each field read where the one before ended: what the reader's functions compute, and that together
--- they read what the prefix's definition reads. Assumes nothing.
+-- The prefix in five parts, each field read where the one before ended: what the reader's functions compute, and that what follows a
+-- part in the definition is read behind it. Assumes nothing.
 use mathlib.Core.Path.{_≡_, refl, sym, ap, _∙_}
 use mathlib.Core.Bool.{Bool}
 use mathlib.Core.List.{List}
@@ -18,7 +18,8 @@ use Rattle.common_entity.specs.declared.parts.Modes.{Modes}
 use Rattle.common_entity.specs.declared.parts.Colours.{Colours}
 use Rattle.common_entity.specs.declared.parts.Styles.{Styles}
 use Rattle.common_entity.specs.declared.parts.Tail.{Tail}
-use Rattle.common_entity.specs.Prefix.{BIT, extended, graphics, hasRgb, hasAlpha, hasName, hasBookName, name}
+use Rattle.common_entity.specs.Values.{hasRgb, hasAlpha, hasName, hasBookName}
+use Rattle.common_entity.specs.Prefix.{BIT, extended, graphics, name}
 
 abbrev pub announcedBy : Row → ℕ → Announced
 announcedBy row c = record { rgb = hasRgb row c; alpha = hasAlpha row c; name = hasName row c; «book_name» = hasBookName row c }
@@ -39,7 +40,15 @@ module _ (row : Row) (xs : List ℕ) where
       let x₄ = thenRead ((held (row .«binary_chain») BIT 0) .read xs) x₃ in
       let x₅ = thenRead ((held (row .«by_layer_ltype») BIT 1) .read xs) x₄ in
       let x₆ = thenRead ((held (row .nolinks) BIT 1) .read xs) x₅ in
-      record { mode = valueOf x₁; reactors = valueOf x₂; «no_dictionary» = valueOf x₃; binary = valueOf x₄; «by_layer» = valueOf x₅; links = valueOf x₆; last = x₆ }
+      record {
+        mode = valueOf x₁;
+        reactors = valueOf x₂;
+        «no_dictionary» = valueOf x₃;
+        binary = valueOf x₄;
+        «by_layer» = valueOf x₅;
+        links = valueOf x₆;
+        last = x₆;
+      }
 
   unfoldable pub coloursOf : Read → Colours
   coloursOf x =
@@ -83,8 +92,10 @@ module _ (row : Row) (xs : List ℕ) where
         ∙ next xs (λ b. held (row .«data_end») RL 0) (λ b c. K (valueOf x₁) b c) x₂ refl
 
     pub modes-read : (K : ℕ → ℕ → ℕ → ℕ → ℕ → ℕ → ℕ → Code B) (x : Read)
-        → resume xs (λ e. BB >>= λ a. BL >>= λ b. held (row .«no_xdictionary») BIT 1 >>= λ c. held (row .«binary_chain») BIT 0 >>= λ d. held (row .«by_layer_ltype») BIT 1 >>= λ f. held (row .nolinks) BIT 1 >>= λ g. K e a b c d f g) x
-        ≡ resume xs (K (valueOf x) (modesOf x .mode) (modesOf x .reactors) (modesOf x .«no_dictionary») (modesOf x .binary) (modesOf x .«by_layer»)) (modesOf x .last)
+        → resume xs (λ e. BB >>= λ a. BL >>= λ b. held (row .«no_xdictionary») BIT 1 >>= λ c. held (row .«binary_chain») BIT 0
+        >>= λ d. held (row .«by_layer_ltype») BIT 1 >>= λ f. held (row .nolinks) BIT 1 >>= λ g. K e a b c d f g) x
+        ≡ resume xs (K (valueOf x) (modesOf x .mode) (modesOf x .reactors) (modesOf x .«no_dictionary») (modesOf x .binary)
+        (modesOf x .«by_layer»)) (modesOf x .last)
     unfolding modesOf
     modes-read K x =
         let x₁ = thenRead (BB .read xs) x in
@@ -92,15 +103,17 @@ module _ (row : Row) (xs : List ℕ) where
         let x₃ = thenRead ((held (row .«no_xdictionary») BIT 1) .read xs) x₂ in
         let x₄ = thenRead ((held (row .«binary_chain») BIT 0) .read xs) x₃ in
         let x₅ = thenRead ((held (row .«by_layer_ltype») BIT 1) .read xs) x₄ in
-        next xs (λ e. BB) (λ e a. BL >>= λ b. held (row .«no_xdictionary») BIT 1 >>= λ c. held (row .«binary_chain») BIT 0 >>= λ d. held (row .«by_layer_ltype») BIT 1 >>= λ f. held (row .nolinks) BIT 1 >>= λ g. K e a b c d f g) x refl
-        ∙ next xs (λ a. BL) (λ a b. held (row .«no_xdictionary») BIT 1 >>= λ c. held (row .«binary_chain») BIT 0 >>= λ d. held (row .«by_layer_ltype») BIT 1 >>= λ f. held (row .nolinks) BIT 1 >>= λ g. K (valueOf x) a b c d f g) x₁ refl
-        ∙ next xs (λ b. held (row .«no_xdictionary») BIT 1) (λ b c. held (row .«binary_chain») BIT 0 >>= λ d. held (row .«by_layer_ltype») BIT 1 >>= λ f. held (row .nolinks) BIT 1 >>= λ g. K (valueOf x) (valueOf x₁) b c d f g) x₂ refl
-        ∙ next xs (λ c. held (row .«binary_chain») BIT 0) (λ c d. held (row .«by_layer_ltype») BIT 1 >>= λ f. held (row .nolinks) BIT 1 >>= λ g. K (valueOf x) (valueOf x₁) (valueOf x₂) c d f g) x₃ refl
-        ∙ next xs (λ d. held (row .«by_layer_ltype») BIT 1) (λ d f. held (row .nolinks) BIT 1 >>= λ g. K (valueOf x) (valueOf x₁) (valueOf x₂) (valueOf x₃) d f g) x₄ refl
-        ∙ next xs (λ f. held (row .nolinks) BIT 1) (λ f g. K (valueOf x) (valueOf x₁) (valueOf x₂) (valueOf x₃) (valueOf x₄) f g) x₅ refl
+        next xs (λ e. BB) _ x refl
+        ∙ next xs (λ a. BL) _ x₁ refl
+        ∙ next xs (λ b. held (row .«no_xdictionary») BIT 1) _ x₂ refl
+        ∙ next xs (λ c. held (row .«binary_chain») BIT 0) _ x₃ refl
+        ∙ next xs (λ d. held (row .«by_layer_ltype») BIT 1) _ x₄ refl
+        ∙ next xs (λ f. held (row .nolinks) BIT 1) _ x₅ refl
 
     pub colours-read : (K : ℕ → ℕ → ℕ → ℕ → ℕ → ℕ → Code B) (x : Read)
-        → resume xs (λ e. BS >>= λ a. held (hasRgb row a) BL 0 >>= λ b. held (hasAlpha row a) BL 0 >>= λ c. held (hasName row a) (name (row .«wide_names»)) 0 >>= λ d. held (hasBookName row a) (name (row .«wide_names»)) 0 >>= λ f. K e a b c d f) x
+        → resume xs (λ e. BS >>= λ a. held (hasRgb row a) BL 0 >>= λ b. held (hasAlpha row a) BL 0
+        >>= λ c. held (hasName row a) (name (row .«wide_names»)) 0 >>= λ d. held (hasBookName row a) (name (row .«wide_names»)) 0
+        >>= λ f. K e a b c d f) x
         ≡ resume xs (K (valueOf x) (coloursOf x .colour) (coloursOf x .rgb) (coloursOf x .alpha) (coloursOf x .named)) (coloursOf x .last)
     unfolding coloursOf
     colours-read K x =
@@ -108,14 +121,15 @@ module _ (row : Row) (xs : List ℕ) where
         let x₂ = thenRead ((held (hasRgb row (valueOf x₁)) BL 0) .read xs) x₁ in
         let x₃ = thenRead ((held (hasAlpha row (valueOf x₁)) BL 0) .read xs) x₂ in
         let x₄ = thenRead ((held (hasName row (valueOf x₁)) (name (row .«wide_names»)) 0) .read xs) x₃ in
-        next xs (λ e. BS) (λ e a. held (hasRgb row a) BL 0 >>= λ b. held (hasAlpha row a) BL 0 >>= λ c. held (hasName row a) (name (row .«wide_names»)) 0 >>= λ d. held (hasBookName row a) (name (row .«wide_names»)) 0 >>= λ f. K e a b c d f) x refl
-        ∙ next xs (λ a. held (hasRgb row a) BL 0) (λ a b. held (hasAlpha row a) BL 0 >>= λ c. held (hasName row a) (name (row .«wide_names»)) 0 >>= λ d. held (hasBookName row a) (name (row .«wide_names»)) 0 >>= λ f. K (valueOf x) a b c d f) x₁ refl
-        ∙ next xs (λ b. held (hasAlpha row (valueOf x₁)) BL 0) (λ b c. held (hasName row (valueOf x₁)) (name (row .«wide_names»)) 0 >>= λ d. held (hasBookName row (valueOf x₁)) (name (row .«wide_names»)) 0 >>= λ f. K (valueOf x) (valueOf x₁) b c d f) x₂ refl
-        ∙ next xs (λ c. held (hasName row (valueOf x₁)) (name (row .«wide_names»)) 0) (λ c d. held (hasBookName row (valueOf x₁)) (name (row .«wide_names»)) 0 >>= λ f. K (valueOf x) (valueOf x₁) (valueOf x₂) c d f) x₃ refl
-        ∙ next xs (λ d. held (hasBookName row (valueOf x₁)) (name (row .«wide_names»)) 0) (λ d f. K (valueOf x) (valueOf x₁) (valueOf x₂) (valueOf x₃) d f) x₄ refl
+        next xs (λ e. BS) _ x refl
+        ∙ next xs (λ a. held (hasRgb row a) BL 0) _ x₁ refl
+        ∙ next xs (λ b. held (hasAlpha row (valueOf x₁)) BL 0) _ x₂ refl
+        ∙ next xs (λ c. held (hasName row (valueOf x₁)) (name (row .«wide_names»)) 0) _ x₃ refl
+        ∙ next xs (λ d. held (hasBookName row (valueOf x₁)) (name (row .«wide_names»)) 0) _ x₄ refl
 
     pub styles-read : (K : ℕ → ℕ → ℕ → ℕ → ℕ → ℕ → Code B) (x : Read)
-        → resume xs (λ e. BD >>= λ a. held (row .«ltype_and_plotstyle») BB 0 >>= λ b. held (row .«ltype_and_plotstyle») BB 0 >>= λ c. held (row .«material_and_shadow») BB 0 >>= λ d. held (row .«material_and_shadow») RC 0 >>= λ f. K e a b c d f) x
+        → resume xs (λ e. BD >>= λ a. held (row .«ltype_and_plotstyle») BB 0 >>= λ b. held (row .«ltype_and_plotstyle») BB 0
+        >>= λ c. held (row .«material_and_shadow») BB 0 >>= λ d. held (row .«material_and_shadow») RC 0 >>= λ f. K e a b c d f) x
         ≡ resume xs (K (valueOf x) (stylesOf x .scale) (stylesOf x .linetype) (stylesOf x .plot) (stylesOf x .material)) (stylesOf x .last)
     unfolding stylesOf
     styles-read K x =
@@ -123,14 +137,15 @@ module _ (row : Row) (xs : List ℕ) where
         let x₂ = thenRead ((held (row .«ltype_and_plotstyle») BB 0) .read xs) x₁ in
         let x₃ = thenRead ((held (row .«ltype_and_plotstyle») BB 0) .read xs) x₂ in
         let x₄ = thenRead ((held (row .«material_and_shadow») BB 0) .read xs) x₃ in
-        next xs (λ e. BD) (λ e a. held (row .«ltype_and_plotstyle») BB 0 >>= λ b. held (row .«ltype_and_plotstyle») BB 0 >>= λ c. held (row .«material_and_shadow») BB 0 >>= λ d. held (row .«material_and_shadow») RC 0 >>= λ f. K e a b c d f) x refl
-        ∙ next xs (λ a. held (row .«ltype_and_plotstyle») BB 0) (λ a b. held (row .«ltype_and_plotstyle») BB 0 >>= λ c. held (row .«material_and_shadow») BB 0 >>= λ d. held (row .«material_and_shadow») RC 0 >>= λ f. K (valueOf x) a b c d f) x₁ refl
-        ∙ next xs (λ b. held (row .«ltype_and_plotstyle») BB 0) (λ b c. held (row .«material_and_shadow») BB 0 >>= λ d. held (row .«material_and_shadow») RC 0 >>= λ f. K (valueOf x) (valueOf x₁) b c d f) x₂ refl
-        ∙ next xs (λ c. held (row .«material_and_shadow») BB 0) (λ c d. held (row .«material_and_shadow») RC 0 >>= λ f. K (valueOf x) (valueOf x₁) (valueOf x₂) c d f) x₃ refl
-        ∙ next xs (λ d. held (row .«material_and_shadow») RC 0) (λ d f. K (valueOf x) (valueOf x₁) (valueOf x₂) (valueOf x₃) d f) x₄ refl
+        next xs (λ e. BD) _ x refl
+        ∙ next xs (λ a. held (row .«ltype_and_plotstyle») BB 0) _ x₁ refl
+        ∙ next xs (λ b. held (row .«ltype_and_plotstyle») BB 0) _ x₂ refl
+        ∙ next xs (λ c. held (row .«material_and_shadow») BB 0) _ x₃ refl
+        ∙ next xs (λ d. held (row .«material_and_shadow») RC 0) _ x₄ refl
 
     pub tail-reads : (K : ℕ → ℕ → ℕ → ℕ → ℕ → ℕ → Code B) (x : Read)
-        → resume xs (λ e. held (row .«visual_styles») BIT 0 >>= λ a. held (row .«visual_styles») BIT 0 >>= λ b. held (row .«visual_styles») BIT 0 >>= λ c. BS >>= λ d. held (row .lineweight) RC 0 >>= λ f. K e a b c d f) x
+        → resume xs (λ e. held (row .«visual_styles») BIT 0 >>= λ a. held (row .«visual_styles») BIT 0 >>= λ b. held (row .«visual_styles») BIT 0
+        >>= λ c. BS >>= λ d. held (row .lineweight) RC 0 >>= λ f. K e a b c d f) x
         ≡ resume xs (K (valueOf x) (tailOf x .full) (tailOf x .face) (tailOf x .edge) (tailOf x .invisible)) (tailOf x .last)
     unfolding tailOf
     tail-reads K x =
@@ -138,8 +153,8 @@ module _ (row : Row) (xs : List ℕ) where
         let x₂ = thenRead ((held (row .«visual_styles») BIT 0) .read xs) x₁ in
         let x₃ = thenRead ((held (row .«visual_styles») BIT 0) .read xs) x₂ in
         let x₄ = thenRead (BS .read xs) x₃ in
-        next xs (λ e. held (row .«visual_styles») BIT 0) (λ e a. held (row .«visual_styles») BIT 0 >>= λ b. held (row .«visual_styles») BIT 0 >>= λ c. BS >>= λ d. held (row .lineweight) RC 0 >>= λ f. K e a b c d f) x refl
-        ∙ next xs (λ a. held (row .«visual_styles») BIT 0) (λ a b. held (row .«visual_styles») BIT 0 >>= λ c. BS >>= λ d. held (row .lineweight) RC 0 >>= λ f. K (valueOf x) a b c d f) x₁ refl
-        ∙ next xs (λ b. held (row .«visual_styles») BIT 0) (λ b c. BS >>= λ d. held (row .lineweight) RC 0 >>= λ f. K (valueOf x) (valueOf x₁) b c d f) x₂ refl
-        ∙ next xs (λ c. BS) (λ c d. held (row .lineweight) RC 0 >>= λ f. K (valueOf x) (valueOf x₁) (valueOf x₂) c d f) x₃ refl
-        ∙ next xs (λ d. held (row .lineweight) RC 0) (λ d f. K (valueOf x) (valueOf x₁) (valueOf x₂) (valueOf x₃) d f) x₄ refl
+        next xs (λ e. held (row .«visual_styles») BIT 0) _ x refl
+        ∙ next xs (λ a. held (row .«visual_styles») BIT 0) _ x₁ refl
+        ∙ next xs (λ b. held (row .«visual_styles») BIT 0) _ x₂ refl
+        ∙ next xs (λ c. BS) _ x₃ refl
+        ∙ next xs (λ d. held (row .lineweight) RC 0) _ x₄ refl

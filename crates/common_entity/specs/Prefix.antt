@@ -1,29 +1,24 @@
 -- The entity prefix in document 01's order, as a certified code of one payload. A field that a release lacks is not read, and the
 -- value after its code stands for it. Names are inline, and only read past. Assumes nothing.
 use mathlib.Core.Path.{_≡_}
-use mathlib.Core.Bool.{Bool, true, false, not, _&&_}
+use mathlib.Core.Bool.{Bool, true, not}
 use mathlib.Core.List.{List, [], _∷_}
-use Prim.Native.Nat.{ℕ, zero, suc, _/_, _^_}
+use Prim.Native.Nat.{ℕ, zero, suc}
 use lib.Dec.{eqb}
 use lib.IntN.{ℤ}
 use Rattle.bitcursor.specs.declared.Refusal.the-variants.{TooManyXdataBlocks}
 use Rattle.bitcursor.specs.declared.Handle.{Handle}
-use Rattle.bitcursor.specs.Bits.{odd}
 use Rattle.bitcursor.specs.Code.{Code, give, refuse, raw, _>>=_, mapped}
 use Rattle.bitcursor.specs.Bytes.{lowFirst, skip}
 use Rattle.bitcursor.specs.Codes.{BB, RC, RL, BS, BL, signed}
 use Rattle.bitcursor.specs.Doubles.{BD}
 use Rattle.bitcursor.specs.Handles.{BLL, HANDLE, checked}
 use Rattle.bitcursor.specs.Sequence.{held}
-use Rattle.text.specs.declared.version.Version.{Version}
 use Rattle.text.specs.Texts.{Written, TV}
 use Rattle.text.specs.Fields.{widthBy}
-use Rattle.common_entity.specs.declared.EntityMode.{EntityMode}
-use Rattle.common_entity.specs.declared.EntityMode.the-variants.{ByLayer, ByPreviousEntity, InBlock, Reserved}
-use Rattle.common_entity.specs.declared.MaybeLong.{MaybeLong}
 use Rattle.common_entity.specs.declared.CommonEntityBits.{CommonEntityBits}
 use Rattle.common_entity.specs.declared.table.Row.{Row}
-use Rattle.common_entity.specs.Rows.{rowOf}
+use Rattle.common_entity.specs.Values.{modeOf, maybe, hasRgb, hasAlpha, hasName, hasBookName}
 
 -- B, as a number
 abbrev pub BIT : Code ℕ
@@ -55,38 +50,14 @@ graphics bll = do
   had ← BIT
   checked (eqb had 1) (drawing bll) (give 0)
 
--- a bit of the colour's short: its high byte's 80 is bit 15, 40 is 14, 20 is 13, 2 is 9 and 1 is 8
-abbrev pub flag : ℕ → ℕ → Bool
-flag k colour = odd (colour / 2 ^ k)
-
-abbrev pub hasRgb : Row → ℕ → Bool
-hasRgb row colour = row .«color_flags» && (flag 15 colour && not (flag 14 colour))
-
-abbrev pub hasAlpha : Row → ℕ → Bool
-hasAlpha row colour = row .«color_flags» && flag 13 colour
-
-abbrev pub hasName : Row → ℕ → Bool
-hasName row colour = row .«color_flags» && (flag 14 colour && flag 8 colour)
-
-abbrev pub hasBookName : Row → ℕ → Bool
-hasBookName row colour = row .«color_flags» && (flag 14 colour && flag 9 colour)
-
 -- inline text, read past
 unfoldable pub name : Bool → Code ℕ
 name wide-units = mapped (λ (t : Written). 0) (TV (widthBy wide-units))
 
-abbrev pub modeOf : ℕ → EntityMode
-modeOf zero = ByLayer
-modeOf (suc zero) = ByPreviousEntity
-modeOf (suc (suc zero)) = InBlock
-modeOf (suc (suc (suc n))) = Reserved
-
-abbrev pub maybe : Bool → ℕ → MaybeLong
-maybe b v = record { present = b; value = v }
-
 -- the record of the fields' numbers
 abbrev pub fieldsOf : Row → ℕ → ℕ → ℕ → ℕ → ℕ → ℕ → ℕ → ℕ → ℕ → ℕ → ℕ → ℕ → ℕ → ℕ → ℕ → ℕ → ℕ → ℕ → ℕ → ℕ → ℕ → ℕ → CommonEntityBits
-fieldsOf row xdata drawn end mode reactors no-dictionary binary by-layer links colour rgb alpha scale linetype plot material shadow full face edge invisible weight =
+fieldsOf row xdata drawn end mode reactors no-dictionary binary by-layer links colour rgb alpha scale linetype plot material shadow
+    full face edge invisible weight =
     record {
       «raw_mode» = mode;
       mode = modeOf mode;
@@ -139,8 +110,5 @@ prefixBy row = do
   edge ← held (row .«visual_styles») BIT 0
   invisible ← BS
   weight ← held (row .lineweight) RC 0
-  give (fieldsOf row xdata drawn end mode reactors no-dictionary binary by-layer links colour rgb alpha scale linetype plot material shadow full face edge invisible weight)
-
--- the prefix of a release
-unfoldable pub prefix : Version → Code CommonEntityBits
-prefix v = prefixBy (rowOf v)
+  give (fieldsOf row xdata drawn end mode reactors no-dictionary binary by-layer links colour rgb alpha scale linetype plot material shadow
+      full face edge invisible weight)

@@ -24,7 +24,8 @@ use Rattle.common_entity.specs.declared.parts.Modes.{Modes}
 use Rattle.common_entity.specs.declared.parts.Colours.{Colours}
 use Rattle.common_entity.specs.declared.parts.Styles.{Styles}
 use Rattle.common_entity.specs.declared.parts.Tail.{Tail}
-use Rattle.common_entity.specs.Prefix.{prefixBy, fieldsOf, hasRgb, hasAlpha, BIT, graphics, extended}
+use Rattle.common_entity.specs.Values.{hasRgb, hasAlpha}
+use Rattle.common_entity.specs.Prefix.{prefixBy, fieldsOf, BIT, graphics, extended}
 use Rattle.common_entity.specs.Parts.{headOf, modesOf, coloursOf, stylesOf, tailOf, head-reads, modes-read, colours-read, styles-read, tail-reads}
 use Rattle.common_entity.specs.Record.{InRange, bitsOf}
 
@@ -44,17 +45,24 @@ module _ (row : Row) (xs : List ℕ) (p : ℕ) where
   abbrev pub e : Tail
   e = tailOf row xs (t .last)
 
-  pub prefix-reads : (prefixBy row) .read xs p
-      ≡ resume xs (λ w. give (fieldsOf row (h .xdata) (h .drawn) (valueOf (h .last)) (m .mode) (m .reactors) (m .«no_dictionary») (m .binary) (m .«by_layer») (valueOf (m .last))
-      (c .colour) (c .rgb) (c .alpha) (t .scale) (t .linetype) (t .plot) (t .material) (valueOf (t .last)) (e .full) (e .face) (e .edge) (e .invisible) w)) (e .last)
+  -- the record of the parts' numbers, with the last answer's number for the lineweight
+  abbrev recordTo : ℕ → CommonEntityBits
+  recordTo weight =
+      fieldsOf row (h .xdata) (h .drawn) (valueOf (h .last)) (m .mode) (m .reactors) (m .«no_dictionary») (m .binary) (m .«by_layer»)
+      (valueOf (m .last)) (c .colour) (c .rgb) (c .alpha) (t .scale) (t .linetype) (t .plot) (t .material) (valueOf (t .last))
+      (e .full) (e .face) (e .edge) (e .invisible) weight
+
+  prefix-reads : (prefixBy row) .read xs p ≡ resume xs (λ w. give (recordTo w)) (e .last)
   unfolding prefixBy
   prefix-reads =
-      head-reads row xs _ p ∙ modes-read row xs _ (h .last) ∙ colours-read row xs _ (m .last) ∙ styles-read row xs _ (c .last) ∙ tail-reads row xs _ (t .last)
+      head-reads row xs _ p ∙ modes-read row xs _ (h .last) ∙ colours-read row xs _ (m .last) ∙ styles-read row xs _ (c .last)
+      ∙ tail-reads row xs _ (t .last)
 
   -- every number is in its field's range
   bits-small : (b : Bool) (n absent : ℕ) → n ≤ 8 → absent < 2 ^ n → (x : Read) → valueOf (thenRead ((held b (raw n) absent) .read xs) x) < 2 ^ 8
   bits-small b n absent h k x =
-      lt-of-lt-of-le (step-below (2 ^ n) (held b (raw n) absent) (pow-pos n) (held-below (2 ^ n) b (raw n) absent k (raw-below n)) xs x refl) (pow-mono {j = 8} h)
+      let below = held-below (2 ^ n) b (raw n) absent k (raw-below n) in
+      lt-of-lt-of-le (step-below (2 ^ n) (held b (raw n) absent) (pow-pos n) below xs x refl) (pow-mono {j = 8} h)
 
   low-small : (b : Bool) (n : ℕ) (x : Read) → valueOf (thenRead ((held b (lowFirst n) 0) .read xs) x) < 256 ^ n
   low-small b n x =
@@ -93,7 +101,13 @@ module _ (row : Row) (xs : List ℕ) (p : ℕ) where
       let x₂ = thenRead ((held (row .«ltype_and_plotstyle») BB 0) .read xs) x₁ in
       let x₃ = thenRead ((held (row .«ltype_and_plotstyle») BB 0) .read xs) x₂ in
       let x₄ = thenRead ((held (row .«material_and_shadow») BB 0) .read xs) x₃ in
-      (bits-small (row .«ltype_and_plotstyle») 2 0 (omega arith) (omega arith) x₁, bits-small (row .«ltype_and_plotstyle») 2 0 (omega arith) (omega arith) x₂, bits-small (row .«material_and_shadow») 2 0 (omega arith) (omega arith) x₃, low-small (row .«material_and_shadow») 1 x₄)
+      let two = row .«ltype_and_plotstyle» in
+      let more = row .«material_and_shadow» in (
+        bits-small two 2 0 (omega arith) (omega arith) x₁,
+        bits-small two 2 0 (omega arith) (omega arith) x₂,
+        bits-small more 2 0 (omega arith) (omega arith) x₃,
+        low-small more 1 x₄,
+      )
 
   pub tail-small : (x : Read) → (tailOf row xs x .invisible < 2 ^ 16) × (tailOf row xs x .weight < 2 ^ 8)
   unfolding tailOf RC
@@ -129,11 +143,7 @@ module _ (row : Row) (xs : List ℕ) (p : ℕ) where
   unfolding headOf modesOf stylesOf tailOf give
   whole {v} {q} l = prefix-reads ∙ go (e .last) l
     where
-      go : (x : Read) → x ≡ Value v q
-          → resume xs (λ w. give (fieldsOf row (h .xdata) (h .drawn) (valueOf (h .last)) (m .mode) (m .reactors) (m .«no_dictionary») (m .binary) (m .«by_layer») (valueOf (m .last))
-          (c .colour) (c .rgb) (c .alpha) (t .scale) (t .linetype) (t .plot) (t .material) (valueOf (t .last)) (e .full) (e .face) (e .edge) (e .invisible) w)) x
-          ≡ got (fieldsOf row (h .xdata) (h .drawn) (valueOf (h .last)) (m .mode) (m .reactors) (m .«no_dictionary») (m .binary) (m .«by_layer») (valueOf (m .last))
-          (c .colour) (c .rgb) (c .alpha) (t .scale) (t .linetype) (t .plot) (t .material) (valueOf (t .last)) (e .full) (e .face) (e .edge) (e .invisible) (valueOf x)) q
+      go : (x : Read) → x ≡ Value v q → resume xs (λ w. give (recordTo w)) x ≡ got (recordTo (valueOf x)) q
       go x k = rw k
 
   stopped : {r : Refusal} {q : ℕ} → e .last ≡ Refused r q → (prefixBy row) .read xs p ≡ refused r q

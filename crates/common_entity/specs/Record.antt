@@ -16,7 +16,8 @@ use Rattle.common_entity.specs.declared.parts.Modes.{Modes}
 use Rattle.common_entity.specs.declared.parts.Colours.{Colours}
 use Rattle.common_entity.specs.declared.parts.Styles.{Styles}
 use Rattle.common_entity.specs.declared.parts.Tail.{Tail}
-use Rattle.common_entity.specs.Prefix.{fieldsOf, maybe}
+use Rattle.common_entity.specs.Values.{maybe}
+use Rattle.common_entity.specs.Prefix.{fieldsOf}
 
 -- the parts' numbers are in their fields' ranges
 pub record InRange (h : Head) (m : Modes) (c : Colours) (t : Styles) (e : Tail) : Type 0 where

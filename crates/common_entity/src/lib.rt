@@ -104,7 +104,6 @@ pub struct PrefixBits {
     pub fields: CommonEntityBits,
 }
 
-// A refused call's answer.
 fn refused(k: Refusal, p: usize) -> PrefixBits
     ensures { λ r. ⌜ r ≡ asBits (refused k p) ⌝ }
 {

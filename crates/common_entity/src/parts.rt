@@ -3,7 +3,7 @@ ghost use mathlib.Core.Path.{_≡_};
 ghost use Prim.Native.Nat.{_≤_, _<_};
 ghost use lib.ListN.{length};
 ghost use Rattle.bitcursor.specs.Answers.{limit};
-ghost use Rattle.common_entity.specs.Prefix.{flag};
+ghost use Rattle.common_entity.specs.Values.{flag};
 ghost use Rattle.common_entity.specs.Parts.{headOf, modesOf, coloursOf, stylesOf, tailOf, announcedBy};
 use crate::steps;
 use crate::table::Row;
@@ -66,7 +66,6 @@ pub struct Tail {
     pub last: Read,
 }
 
-// Up to the mode.
 pub fn read_head(s: &[u8], at: usize, row: Row) -> Head
     requires { ⌜ length (now s) ≤ limit ⌝ }
     ensures { λ r. ⌜ r ≡ headOf row (now (s .entry)) at ⌝ }
@@ -82,7 +81,6 @@ pub fn read_head(s: &[u8], at: usize, row: Row) -> Head
     }
 }
 
-// From the mode to the colour.
 pub fn read_modes(s: &[u8], prior: Read, row: Row) -> Modes
     requires { ⌜ length (now s) ≤ limit ⌝ }
     ensures { λ r. ⌜ r ≡ modesOf row (now (s .entry)) prior ⌝ }
@@ -133,13 +131,22 @@ pub fn announced_by(row: Row, colour: u64) -> Announced
     }
 }
 
-// The colour, and what its flags announce.
 pub fn read_colours(s: &[u8], prior: Read, row: Row) -> Colours
     requires { ⌜ length (now s) ≤ limit ⌝ }
     ensures { λ r. ⌜ r ≡ coloursOf row (now (s .entry)) prior ⌝ }
 {
     let colour = sequence::then_bs(s, prior);
     let value = sequence::value_of(colour);
+    if value < 0x2000 {
+        // none of 80, 40 and 20 is set, so nothing follows
+        return Colours {
+            colour: value,
+            rgb: 0,
+            alpha: 0,
+            named: 0,
+            last: sequence::then_bits(s, colour, 1, false, 0),
+        };
+    }
     let has = announced_by(row, value);
     let rgb = sequence::then_bl(s, colour, has.rgb, 0);
     let alpha = sequence::then_bl(s, rgb, has.alpha, 0);
@@ -154,27 +161,25 @@ pub fn read_colours(s: &[u8], prior: Read, row: Row) -> Colours
     }
 }
 
-// The linetype scale and the flags behind it.
 pub fn read_styles(s: &[u8], prior: Read, row: Row) -> Styles
     requires { ⌜ length (now s) ≤ limit ⌝ }
     ensures { λ r. ⌜ r ≡ stylesOf row (now (s .entry)) prior ⌝ }
 {
     let scale = sequence::then_bd_bits(s, prior);
-    let linetype = sequence::then_bits(s, scale, 2, row.ltype_and_plotstyle, 0);
-    let plot = sequence::then_bits(s, linetype, 2, row.ltype_and_plotstyle, 0);
-    let material = sequence::then_bits(s, plot, 2, row.material_and_shadow, 0);
-    let shadow = sequence::then_low(s, material, 1, row.material_and_shadow, 0);
+    let has = row.material_and_shadow;
+    let flags = steps::then_three(s, scale, row.ltype_and_plotstyle, has);
+    let behind_flags = flags.last;
+    let shadow = sequence::then_low(s, behind_flags, 1, has, 0);
     Styles {
         scale: sequence::value_of(scale),
-        linetype: sequence::value_of(linetype),
-        plot: sequence::value_of(plot),
-        material: sequence::value_of(material),
+        linetype: flags.first,
+        plot: flags.second,
+        material: flags.third,
         shadow: sequence::value_of(shadow),
         last: shadow,
     }
 }
 
-// From the visual styles to the end.
 pub fn read_tail(s: &[u8], prior: Read, row: Row) -> Tail
     requires { ⌜ length (now s) ≤ limit ⌝ }
     ensures { λ r. ⌜ r ≡ tailOf row (now (s .entry)) prior ⌝ }

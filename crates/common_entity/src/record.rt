@@ -1,7 +1,7 @@
 // The record of a prefix from its parts' numbers, and the record of a refused call, which is zero throughout.
 ghost use mathlib.Core.Path.{_≡_};
 ghost use lib.Dec.{eqb};
-ghost use Rattle.common_entity.specs.Prefix.{modeOf};
+ghost use Rattle.common_entity.specs.Values.{modeOf};
 ghost use Rattle.common_entity.specs.Record.{InRange, bitsOf, dataOf, zeroBits};
 use crate::CommonEntityBits;
 use crate::CommonEntityData;
@@ -26,7 +26,6 @@ fn entity_mode(v: u64) -> EntityMode
     }
 }
 
-// The record of what was laid out.
 pub fn common_bits(row: Row, h: Head, m: Modes, c: Colours, t: Styles, e: Tail) -> CommonEntityBits
     requires { ⌜ InRange h m c t e ⌝ }
     ensures { λ r. ⌜ r ≡ bitsOf row h m c t e ⌝ }
@@ -67,7 +66,6 @@ pub fn common_bits(row: Row, h: Head, m: Modes, c: Colours, t: Styles, e: Tail) 
     }
 }
 
-// Zero throughout.
 pub fn zero_bits() -> CommonEntityBits
     ensures { λ r. ⌜ r ≡ zeroBits ⌝ }
 {

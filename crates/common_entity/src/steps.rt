@@ -1,5 +1,6 @@
-// The prefix's fields that are more than one code: the XDATA chain, graphics, and a colour's name.
+// The prefix's fields that are more than one code: the XDATA chain, graphics, a colour's name, and three BB in a row.
 ghost use mathlib.Core.Path.{_≡_};
+ghost use mathlib.Core.Bool.{true};
 ghost use Prim.Native.Nat.{_≤_};
 ghost use lib.ListN.{length};
 ghost use Rattle.bitcursor.specs.Answers.{limit, asRead};
@@ -8,12 +9,21 @@ ghost use Rattle.bitcursor.specs.Handles.{BLL, checked};
 ghost use Rattle.bitcursor.specs.Sequence.{held, thenRead};
 ghost use Rattle.common_entity.specs.Prefix.{graphics, name, drawing};
 ghost use Rattle.common_entity.specs.Blocks.{block, chainFrom};
+ghost use Rattle.common_entity.specs.Threes.{threeOf};
 use bitcursor::Passed;
 use bitcursor::Read;
 use bitcursor::ReadHandle;
 use bitcursor::Refusal;
 use bitcursor::sequence;
 use text::ReadText;
+
+// The numbers of three fields, and the last answer.
+pub struct Three {
+    pub first: u64,
+    pub second: u64,
+    pub third: u64,
+    pub last: Read,
+}
 
 // One XDATA block: 0 where its size is 0, and 1 after a handle and that many bytes.
 fn read_block(s: &[u8], at: usize) -> Read
@@ -41,8 +51,8 @@ fn read_block(s: &[u8], at: usize) -> Read
     }
 }
 
-// The XDATA chain: whether there was a block. After 256 nonzero blocks it is refused without another size.
-pub fn skip_extended_data(s: &[u8], at: usize) -> Read
+// The XDATA chain block by block: whether there was one. After 256 nonzero blocks it is refused without another size.
+fn skip_blocks(s: &[u8], at: usize) -> Read
     requires { ⌜ length (now s) ≤ limit ⌝ }
     ensures { λ r. ⌜ r ≡ asRead (chainFrom 256 0 (now (s .entry)) at) ⌝ }
 {
@@ -65,6 +75,22 @@ pub fn skip_extended_data(s: &[u8], at: usize) -> Read
         }
     }
     Read::Refused(Refusal::TooManyXdataBlocks, p)
+}
+
+// The XDATA chain; most prefixes have none, and then a tag of two bits is all of it.
+pub fn skip_extended_data(s: &[u8], at: usize) -> Read
+    requires { ⌜ length (now s) ≤ limit ⌝ }
+    ensures { λ r. ⌜ r ≡ asRead (chainFrom 256 0 (now (s .entry)) at) ⌝ }
+{
+    match bitcursor::within::read_bits(s, at, 2) {
+        Read::Value(tag, p) => {
+            if tag == 2 {
+                return Read::Value(0, p);
+            }
+            skip_blocks(s, at)
+        }
+        Read::Refused(_, _) => skip_blocks(s, at),
+    }
 }
 
 // What graphics hold: their size, as a BLL or an RL, and that many bytes. The place is behind the set bit.
@@ -124,4 +150,49 @@ pub fn then_name(s: &[u8], prior: Read, has: bool, two_bytes: bool) -> Read
         }
         Read::Refused(k, p) => Read::Refused(k, p),
     }
+}
+
+// Three BB one by one; the first two and the third may be lacking.
+fn read_each(s: &[u8], prior: Read, two: bool, third: bool) -> Three
+    requires { ⌜ length (now s) ≤ limit ⌝ }
+    ensures { λ r. ⌜ r ≡ threeOf 2 two third (now (s .entry)) prior ⌝ }
+{
+    let a = sequence::then_bits(s, prior, 2, two, 0);
+    let b = sequence::then_bits(s, a, 2, two, 0);
+    let c = sequence::then_bits(s, b, 2, third, 0);
+    Three {
+        first: sequence::value_of(a),
+        second: sequence::value_of(b),
+        third: sequence::value_of(c),
+        last: c,
+    }
+}
+
+// Three BB of which none is lacking: by one read if their bits are there.
+fn read_at_once(s: &[u8], prior: Read) -> Three
+    requires { ⌜ length (now s) ≤ limit ⌝ }
+    ensures { λ r. ⌜ r ≡ threeOf 2 true true (now (s .entry)) prior ⌝ }
+{
+    match prior {
+        Read::Value(before, p) => match bitcursor::within::read_bits(s, p, 6) {
+            Read::Value(v, q) => Three {
+                first: v / 4 / 4,
+                second: v / 4 % 4,
+                third: v % 4,
+                last: Read::Value(v % 4, q),
+            },
+            Read::Refused(_, _) => read_each(s, Read::Value(before, p), true, true),
+        },
+        Read::Refused(k, p) => read_each(s, Read::Refused(k, p), true, true),
+    }
+}
+
+pub fn then_three(s: &[u8], prior: Read, two: bool, third: bool) -> Three
+    requires { ⌜ length (now s) ≤ limit ⌝ }
+    ensures { λ r. ⌜ r ≡ threeOf 2 two third (now (s .entry)) prior ⌝ }
+{
+    if two & third {
+        return read_at_once(s, prior);
+    }
+    read_each(s, prior, two, third)
 }

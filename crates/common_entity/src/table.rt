@@ -1,7 +1,6 @@
 // Which prefix fields each release has: document 01's "fixed table of release against field".
 ghost use mathlib.Core.Path.{_≡_};
 ghost use Rattle.common_entity.specs.Rows.{rows, rowOf};
-use text::version;
 use text::version::Version;
 
 // One release: whether it has each field that not all have.
@@ -132,11 +131,17 @@ pub fn rows() -> [Row; 7]
     ROWS
 }
 
-// The row of a release.
 pub fn row_of(v: Version) -> Row
     ensures { λ r. ⌜ r ≡ rowOf v ⌝ }
 {
-    let n = version::release_number(v);
     let all = rows();
-    all[n - 1]
+    match v {
+        Version::R14 => all[0],
+        Version::R2000 => all[1],
+        Version::R2004 => all[2],
+        Version::R2007 => all[3],
+        Version::R2010 => all[4],
+        Version::R2013 => all[5],
+        Version::R2018 => all[6],
+    }
 }

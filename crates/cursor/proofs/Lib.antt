@@ -1,11 +1,6 @@
 pub mod Moves
-pub mod Starts
 pub mod AnswerKinds
-pub mod Thin
-pub mod ThinWith
-pub mod Lends
-pub mod LendsWith
-pub mod Asked
-pub mod Tokens
-pub mod Loans
-pub mod Questions
+pub mod CursorReader
+pub mod CursorReaderWith
+pub mod CursorCaller
+pub mod CursorCallerWith

@@ -1,4 +1,5 @@
 -- Where a cursor stands, what a reading at a cursor answers, and where the cursor stands afterwards. Assumes nothing.
+use mathlib.Core.Path.{_≡_}
 use mathlib.Core.Bool.{Bool}
 use mathlib.Core.List.{List}
 use Prim.Native.Nat.{ℕ, _+_, _*_, _/_, _%_, min}
@@ -87,6 +88,10 @@ abbrev pub answerHandle : Out ℕ Handle → AnswerHandle
 answerHandle (got v p) = ValueHandle v
 answerHandle (refused r p) = RefusedHandle r
 
+-- a reader of `BitCursor` gives the answer of a reading, and leaves the cursor behind it
+abbrev pub Reads : {A R : Type 0} → (Out ℕ A → R) → Out ℕ A → R → BitCursor → Type 0
+Reads as-answer o r c = (r ≡ as-answer o) × (c ≡ after o)
+
 -- both together
 abbrev pub moved : Out ℕ ℕ → Moved
 moved o = record { answer = answer o; cursor = after o }
@@ -107,26 +112,26 @@ abbrev pub movedHandle : Out ℕ Handle → MovedHandle
 movedHandle o = record { answer = answerHandle o; cursor = after o }
 
 -- both together, from the answer of the call by value
-abbrev pub told : Read → Moved
-told (Found v p) = record { answer = Value v; cursor = cursorAt p }
-told (Not r p) = record { answer = Refused r; cursor = cursorAt p }
+abbrev pub ofRead : Read → Moved
+ofRead (Found v p) = record { answer = Value v; cursor = cursorAt p }
+ofRead (Not r p) = record { answer = Refused r; cursor = cursorAt p }
 
-abbrev pub toldBool : ReadBool → MovedBool
-toldBool (FoundBool v p) = record { answer = ValueBool v; cursor = cursorAt p }
-toldBool (NotBool r p) = record { answer = RefusedBool r; cursor = cursorAt p }
+abbrev pub ofReadBool : ReadBool → MovedBool
+ofReadBool (FoundBool v p) = record { answer = ValueBool v; cursor = cursorAt p }
+ofReadBool (NotBool r p) = record { answer = RefusedBool r; cursor = cursorAt p }
 
-abbrev pub toldI16 : ReadI16 → MovedI16
-toldI16 (FoundI16 v p) = record { answer = ValueI16 v; cursor = cursorAt p }
-toldI16 (NotI16 r p) = record { answer = RefusedI16 r; cursor = cursorAt p }
+abbrev pub ofReadI16 : ReadI16 → MovedI16
+ofReadI16 (FoundI16 v p) = record { answer = ValueI16 v; cursor = cursorAt p }
+ofReadI16 (NotI16 r p) = record { answer = RefusedI16 r; cursor = cursorAt p }
 
-abbrev pub toldI32 : ReadI32 → MovedI32
-toldI32 (FoundI32 v p) = record { answer = ValueI32 v; cursor = cursorAt p }
-toldI32 (NotI32 r p) = record { answer = RefusedI32 r; cursor = cursorAt p }
+abbrev pub ofReadI32 : ReadI32 → MovedI32
+ofReadI32 (FoundI32 v p) = record { answer = ValueI32 v; cursor = cursorAt p }
+ofReadI32 (NotI32 r p) = record { answer = RefusedI32 r; cursor = cursorAt p }
 
-abbrev pub toldF64 : ReadF64 → MovedF64
-toldF64 (FoundF64 v p) = record { answer = ValueF64 v; cursor = cursorAt p }
-toldF64 (NotF64 r p) = record { answer = RefusedF64 r; cursor = cursorAt p }
+abbrev pub ofReadF64 : ReadF64 → MovedF64
+ofReadF64 (FoundF64 v p) = record { answer = ValueF64 v; cursor = cursorAt p }
+ofReadF64 (NotF64 r p) = record { answer = RefusedF64 r; cursor = cursorAt p }
 
-abbrev pub toldHandle : ReadHandle → MovedHandle
-toldHandle (FoundHandle v p) = record { answer = ValueHandle v; cursor = cursorAt p }
-toldHandle (NotHandle r p) = record { answer = RefusedHandle r; cursor = cursorAt p }
+abbrev pub ofReadHandle : ReadHandle → MovedHandle
+ofReadHandle (FoundHandle v p) = record { answer = ValueHandle v; cursor = cursorAt p }
+ofReadHandle (NotHandle r p) = record { answer = RefusedHandle r; cursor = cursorAt p }

@@ -1,5 +1,5 @@
-// Each function lends a cursor of its own to one thin reader, and hands back the answer and the cursor: so code that the borrow checker covers,
-// which cannot lend a struct, runs the thin readers.
+// Each function lends a cursor of its own to one reader of `BitCursor`, and hands back the answer and the cursor: so code that the borrow checker covers,
+// which cannot lend a struct, runs these readers.
 ghost use mathlib.Core.Path.{_≡_};
 ghost use lib.Ieee.{toBits, binary64};
 ghost use Rattle.bitcursor.specs.Codes.{B, BB, «3B», RC, RS, RL, RD, BS, BL, signed-BS, signed-BL};

@@ -1,6 +1,6 @@
-// Bit codes read by a cursor that moves, and texts by a reader that keeps its payload: src/bitcursor.rs and src/string_stream.rs of
-// dwg-rs; sections 2 and 19.1 of the ODA's specification.
-// specs/ promises, for every cursor or reader and every payload: the call's answer by value, and the place where the call by value ends.
+// Bit codes read by a cursor that is lent and moved: src/bitcursor.rs of dwg-rs; section 2 of the ODA's specification.
+// Each reader loads the cursor, calls the reader of `moved` with it by value, stores the cursor that this gives and answers the rest.
+// specs/ promises, for every cursor and every payload: the answer of the call by value, and the place where that call ends.
 ghost use mathlib.Core.Path.{_≡_};
 ghost use Prim.Native.Nat.{_-_, _*_};
 ghost use lib.Ieee.{toBits, binary64};
@@ -8,14 +8,12 @@ ghost use lib.ListN.{length};
 ghost use Rattle.bitcursor.specs.Codes.{B, BB, «3B», RC, RS, RL, RD, BS, BL, signed-BS, signed-BL};
 ghost use Rattle.bitcursor.specs.Doubles.{BD, DD};
 ghost use Rattle.bitcursor.specs.Handles.{BLL, HANDLE};
-ghost use Rattle.cursor.specs.Cursors.{saturated, placeOf, cursorAt, readAt, after, answer, answerBool, answerI16, answerI32, answerF64, answerHandle};
+ghost use Rattle.cursor.specs.Cursors.{saturated, placeOf, cursorAt, readAt, Reads, answer, answerBool, answerI16, answerI32, answerF64, answerHandle};
 use bitcursor::Handle;
 use bitcursor::Refusal;
 
 pub mod lent;
 pub mod moved;
-pub mod readings;
-pub mod strings;
 
 // The byte and, in it, the bit at which the next reading starts; 0 is a byte's top bit. Any two numbers are a cursor.
 pub struct BitCursor {
@@ -67,7 +65,6 @@ pub fn total_bits(bytes: &[u8]) -> usize
     8 * bytes.len()
 }
 
-// The readers below load the cursor, call the reader of `moved`, store the cursor that it gives and answer the rest.
 impl BitCursor {
     // The cursor at a place.
     pub fn at(place: usize) -> BitCursor
@@ -109,7 +106,7 @@ impl BitCursor {
 
     // B: one bit.
     pub fn read_b(&mut self, bytes: &[u8]) -> AnswerBool
-        ensures { λ r. ⌜ (r ≡ answerBool (readAt B (now (bytes .entry)) (now (self .entry)))) × (now (self .exit) ≡ after (readAt B (now (bytes .entry)) (now (self .entry)))) ⌝ }
+        ensures { λ r. ⌜ Reads answerBool (readAt B (now (bytes .entry)) (now (self .entry))) r (now (self .exit)) ⌝ }
     {
         let m = moved::read_b(bytes, *self);
         *self = m.cursor;
@@ -118,7 +115,7 @@ impl BitCursor {
 
     // BB: two bits.
     pub fn read_bb(&mut self, bytes: &[u8]) -> Answer
-        ensures { λ r. ⌜ (r ≡ answer (readAt BB (now (bytes .entry)) (now (self .entry)))) × (now (self .exit) ≡ after (readAt BB (now (bytes .entry)) (now (self .entry)))) ⌝ }
+        ensures { λ r. ⌜ Reads answer (readAt BB (now (bytes .entry)) (now (self .entry))) r (now (self .exit)) ⌝ }
     {
         let m = moved::read_bb(bytes, *self);
         *self = m.cursor;
@@ -127,7 +124,7 @@ impl BitCursor {
 
     // 3B: three bits.
     pub fn read_3b(&mut self, bytes: &[u8]) -> Answer
-        ensures { λ r. ⌜ (r ≡ answer (readAt «3B» (now (bytes .entry)) (now (self .entry)))) × (now (self .exit) ≡ after (readAt «3B» (now (bytes .entry)) (now (self .entry)))) ⌝ }
+        ensures { λ r. ⌜ Reads answer (readAt «3B» (now (bytes .entry)) (now (self .entry))) r (now (self .exit)) ⌝ }
     {
         let m = moved::read_3b(bytes, *self);
         *self = m.cursor;
@@ -136,7 +133,7 @@ impl BitCursor {
 
     // RC: one byte.
     pub fn read_rc(&mut self, bytes: &[u8]) -> Answer
-        ensures { λ r. ⌜ (r ≡ answer (readAt RC (now (bytes .entry)) (now (self .entry)))) × (now (self .exit) ≡ after (readAt RC (now (bytes .entry)) (now (self .entry)))) ⌝ }
+        ensures { λ r. ⌜ Reads answer (readAt RC (now (bytes .entry)) (now (self .entry))) r (now (self .exit)) ⌝ }
     {
         let m = moved::read_rc(bytes, *self);
         *self = m.cursor;
@@ -145,7 +142,7 @@ impl BitCursor {
 
     // RS: two bytes, signed.
     pub fn read_rs(&mut self, bytes: &[u8]) -> AnswerI16
-        ensures { λ r. ⌜ (r ≡ answerI16 (readAt RS (now (bytes .entry)) (now (self .entry)))) × (now (self .exit) ≡ after (readAt RS (now (bytes .entry)) (now (self .entry)))) ⌝ }
+        ensures { λ r. ⌜ Reads answerI16 (readAt RS (now (bytes .entry)) (now (self .entry))) r (now (self .exit)) ⌝ }
     {
         let m = moved::read_rs(bytes, *self);
         *self = m.cursor;
@@ -154,7 +151,7 @@ impl BitCursor {
 
     // RL: four bytes.
     pub fn read_rl(&mut self, bytes: &[u8]) -> Answer
-        ensures { λ r. ⌜ (r ≡ answer (readAt RL (now (bytes .entry)) (now (self .entry)))) × (now (self .exit) ≡ after (readAt RL (now (bytes .entry)) (now (self .entry)))) ⌝ }
+        ensures { λ r. ⌜ Reads answer (readAt RL (now (bytes .entry)) (now (self .entry))) r (now (self .exit)) ⌝ }
     {
         let m = moved::read_rl(bytes, *self);
         *self = m.cursor;
@@ -163,7 +160,7 @@ impl BitCursor {
 
     // RD: the double of eight bytes.
     pub fn read_rd(&mut self, bytes: &[u8]) -> AnswerF64
-        ensures { λ r. ⌜ (r ≡ answerF64 (readAt RD (now (bytes .entry)) (now (self .entry)))) × (now (self .exit) ≡ after (readAt RD (now (bytes .entry)) (now (self .entry)))) ⌝ }
+        ensures { λ r. ⌜ Reads answerF64 (readAt RD (now (bytes .entry)) (now (self .entry))) r (now (self .exit)) ⌝ }
     {
         let m = moved::read_rd(bytes, *self);
         *self = m.cursor;
@@ -172,7 +169,7 @@ impl BitCursor {
 
     // BS, signed.
     pub fn read_bs(&mut self, bytes: &[u8]) -> AnswerI16
-        ensures { λ r. ⌜ (r ≡ answerI16 (readAt signed-BS (now (bytes .entry)) (now (self .entry)))) × (now (self .exit) ≡ after (readAt signed-BS (now (bytes .entry)) (now (self .entry)))) ⌝ }
+        ensures { λ r. ⌜ Reads answerI16 (readAt signed-BS (now (bytes .entry)) (now (self .entry))) r (now (self .exit)) ⌝ }
     {
         let m = moved::read_bs(bytes, *self);
         *self = m.cursor;
@@ -181,7 +178,7 @@ impl BitCursor {
 
     // BS, unsigned.
     pub fn read_bs_u(&mut self, bytes: &[u8]) -> Answer
-        ensures { λ r. ⌜ (r ≡ answer (readAt BS (now (bytes .entry)) (now (self .entry)))) × (now (self .exit) ≡ after (readAt BS (now (bytes .entry)) (now (self .entry)))) ⌝ }
+        ensures { λ r. ⌜ Reads answer (readAt BS (now (bytes .entry)) (now (self .entry))) r (now (self .exit)) ⌝ }
     {
         let m = moved::read_bs_u(bytes, *self);
         *self = m.cursor;
@@ -190,7 +187,7 @@ impl BitCursor {
 
     // BL, signed.
     pub fn read_bl(&mut self, bytes: &[u8]) -> AnswerI32
-        ensures { λ r. ⌜ (r ≡ answerI32 (readAt signed-BL (now (bytes .entry)) (now (self .entry)))) × (now (self .exit) ≡ after (readAt signed-BL (now (bytes .entry)) (now (self .entry)))) ⌝ }
+        ensures { λ r. ⌜ Reads answerI32 (readAt signed-BL (now (bytes .entry)) (now (self .entry))) r (now (self .exit)) ⌝ }
     {
         let m = moved::read_bl(bytes, *self);
         *self = m.cursor;
@@ -199,7 +196,7 @@ impl BitCursor {
 
     // BL, unsigned.
     pub fn read_bl_u(&mut self, bytes: &[u8]) -> Answer
-        ensures { λ r. ⌜ (r ≡ answer (readAt BL (now (bytes .entry)) (now (self .entry)))) × (now (self .exit) ≡ after (readAt BL (now (bytes .entry)) (now (self .entry)))) ⌝ }
+        ensures { λ r. ⌜ Reads answer (readAt BL (now (bytes .entry)) (now (self .entry))) r (now (self .exit)) ⌝ }
     {
         let m = moved::read_bl_u(bytes, *self);
         *self = m.cursor;
@@ -208,7 +205,7 @@ impl BitCursor {
 
     // BLL: three bits, and that many bytes.
     pub fn read_bll(&mut self, bytes: &[u8]) -> Answer
-        ensures { λ r. ⌜ (r ≡ answer (readAt BLL (now (bytes .entry)) (now (self .entry)))) × (now (self .exit) ≡ after (readAt BLL (now (bytes .entry)) (now (self .entry)))) ⌝ }
+        ensures { λ r. ⌜ Reads answer (readAt BLL (now (bytes .entry)) (now (self .entry))) r (now (self .exit)) ⌝ }
     {
         let m = moved::read_bll(bytes, *self);
         *self = m.cursor;
@@ -217,7 +214,7 @@ impl BitCursor {
 
     // BD.
     pub fn read_bd(&mut self, bytes: &[u8]) -> AnswerF64
-        ensures { λ r. ⌜ (r ≡ answerF64 (readAt BD (now (bytes .entry)) (now (self .entry)))) × (now (self .exit) ≡ after (readAt BD (now (bytes .entry)) (now (self .entry)))) ⌝ }
+        ensures { λ r. ⌜ Reads answerF64 (readAt BD (now (bytes .entry)) (now (self .entry))) r (now (self .exit)) ⌝ }
     {
         let m = moved::read_bd(bytes, *self);
         *self = m.cursor;
@@ -226,7 +223,7 @@ impl BitCursor {
 
     // DD: a double with a default.
     pub fn read_dd(&mut self, bytes: &[u8], default: f64) -> AnswerF64
-        ensures { λ r. ⌜ (r ≡ answerF64 (readAt (DD (toBits binary64 default)) (now (bytes .entry)) (now (self .entry)))) × (now (self .exit) ≡ after (readAt (DD (toBits binary64 default)) (now (bytes .entry)) (now (self .entry)))) ⌝ }
+        ensures { λ r. ⌜ Reads answerF64 (readAt (DD (toBits binary64 default)) (now (bytes .entry)) (now (self .entry))) r (now (self .exit)) ⌝ }
     {
         let m = moved::read_dd(bytes, *self, default);
         *self = m.cursor;
@@ -235,7 +232,7 @@ impl BitCursor {
 
     // A handle: code, counter, and that many bytes with the high one first.
     pub fn read_handle(&mut self, bytes: &[u8]) -> AnswerHandle
-        ensures { λ r. ⌜ (r ≡ answerHandle (readAt HANDLE (now (bytes .entry)) (now (self .entry)))) × (now (self .exit) ≡ after (readAt HANDLE (now (bytes .entry)) (now (self .entry)))) ⌝ }
+        ensures { λ r. ⌜ Reads answerHandle (readAt HANDLE (now (bytes .entry)) (now (self .entry))) r (now (self .exit)) ⌝ }
     {
         let m = moved::read_handle(bytes, *self);
         *self = m.cursor;

@@ -4,7 +4,8 @@ ghost use lib.Ieee.{toBits, binary64};
 ghost use Rattle.bitcursor.specs.Codes.{B, BB, «3B», RC, RS, RL, RD, BS, BL, signed-BS, signed-BL};
 ghost use Rattle.bitcursor.specs.Doubles.{BD, DD};
 ghost use Rattle.bitcursor.specs.Handles.{BLL, HANDLE};
-ghost use Rattle.cursor.specs.Cursors.{readAt, moved, movedBool, movedI16, movedI32, movedF64, movedHandle, told, toldBool, toldI16, toldI32, toldF64, toldHandle};
+ghost use Rattle.cursor.specs.Cursors.{readAt, moved, movedBool, movedI16, movedI32, movedF64, movedHandle};
+ghost use Rattle.cursor.specs.Cursors.{ofRead, ofReadBool, ofReadI16, ofReadI32, ofReadF64, ofReadHandle};
 use crate::Answer;
 use crate::AnswerBool;
 use crate::AnswerF64;
@@ -51,8 +52,8 @@ pub struct MovedHandle {
 }
 
 // What the call by value answered, as answer and cursor; the functions below are the same for other values.
-fn told(r: Read) -> Moved
-    ensures { λ m. ⌜ m ≡ told r ⌝ }
+fn of_read(r: Read) -> Moved
+    ensures { λ m. ⌜ m ≡ ofRead r ⌝ }
 {
     match r {
         Read::Value(v, p) => Moved {
@@ -66,8 +67,8 @@ fn told(r: Read) -> Moved
     }
 }
 
-fn told_bool(r: ReadBool) -> MovedBool
-    ensures { λ m. ⌜ m ≡ toldBool r ⌝ }
+fn of_bool(r: ReadBool) -> MovedBool
+    ensures { λ m. ⌜ m ≡ ofReadBool r ⌝ }
 {
     match r {
         ReadBool::Value(v, p) => MovedBool {
@@ -81,8 +82,8 @@ fn told_bool(r: ReadBool) -> MovedBool
     }
 }
 
-fn told_i16(r: ReadI16) -> MovedI16
-    ensures { λ m. ⌜ m ≡ toldI16 r ⌝ }
+fn of_i16(r: ReadI16) -> MovedI16
+    ensures { λ m. ⌜ m ≡ ofReadI16 r ⌝ }
 {
     match r {
         ReadI16::Value(v, p) => MovedI16 {
@@ -96,8 +97,8 @@ fn told_i16(r: ReadI16) -> MovedI16
     }
 }
 
-fn told_i32(r: ReadI32) -> MovedI32
-    ensures { λ m. ⌜ m ≡ toldI32 r ⌝ }
+fn of_i32(r: ReadI32) -> MovedI32
+    ensures { λ m. ⌜ m ≡ ofReadI32 r ⌝ }
 {
     match r {
         ReadI32::Value(v, p) => MovedI32 {
@@ -111,8 +112,8 @@ fn told_i32(r: ReadI32) -> MovedI32
     }
 }
 
-fn told_f64(r: ReadF64) -> MovedF64
-    ensures { λ m. ⌜ m ≡ toldF64 r ⌝ }
+fn of_f64(r: ReadF64) -> MovedF64
+    ensures { λ m. ⌜ m ≡ ofReadF64 r ⌝ }
 {
     match r {
         ReadF64::Value(v, p) => MovedF64 {
@@ -126,8 +127,8 @@ fn told_f64(r: ReadF64) -> MovedF64
     }
 }
 
-fn told_handle(r: ReadHandle) -> MovedHandle
-    ensures { λ m. ⌜ m ≡ toldHandle r ⌝ }
+fn of_handle(r: ReadHandle) -> MovedHandle
+    ensures { λ m. ⌜ m ≡ ofReadHandle r ⌝ }
 {
     match r {
         ReadHandle::Value(v, p) => MovedHandle {
@@ -145,89 +146,89 @@ fn told_handle(r: ReadHandle) -> MovedHandle
 pub fn read_b(bytes: &[u8], c: BitCursor) -> MovedBool
     ensures { λ m. ⌜ m ≡ movedBool (readAt B (now (bytes .entry)) c) ⌝ }
 {
-    told_bool(bitcursor::read_b(bytes, c.position_bits()))
+    of_bool(bitcursor::read_b(bytes, c.position_bits()))
 }
 
 pub fn read_bb(bytes: &[u8], c: BitCursor) -> Moved
     ensures { λ m. ⌜ m ≡ moved (readAt BB (now (bytes .entry)) c) ⌝ }
 {
-    told(bitcursor::read_bb(bytes, c.position_bits()))
+    of_read(bitcursor::read_bb(bytes, c.position_bits()))
 }
 
 pub fn read_3b(bytes: &[u8], c: BitCursor) -> Moved
     ensures { λ m. ⌜ m ≡ moved (readAt «3B» (now (bytes .entry)) c) ⌝ }
 {
-    told(bitcursor::read_3b(bytes, c.position_bits()))
+    of_read(bitcursor::read_3b(bytes, c.position_bits()))
 }
 
 pub fn read_rc(bytes: &[u8], c: BitCursor) -> Moved
     ensures { λ m. ⌜ m ≡ moved (readAt RC (now (bytes .entry)) c) ⌝ }
 {
-    told(bitcursor::read_rc(bytes, c.position_bits()))
+    of_read(bitcursor::read_rc(bytes, c.position_bits()))
 }
 
 pub fn read_rs(bytes: &[u8], c: BitCursor) -> MovedI16
     ensures { λ m. ⌜ m ≡ movedI16 (readAt RS (now (bytes .entry)) c) ⌝ }
 {
-    told_i16(bitcursor::read_rs(bytes, c.position_bits()))
+    of_i16(bitcursor::read_rs(bytes, c.position_bits()))
 }
 
 pub fn read_rl(bytes: &[u8], c: BitCursor) -> Moved
     ensures { λ m. ⌜ m ≡ moved (readAt RL (now (bytes .entry)) c) ⌝ }
 {
-    told(bitcursor::read_rl(bytes, c.position_bits()))
+    of_read(bitcursor::read_rl(bytes, c.position_bits()))
 }
 
 pub fn read_rd(bytes: &[u8], c: BitCursor) -> MovedF64
     ensures { λ m. ⌜ m ≡ movedF64 (readAt RD (now (bytes .entry)) c) ⌝ }
 {
-    told_f64(bitcursor::read_rd(bytes, c.position_bits()))
+    of_f64(bitcursor::read_rd(bytes, c.position_bits()))
 }
 
 pub fn read_bs(bytes: &[u8], c: BitCursor) -> MovedI16
     ensures { λ m. ⌜ m ≡ movedI16 (readAt signed-BS (now (bytes .entry)) c) ⌝ }
 {
-    told_i16(bitcursor::read_bs(bytes, c.position_bits()))
+    of_i16(bitcursor::read_bs(bytes, c.position_bits()))
 }
 
 pub fn read_bs_u(bytes: &[u8], c: BitCursor) -> Moved
     ensures { λ m. ⌜ m ≡ moved (readAt BS (now (bytes .entry)) c) ⌝ }
 {
-    told(bitcursor::read_bs_u(bytes, c.position_bits()))
+    of_read(bitcursor::read_bs_u(bytes, c.position_bits()))
 }
 
 pub fn read_bl(bytes: &[u8], c: BitCursor) -> MovedI32
     ensures { λ m. ⌜ m ≡ movedI32 (readAt signed-BL (now (bytes .entry)) c) ⌝ }
 {
-    told_i32(bitcursor::read_bl(bytes, c.position_bits()))
+    of_i32(bitcursor::read_bl(bytes, c.position_bits()))
 }
 
 pub fn read_bl_u(bytes: &[u8], c: BitCursor) -> Moved
     ensures { λ m. ⌜ m ≡ moved (readAt BL (now (bytes .entry)) c) ⌝ }
 {
-    told(bitcursor::read_bl_u(bytes, c.position_bits()))
+    of_read(bitcursor::read_bl_u(bytes, c.position_bits()))
 }
 
 pub fn read_bll(bytes: &[u8], c: BitCursor) -> Moved
     ensures { λ m. ⌜ m ≡ moved (readAt BLL (now (bytes .entry)) c) ⌝ }
 {
-    told(bitcursor::read_bll(bytes, c.position_bits()))
+    of_read(bitcursor::read_bll(bytes, c.position_bits()))
 }
 
 pub fn read_bd(bytes: &[u8], c: BitCursor) -> MovedF64
     ensures { λ m. ⌜ m ≡ movedF64 (readAt BD (now (bytes .entry)) c) ⌝ }
 {
-    told_f64(bitcursor::read_bd(bytes, c.position_bits()))
+    of_f64(bitcursor::read_bd(bytes, c.position_bits()))
 }
 
 pub fn read_dd(bytes: &[u8], c: BitCursor, default: f64) -> MovedF64
     ensures { λ m. ⌜ m ≡ movedF64 (readAt (DD (toBits binary64 default)) (now (bytes .entry)) c) ⌝ }
 {
-    told_f64(bitcursor::read_dd(bytes, c.position_bits(), default))
+    of_f64(bitcursor::read_dd(bytes, c.position_bits(), default))
 }
 
 pub fn read_handle(bytes: &[u8], c: BitCursor) -> MovedHandle
     ensures { λ m. ⌜ m ≡ movedHandle (readAt HANDLE (now (bytes .entry)) c) ⌝ }
 {
-    told_handle(bitcursor::read_handle(bytes, c.position_bits()))
+    of_handle(bitcursor::read_handle(bytes, c.position_bits()))
 }

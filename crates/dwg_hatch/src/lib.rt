@@ -17,6 +17,7 @@ mod answers;
 pub mod bodies;
 mod hatches;
 mod prefixes;
+pub mod seeds;
 
 // What one code gives: the refusal's number or 0, the final place, and the value or 0.
 #[repr(C)]

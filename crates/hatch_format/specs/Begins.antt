@@ -24,7 +24,8 @@ BL-begins xs n p q l = let h = takes-BL xs n p q l in let m = moved (coded BL) x
 pub BD-begins : (xs : List ℕ) (n p q : ℕ) → Coded xs BD n p q → p < size xs
 BD-begins xs n p q l = let h = takes-BD xs n p q l in let m = moved (coded BD) xs n p q l in omega (arith, h, m .inside)
 
-pub body-begins : (caps : Caps) (handles : Handles) (v : Version) (γ : Payloads) (a : Body) (p q : Places) → BodyLaid caps handles v γ a p q → p .main < size (γ .main)
+pub body-begins : (caps : Caps) (handles : Handles) (v : Version) (γ : Payloads) (a : Body) (p q : Places)
+    → BodyLaid caps handles v γ a p q → p .main < size (γ .main)
 body-begins caps handles v γ a p q l = go (leb 3 (releaseNumber v)) (l .1)
   where
     r : Places

@@ -25,7 +25,8 @@ use Rattle.hatch_format.specs.Layouts.{BodyLaid}
 use Rattle.hatch_format.specs.Entries.{words, numbers}
 use Rattle.hatch_format.specs.Hatch.{hatch}
 use Rattle.hatch_format.specs.Begins.{body-begins}
-use Rattle.hatch_format.specs.Call.{Strings, none, lent, Call, stringBytes, stringStart, stringEnd, isLent, payloadsOf, startsOf, roomFor, callBy, callOn, hatchCall}
+use Rattle.hatch_format.specs.Call.{Strings, none, lent, stringBytes, stringStart, stringEnd, isLent}
+use Rattle.hatch_format.specs.Call.{Call, payloadsOf, startsOf, roomFor, callBy, callOn, hatchCall}
 
 -- "its release is known, its payloads are within document 01's limit and, from the start bits, begin with a layout of a hatch body for that
 -- release .., and both lists are long enough"
@@ -51,7 +52,9 @@ room-got nw nn (got b s) {a} {q} e = go (leb (length (words (b .rest))) nw) (leb
         → (got b s ≡ got a q) × (length (words (a .rest)) ≤ nw) × (length (numbers (a .rest)) ≤ nn)
     go true true f g h =
         let i : b ≡ a = cc in
-        (h, subst (λ (z : Body). length (words (z .rest)) ≤ nw) i (leb→le _ nw (rw f tt)), subst (λ (z : Body). length (numbers (z .rest)) ≤ nn) i (leb→le _ nn (rw g tt)))
+        let w = leb→le (length (words (b .rest))) nw (rw f tt) in
+        let n = leb→le (length (numbers (b .rest))) nn (rw g tt) in
+        (h, subst (λ (z : Body). length (words (z .rest)) ≤ nw) i w, subst (λ (z : Body). length (numbers (z .rest)) ≤ nn) i n)
     go true false f g h = never h
     go false y f g h = never h
 

@@ -5,7 +5,8 @@ use mathlib.Core.List.{List, [], _∷_, _++_}
 use Prim.Native.Nat.{ℕ}
 use lib.ListN.{length}
 use Rattle.bitcursor.specs.Bits.{bit}
-use Rattle.hatch_format.specs.Values.{Point, Vertex, Arc, Ellipse, Fits, unfitted, fitted, Spline, Edge, line, arc, ellipse, spline, Segments, polyline, edges, Path, PatternLine, Rest}
+use Rattle.hatch_format.specs.Values.{Point, Vertex, Arc, Ellipse, Fits, unfitted, fitted, Spline, PatternLine, Rest}
+use Rattle.hatch_format.specs.Values.{Edge, line, arc, ellipse, spline, Segments, polyline, edges, Path}
 
 -- what each of the list has, one behind the other
 abbrev pub every : {A : Type 0} → (A → List ℕ) → List A → List ℕ

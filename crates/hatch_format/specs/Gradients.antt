@@ -34,8 +34,12 @@ color-to xs a p q l =
 
 pub color-from : (xs : List ℕ) (a : GradientColorBits) (p q : ℕ) → ColorLaid xs a p q → color-read .lays xs a p q
 unfolding color-read _>>=_ pure
-color-from xs a p q l =
-    (a .«unknown_double», l .0, l .1, (a .«unknown_short», l .2 .0, l .2 .1, (a .rgb, l .2 .2 .0, l .2 .2 .1, (a .«ignored_color_byte», q, l .2 .2 .2, (refl, refl)))))
+color-from xs a p q l = (
+  a .«unknown_double»,
+  l .0,
+  l .1,
+  (a .«unknown_short», l .2 .0, l .2 .1, (a .rgb, l .2 .2 .0, l .2 .2 .1, (a .«ignored_color_byte», q, l .2 .2 .2, (refl, refl)))),
+)
 
 unfoldable pub color : Format one GradientColorBits
 color = relay color-read ColorLaid color-to color-from

@@ -20,7 +20,10 @@ use Rattle.text.specs.TextField.{TextLaid}
 use Rattle.hatch_format.specs.declared.Caps.{Caps}
 use Rattle.hatch_format.specs.declared.GradientColorBits.{GradientColorBits}
 use Rattle.hatch_format.specs.HandleRule.{Handles, in-payload, in-stream}
-use Rattle.hatch_format.specs.Values.{Point, Vertex, Arc, Ellipse, Fits, unfitted, fitted, Spline, Edge, line, arc, ellipse, spline, Segments, polyline, edges, Path, polylined, derived, addHandles, PatternLine, Pattern, no-pattern, Block, Gradient, no-gradient, shown, Plane, Ending, Tail, Rest, Body}
+use Rattle.hatch_format.specs.Values.{Point, Vertex, Arc, Ellipse, Fits, unfitted, fitted, Spline, Edge, line, arc, ellipse, spline}
+use Rattle.hatch_format.specs.Values.{Segments, polyline, edges}
+use Rattle.hatch_format.specs.Values.{Path, polylined, derived, addHandles}
+use Rattle.hatch_format.specs.Values.{PatternLine, Pattern, no-pattern, Block, Gradient, no-gradient, shown, Plane, Ending, Tail, Rest, Body}
 
 -- ---- how layouts are put together
 infixr 5 _⨾_

@@ -90,7 +90,12 @@ double n = ofBits binary64 n
 
 abbrev pub colorAsDoubles : GradientColorBits → GradientColor
 colorAsDoubles a =
-    record { «unknown_double» = double (a .«unknown_double»); «unknown_short» = a .«unknown_short»; rgb = a .rgb; «ignored_color_byte» = a .«ignored_color_byte» }
+    record {
+      «unknown_double» = double (a .«unknown_double»);
+      «unknown_short» = a .«unknown_short»;
+      rgb = a .rgb;
+      «ignored_color_byte» = a .«ignored_color_byte»;
+    }
 
 abbrev pub colorsAsDoubles : List GradientColorBits → List GradientColor
 colorsAsDoubles [] = []

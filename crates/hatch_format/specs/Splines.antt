@@ -108,6 +108,7 @@ module _ (caps : Caps) (v : Version) where
       let d = c .3 in
       let m = d .3 in
       let e = m .3 .3 .3 in
+      let controls = subst (λ (i : ℕ). Count xs (caps .«control_points») BL i (c .1) (d .1)) (sym (m .3 .2 .0)) (d .2) in
       rw (e .0, e .1) (
         l .1,
         l .2,
@@ -120,7 +121,7 @@ module _ (caps : Caps) (v : Version) where
             (
               c .1,
               subst (λ (i : ℕ). Count xs (caps .knots) BL i (l .3 .3 .1) (c .1)) (sym (m .2 .0)) (c .2),
-              (d .1, subst (λ (i : ℕ). Count xs (caps .«control_points») BL i (c .1) (d .1)) (sym (m .3 .2 .0)) (d .2), (m .1, m .2 .1, (m .3 .1, m .3 .2 .1, m .3 .3 .2))),
+              (d .1, controls, (m .1, m .2 .1, (m .3 .1, m .3 .2 .1, m .3 .3 .2))),
             ),
           ),
         ),
@@ -147,7 +148,12 @@ module _ (caps : Caps) (v : Version) where
               length (a .knots),
               k .0,
               k .1,
-              (length (a .control-points), c .0, c .1, (a .knots, m .0, (refl, m .1), (a .control-points, m .2 .0, (refl, m .2 .1), (a .fits, q, m .2 .2, (refl, refl))))),
+              (
+                length (a .control-points),
+                c .0,
+                c .1,
+                (a .knots, m .0, (refl, m .1), (a .control-points, m .2 .0, (refl, m .2 .1), (a .fits, q, m .2 .2, (refl, refl)))),
+              ),
             ),
           ),
         ),

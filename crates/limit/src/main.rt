@@ -1,8 +1,10 @@
 // Replays the stored requests with a payload one byte above the limit (document 01's refusal 10), for which crate `vectors` has no room.
 // It writes each request with the answer of the call; its file stdout has the Rust's answers, of crates/vectors/data/list (oracle/pack).
 // It promises nothing of its own: it tests that the calls answer as the Rust does.
-use answers::Answer;
-use libc::STDOUT_FILENO;
+use stored::answers as codes;
+use stored::answers::Code;
+use stored::report::decimal;
+use stored::report::write;
 
 mod answers;
 
@@ -19,30 +21,22 @@ fn zeros() -> [u8; SIZE] {
     [0; SIZE]
 }
 
-fn write(text: &[u8]) {
-    io::write_all(STDOUT_FILENO, text);
-}
-
-fn decimal(n: u64) {
-    io::print_decimal(STDOUT_FILENO, n);
-}
-
 // A line of the list: the request, a tab, the answer. No reading is in the lines that these are compared with.
-fn line(request: &[u8], answer: Answer) {
+fn line(request: &[u8], answer: Code) {
     write(request);
     match answer {
-        Answer::Refused(k, p) => {
+        Code::Refused(k, p) => {
             write(b"\terr ");
             decimal(k);
             write(b" ");
             decimal(p as u64);
             write(b" 0\n");
         }
-        Answer::Reading => write(b"\tok\n"),
+        _ => write(b"\tok\n"),
     }
 }
 
-fn hatch_body(release: u64) -> Answer {
+fn hatch_body(release: u64) -> Code {
     let mut numbers = [0u64; 1];
     let mut words = [0u32; 1];
     answers::of_hatch(hatch::decode_bits(
@@ -60,7 +54,7 @@ fn hatches() {
     line(b"hatch 2 5 z268435457", hatch_body(2));
 }
 
-fn prefix(release: u64) -> Answer {
+fn prefix(release: u64) -> Code {
     answers::of_prefix(common_entity::read_common_entity_bits(&zeros(), START, release))
 }
 
@@ -75,15 +69,15 @@ fn bits() {
     let s: &[u8] = &all;
     line(
         b"b 2 5 z268435457",
-        answers::of_bool(bitcursor::read_b(s, START)),
+        codes::of_bool(bitcursor::read_b(s, START)),
     );
     line(
         b"bb 2 5 z268435457",
-        answers::of_read(bitcursor::read_bb(s, START)),
+        codes::of_read(bitcursor::read_bb(s, START)),
     );
     line(
         b"3b 2 5 z268435457",
-        answers::of_read(bitcursor::read_3b(s, START)),
+        codes::of_read(bitcursor::read_3b(s, START)),
     );
 }
 
@@ -92,11 +86,11 @@ fn shorts() {
     let s: &[u8] = &all;
     line(
         b"bs 2 5 z268435457",
-        answers::of_i16(bitcursor::read_bs(s, START)),
+        codes::of_i16(bitcursor::read_bs(s, START)),
     );
     line(
         b"bsu 2 5 z268435457",
-        answers::of_read(bitcursor::read_bs_u(s, START)),
+        codes::of_read(bitcursor::read_bs_u(s, START)),
     );
 }
 
@@ -105,11 +99,11 @@ fn longs() {
     let s: &[u8] = &all;
     line(
         b"bl 2 5 z268435457",
-        answers::of_i32(bitcursor::read_bl(s, START)),
+        codes::of_i32(bitcursor::read_bl(s, START)),
     );
     line(
         b"blu 2 5 z268435457",
-        answers::of_read(bitcursor::read_bl_u(s, START)),
+        codes::of_read(bitcursor::read_bl_u(s, START)),
     );
 }
 
@@ -118,11 +112,11 @@ fn double_and_long_long() {
     let s: &[u8] = &all;
     line(
         b"bd 2 5 z268435457",
-        answers::of_read(bitcursor::read_bd_bits(s, START)),
+        codes::of_read(bitcursor::read_bd_bits(s, START)),
     );
     line(
         b"bll 2 5 z268435457",
-        answers::of_read(bitcursor::read_bll(s, START)),
+        codes::of_read(bitcursor::read_bll(s, START)),
     );
 }
 
@@ -131,19 +125,19 @@ fn raw() {
     let s: &[u8] = &all;
     line(
         b"rc 2 5 z268435457",
-        answers::of_read(bitcursor::read_rc(s, START)),
+        codes::of_read(bitcursor::read_rc(s, START)),
     );
     line(
         b"rs 2 5 z268435457",
-        answers::of_i16(bitcursor::read_rs(s, START)),
+        codes::of_i16(bitcursor::read_rs(s, START)),
     );
     line(
         b"rl 2 5 z268435457",
-        answers::of_read(bitcursor::read_rl(s, START)),
+        codes::of_read(bitcursor::read_rl(s, START)),
     );
     line(
         b"rd 2 5 z268435457",
-        answers::of_read(bitcursor::read_rd_bits(s, START)),
+        codes::of_read(bitcursor::read_rd_bits(s, START)),
     );
 }
 
@@ -152,15 +146,15 @@ fn handle_and_default() {
     let s: &[u8] = &all;
     line(
         b"handle 2 5 z268435457",
-        answers::of_handle(bitcursor::read_handle(s, START)),
+        codes::of_handle(bitcursor::read_handle(s, START)),
     );
     line(
         b"dd 2 5 z268435457 3ff0000000000000",
-        answers::of_read(bitcursor::read_dd_bits(s, START, 0x3ff0_0000_0000_0000)),
+        codes::of_read(bitcursor::read_dd_bits(s, START, 0x3ff0_0000_0000_0000)),
     );
 }
 
-fn inline_text(release: u64) -> Answer {
+fn inline_text(release: u64) -> Code {
     answers::of_text(text::read_tv(&zeros(), START, release))
 }
 
@@ -176,15 +170,15 @@ fn doubles() {
     let s: &[u8] = &all;
     line(
         b"bd 2 5 z268435457",
-        answers::of_f64(bitcursor::read_bd(s, START)),
+        codes::of_f64(bitcursor::read_bd(s, START)),
     );
     line(
         b"rd 2 5 z268435457",
-        answers::of_f64(bitcursor::read_rd(s, START)),
+        codes::of_f64(bitcursor::read_rd(s, START)),
     );
     line(
         b"dd 2 5 z268435457 3ff0000000000000",
-        answers::of_f64(bitcursor::read_dd(s, START, 1.0)),
+        codes::of_f64(bitcursor::read_dd(s, START, 1.0)),
     );
 }
 

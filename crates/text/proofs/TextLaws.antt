@@ -1,31 +1,61 @@
--- What the text readers make of units that are there, or cut short. Assumes nothing.
+-- What the text readers know of a length code, and what they make of units that are there, or cut short. Assumes nothing.
 use mathlib.Core.Path.{_≡_, refl, sym, ap, ap₂, subst, _∙_}
-use mathlib.Core.Bool.{true, false}
+use mathlib.Core.Bool.{Bool, true, false}
 use mathlib.Core.List.{List}
-use Prim.Native.Nat.{ℕ, _+_, _-_, _*_, _/_, _≤_, _<_}
+use Prim.Native.Nat.{ℕ, _+_, _-_, _*_, _/_, _^_, _≤_, _<_}
 use native.Mathlib.Omega.{arith}
 use lib.ListN.{length}
 use Rattle.bitcursor.specs.declared.Refusal.{Refusal}
 use Rattle.bitcursor.specs.declared.Refusal.the-variants.{TooFewBits, NotUtf16}
 use Rattle.bitcursor.specs.Bits.{size}
+use Rattle.bitcursor.specs.declared.Read.{Read}
+use Rattle.bitcursor.specs.declared.Read.the-variants.{Value}
 use Rattle.bitcursor.specs.Reading.{Out, got, refused}
+use Rattle.bitcursor.specs.Codes.{BS}
+use Rattle.bitcursor.specs.Ranges.{read-below, BS-below}
+use Rattle.bitcursor.specs.Stops.{ends-inside, BS-past}
+use Rattle.bitcursor.specs.Answers.{asRead}
+use Rattle.bitcursor.proofs.Steps.{read-value}
 use Rattle.text.specs.declared.Source.{Source}
 use Rattle.text.specs.declared.ReadText.the-variants.{Found, Refused}
 use Rattle.text.specs.Units.{units, unitsAt, units-there, units-short}
-use Rattle.text.specs.Texts.{UnitWidth, unitBytes, unclosed, lawful}
+use Rattle.text.specs.Utf16.{pairedFrom}
+use Rattle.text.specs.Texts.{UnitWidth, wide, unitBytes, unclosed, valid}
 use Rattle.text.specs.Fields.{textAt}
 use Rattle.text.specs.Answers.{asText, unitsText}
+use Rattle.text.proofs.UnitLaws.{unclosed-units}
+
+-- a length code that was read: x is what `read_bs_u` answered
+pub record LengthCode (xs : List ℕ) (at n p : ℕ) : Type 0 where
+  pub read : BS .read xs at ≡ got n p
+  pub on : at ≤ p
+  pub inside : p ≤ size xs
+  pub small : n < 2 ^ 16
+
+pub length-code : (xs : List ℕ) (at : ℕ) {x : Read} {n p : ℕ} → x ≡ asRead (BS .read xs at) → x ≡ Value n p → LengthCode xs at n p
+length-code xs at e h =
+    let o = read-value _ e h in
+    let i = ends-inside BS BS-past xs at o in
+    record { read = o; on = i .0; inside = i .1; small = read-below BS BS-below xs at o }
+
+-- one pass over the units that are left judges them all
+pub all-valid : (xs : List ℕ) (at n count : ℕ) {b : Bool} → b ≡ pairedFrom false (unitsAt xs at 2 count)
+    → count ≡ length (unclosed (unitsAt xs at 2 n)) → b ≡ valid wide (unclosed (unitsAt xs at 2 n))
+all-valid xs at n count e f =
+    e ∙ ap (λ (m : ℕ). pairedFrom false (unitsAt xs at 2 m)) f ∙ ap (pairedFrom false) (sym (unclosed-units xs at 2 n))
 
 module _ (source : Source) (w : UnitWidth) (xs : List ℕ) (at n p : ℕ) where
   module _ (fits : 8 * (unitBytes w * n) ≤ size xs - at) (next : p ≡ at + 8 * (unitBytes w * n)) where
     there : (units (unitBytes w) n) .read xs at ≡ got (unitsAt xs at (unitBytes w) n) p
     there = units-there (unitBytes w) n xs at fits ∙ ap (got (unitsAt xs at (unitBytes w) n)) (sym next)
 
-    pub units-found : (count : ℕ) → count ≡ length (unclosed (unitsAt xs at (unitBytes w) n)) → lawful w (unclosed (unitsAt xs at (unitBytes w) n)) ≡ true
+    pub units-found : (count : ℕ) → count ≡ length (unclosed (unitsAt xs at (unitBytes w) n)) → valid w (unclosed (unitsAt xs at (unitBytes w) n)) ≡ true
         → Found (textAt source w at count) p ≡ asText (unitsText source w at ((units (unitBytes w) n) .read xs at))
-    units-found count e l = ap (λ (m : ℕ). Found (textAt source w at m) p) e ∙ sym (ap (λ (o : Out ℕ (List ℕ)). asText (unitsText source w at o)) there ∙ rw (l, unitsText))
+    units-found count e l =
+        ap (λ (m : ℕ). Found (textAt source w at m) p) e
+        ∙ sym (ap (λ (o : Out ℕ (List ℕ)). asText (unitsText source w at o)) there ∙ rw (l, unitsText))
 
-    pub units-bad : lawful w (unclosed (unitsAt xs at (unitBytes w) n)) ≡ false
+    pub units-bad : valid w (unclosed (unitsAt xs at (unitBytes w) n)) ≡ false
         → Refused NotUtf16 p ≡ asText (unitsText source w at ((units (unitBytes w) n) .read xs at))
     units-bad l = sym (ap (λ (o : Out ℕ (List ℕ)). asText (unitsText source w at o)) there ∙ rw (l, unitsText))
 

@@ -23,7 +23,7 @@ use Rattle.text.specs.declared.version.MaybeVersion.the-variants.{Known,
 use Rattle.text.specs.declared.version.Version.{Version}
 use Rattle.text.specs.Releases.{versionOf}
 use Rattle.text.specs.Units.{units}
-use Rattle.text.specs.Texts.{UnitWidth, wide, unitBytes, unclosed, lawful, Written, judged, TV}
+use Rattle.text.specs.Texts.{UnitWidth, wide, unitBytes, unclosed, valid, Written, judged, TV}
 use Rattle.text.specs.Fields.{textAt, textOf, widthOf}
 
 abbrev pub asText : Out ℕ Text → ReadText
@@ -38,7 +38,7 @@ placed source w at (refused r p) = refused r p
 -- the text that n units at a place are: the units were read from there
 abbrev pub unitsText : Source → UnitWidth → ℕ → Out ℕ (List ℕ) → Out ℕ Text
 unitsText source w at (got laid p) =
-    elim (lawful w (unclosed laid)) [ true ↦ got (textAt source w at (length (unclosed laid))) p | false ↦ refused NotUtf16 p ]
+    elim (valid w (unclosed laid)) [ true ↦ got (textAt source w at (length (unclosed laid))) p | false ↦ refused NotUtf16 p ]
 unitsText source w at (refused r p) = refused r p
 
 -- inline text of a release

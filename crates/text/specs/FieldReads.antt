@@ -24,7 +24,8 @@ module _ (γ : Payloads) (p : Places) where
   unfolding inline here peek _>>=_ pure within inlineText
   inline-reads v = go ((TV (widthOf v)) .read (γ .main) (p .main))
     where
-      go : (o : Out ℕ Written) → andThen (lifted main p o) (λ t q. got (textOf Main (widthOf v) (p .main) t) q) ≡ lifted main p (placed Main (widthOf v) (p .main) o)
+      go : (o : Out ℕ Written) → andThen (lifted main p o) (λ t q. got (textOf Main (widthOf v) (p .main) t) q)
+          ≡ lifted main p (placed Main (widthOf v) (p .main) o)
       go (got t n) = refl
       go (refused r n) = refl
 
@@ -32,18 +33,24 @@ module _ (γ : Payloads) (p : Places) where
   unfoldable units-of : ℕ × ℕ → Format both Text
   units-of m = field string (units 2 (m .1)) >>= λ laid. field string (judged wide (m .0) laid) >>= λ t. pure (textOf String wide (p .string) t)
 
+  -- the same in the reader's payload alone, behind the units
+  abbrev placed-after : ℕ × ℕ → List ℕ → ℕ → Out ℕ Text
+  placed-after m laid r = placed String wide (p .string) ((judged wide (m .0) laid) .read (γ .string) r)
+
   rest-reads : (m : ℕ × ℕ) (q : ℕ) → (units-of m) .read γ (movedIn string p q)
-      ≡ lifted string p (andThen ((units 2 (m .1)) .read (γ .string) q) (λ laid r. placed String wide (p .string) ((judged wide (m .0) laid) .read (γ .string) r)))
+      ≡ lifted string p (andThen ((units 2 (m .1)) .read (γ .string) q) (placed-after m))
   unfolding units-of _>>=_ within pure
   rest-reads m q = units-go ((units 2 (m .1)) .read (γ .string) q)
     where
-      judged-go : (k : ℕ) (o : Out ℕ Written) → andThen (lifted string (movedIn string p k) o) (λ t s. got (textOf String wide (p .string) t) s) ≡ lifted string p (placed String wide (p .string) o)
+      judged-go : (k : ℕ) (o : Out ℕ Written) → andThen (lifted string (movedIn string p k) o) (λ t s. got (textOf String wide (p .string) t) s)
+          ≡ lifted string p (placed String wide (p .string) o)
       judged-go k (got t n) = refl
       judged-go k (refused r n) = refl
 
       units-go : (o : Out ℕ (List ℕ))
-          → andThen (lifted string (movedIn string p q) o) (λ laid s. andThen (lifted string s ((judged wide (m .0) laid) .read (γ .string) (s .string))) (λ t s. got (textOf String wide (p .string) t) s))
-          ≡ lifted string p (andThen o (λ laid r. placed String wide (p .string) ((judged wide (m .0) laid) .read (γ .string) r)))
+          → andThen (lifted string (movedIn string p q) o) (λ laid s.
+          andThen (lifted string s ((judged wide (m .0) laid) .read (γ .string) (s .string))) (λ t s. got (textOf String wide (p .string) t) s))
+          ≡ lifted string p (andThen o (placed-after m))
       units-go (got laid r) = judged-go r ((judged wide (m .0) laid) .read (γ .string) r)
       units-go (refused k r) = refl
 
@@ -51,7 +58,7 @@ module _ (γ : Payloads) (p : Places) where
   abbrev after : ℕ × ℕ → ℕ → Bool → Out ℕ Text
   after m q b =
       elim b [
-        | true ↦ andThen ((units 2 (m .1)) .read (γ .string) q) (λ laid r. placed String wide (p .string) ((judged wide (m .0) laid) .read (γ .string) r))
+        | true ↦ andThen ((units 2 (m .1)) .read (γ .string) q) (placed-after m)
         | false ↦ refused TextPastEnd q
       ]
 

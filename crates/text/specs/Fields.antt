@@ -18,7 +18,7 @@ use Rattle.text.specs.declared.Text.{Text}
 use Rattle.text.specs.declared.version.Version.{Version}
 use Rattle.text.specs.Releases.{releaseNumber}
 use Rattle.text.specs.Units.{units}
-use Rattle.text.specs.Texts.{UnitWidth, narrow, wide, unitBytes, unclosed, lawful, Written, written, judged, TV}
+use Rattle.text.specs.Texts.{UnitWidth, narrow, wide, unitBytes, Written, judged, TV}
 
 -- document 01's text: payload, unit width, position of the first unit, unit count
 abbrev pub textAt : Source → UnitWidth → ℕ → ℕ → Text

@@ -20,7 +20,7 @@ use Rattle.bitcursor.specs.Fields.{string, Field, field, lifted, movedIn}
 use Rattle.text.specs.declared.Source.the-variants.{String}
 use Rattle.text.specs.declared.Text.{Text}
 use Rattle.text.specs.Units.{units, units-there, units-short}
-use Rattle.text.specs.Texts.{wide, unclosed, lawful, Written, written, judged, TV, TV-read}
+use Rattle.text.specs.Texts.{wide, unclosed, valid, Written, written, judged, TV, TV-read}
 use Rattle.text.specs.Fields.{textAt, textOf, from-reader}
 use Rattle.text.specs.Answers.{placed, unitsText, readerText}
 use Rattle.text.specs.Steps.{reader-over, reader-refused, reader-past, reader-empty, reader-units}
@@ -38,7 +38,7 @@ record Parts (xs : List ℕ) (p : ℕ) (u : Written) (s : ℕ) : Type 0 where
   units-laid : List ℕ
   length-code : BS .read xs p ≡ got n r
   units-read : (units 2 n) .read xs r ≡ got units-laid s
-  lawful-units : lawful wide (unclosed units-laid) ≡ true
+  valid-units : valid wide (unclosed units-laid) ≡ true
   whole : u ≡ written (r - p) (unclosed units-laid)
 
 module _ (xs : List ℕ) (p : ℕ) where
@@ -46,21 +46,21 @@ module _ (xs : List ℕ) (p : ℕ) where
   unfolding TV tabled TV-read _>>=_ measured judged checked give refuse
   parts u s e = from-length (BS .read xs p) refl e
     where
-      judge : (n r : ℕ) (l : List ℕ) (t : ℕ) → BS .read xs p ≡ got n r → (units 2 n) .read xs r ≡ got l t → (b : Bool) → lawful wide (unclosed l) ≡ b
+      judge : (n r : ℕ) (l : List ℕ) (t : ℕ) → BS .read xs p ≡ got n r → (units 2 n) .read xs r ≡ got l t → (b : Bool) → valid wide (unclosed l) ≡ b
           → (checked b (give (written (r - p) (unclosed l))) (refuse NotUtf16)) .read xs t ≡ got u s → Parts xs p u s
       judge n r l t f g true h k =
           let eu : u ≡ written (r - p) (unclosed l) = cc in
           let es : t ≡ s = cc in
-          record { n = n; r = r; units-laid = l; length-code = f; units-read = g ∙ ap (got l) es; lawful-units = h; whole = eu }
+          record { n = n; r = r; units-laid = l; length-code = f; units-read = g ∙ ap (got l) es; valid-units = h; whole = eu }
       judge n r l t f g false h k = never k
 
       from-units : (n r : ℕ) → BS .read xs p ≡ got n r → (o : Out ℕ (List ℕ)) → (units 2 n) .read xs r ≡ o
-          → andThen o (λ l t. (checked (lawful wide (unclosed l)) (give (written (r - p) (unclosed l))) (refuse NotUtf16)) .read xs t) ≡ got u s → Parts xs p u s
-      from-units n r f (got l t) g k = judge n r l t f g (lawful wide (unclosed l)) refl k
+          → andThen o (λ l t. (judged wide (r - p) l) .read xs t) ≡ got u s → Parts xs p u s
+      from-units n r f (got l t) g k = judge n r l t f g (valid wide (unclosed l)) refl k
       from-units n r f (refused a t) g k = never k
 
       from-length : (o : Out ℕ ℕ) → BS .read xs p ≡ o
-          → andThen (measured-out BS p o) (λ m r. andThen ((units 2 (m .1)) .read xs r) (λ l t. (checked (lawful wide (unclosed l)) (give (written (m .0) (unclosed l))) (refuse NotUtf16)) .read xs t)) ≡ got u s
+          → andThen (measured-out BS p o) (λ m r. andThen ((units 2 (m .1)) .read xs r) (λ l t. (judged wide (m .0) l) .read xs t)) ≡ got u s
           → Parts xs p u s
       from-length (got n r) f k = from-units n r f ((units 2 n) .read xs r) refl k
       from-length (refused a r) f k = never k
@@ -76,9 +76,9 @@ module _ (xs : List ℕ) (p : ℕ) where
       (λ (w : size xs - r < 8 * (2 * n)). never (sym (units-short 2 n xs r w) ∙ e))
       (le-or-lt (8 * (2 * n)) (size xs - r))
 
-  judged-got : (k : ℕ) (l : List ℕ) (t : ℕ) → lawful wide (unclosed l) ≡ true → (judged wide k l) .read xs t ≡ got (written k (unclosed l)) t
+  judged-got : (k : ℕ) (l : List ℕ) (t : ℕ) → valid wide (unclosed l) ≡ true → (judged wide k l) .read xs t ≡ got (written k (unclosed l)) t
   unfolding judged checked give
-  judged-got k l t e = go (lawful wide (unclosed l)) e
+  judged-got k l t e = go (valid wide (unclosed l)) e
     where
       go : (b : Bool) → b ≡ true → (checked b (give (written k (unclosed l))) (refuse NotUtf16)) .read xs t ≡ got (written k (unclosed l)) t
       go true e = refl
@@ -88,7 +88,7 @@ module _ (xs : List ℕ) (p : ℕ) where
   join : {u : Written} {s : ℕ} → Parts xs p u s → (TV wide) .read xs p ≡ got u s
   unfolding TV tabled TV-read _>>=_ measured
   join {u} {s} t =
-      rw (t .length-code, t .units-read) (judged-got (t .r - p) (t .units-laid) s (t .lawful-units) ∙ ap (λ (v : Written). got v s) (sym (t .whole)))
+      rw (t .length-code, t .units-read) (judged-got (t .r - p) (t .units-laid) s (t .valid-units) ∙ ap (λ (v : Written). got v s) (sym (t .whole)))
 
   ruled : (end : ℕ) {u : Written} {s : ℕ} → Parts xs p u s → p < end → (s ≤ end) ⊎ (s ≡ p + u .lead) → readerText end xs p ≡ got (textOf String wide p u) s
   ruled end {u} {s} t h f =
@@ -96,7 +96,7 @@ module _ (xs : List ℕ) (p : ℕ) where
       let e = units-end (t .n) (t .r) (t .units-read) in
       let lead : u .lead ≡ t .r - p = ap (λ (v : Written). v .lead) (t .whole) in
       let text : unitsText String wide (t .r) ((units 2 (t .n)) .read xs (t .r)) ≡ got (textOf String wide p u) s =
-      ap (unitsText String wide (t .r)) (t .units-read) ∙ shown (t .r) (t .units-laid) s u (t .lawful-units) (t .whole) on in
+      ap (unitsText String wide (t .r)) (t .units-read) ∙ shown (t .r) (t .units-laid) s u (t .valid-units) (t .whole) on in
       ⊎-elim
       (λ (z : t .n ≤ 0).
       let y : t .n ≡ 0 = omega arith in
@@ -106,11 +106,12 @@ module _ (xs : List ℕ) (p : ℕ) where
       reader-units end xs p h (t .length-code) on (λ y. omega arith) room ∙ text)
       (le-or-lt (t .n) 0)
     where
-      shown : (r : ℕ) (l : List ℕ) (s : ℕ) (u : Written) → lawful wide (unclosed l) ≡ true → u ≡ written (r - p) (unclosed l) → p ≤ r
+      shown : (r : ℕ) (l : List ℕ) (s : ℕ) (u : Written) → valid wide (unclosed l) ≡ true → u ≡ written (r - p) (unclosed l) → p ≤ r
           → unitsText String wide r (got l s) ≡ got (textOf String wide p u) s
       shown r l s u e f on =
           let m : p + (r - p) ≡ r = omega arith in
-          rw (e, unitsText) (ap (λ (k : ℕ). got (textAt String wide k (length (unclosed l))) s) (sym m) ∙ ap (λ (v : Written). got (textOf String wide p v) s) (sym f))
+          rw (e, unitsText)
+          (ap (λ (k : ℕ). got (textAt String wide k (length (unclosed l))) s) (sym m) ∙ ap (λ (v : Written). got (textOf String wide p v) s) (sym f))
 
 -- ---- the rule's readings are these layouts
 module _ (γ : Payloads) (t : Text) (p q : Places) where
@@ -119,7 +120,7 @@ module _ (γ : Payloads) (t : Text) (p q : Places) where
       → lifted string p (unitsText String wide r ((units 2 n) .read (γ .string) r)) ≡ got t q → ReaderText γ t p q
   finish n r f h room e = by-units ((units 2 n) .read (γ .string) r) refl e
     where
-      by-law : (l : List ℕ) (s : ℕ) → (units 2 n) .read (γ .string) r ≡ got l s → (b : Bool) → lawful wide (unclosed l) ≡ b
+      by-law : (l : List ℕ) (s : ℕ) → (units 2 n) .read (γ .string) r ≡ got l s → (b : Bool) → valid wide (unclosed l) ≡ b
           → lifted string p (elim b [ true ↦ got (textAt String wide r (length (unclosed l))) s | false ↦ refused NotUtf16 s ]) ≡ got t q → ReaderText γ t p q
       by-law l s g false k m = never m
       by-law l s g true k m =
@@ -130,14 +131,14 @@ module _ (γ : Payloads) (t : Text) (p q : Places) where
           let ends = units-end (γ .string) (p .string) n r g in
           let lead : p .string + (r - p .string) ≡ r = omega arith in
           let es : q .string ≡ s = ap (λ (w : Places). w .string) eq in
-          let read = join (γ .string) (p .string) (record { n = n; r = r; units-laid = l; length-code = f; units-read = g; lawful-units = k; whole = refl }) in
+          let read = join (γ .string) (p .string) (record { n = n; r = r; units-laid = l; length-code = f; units-read = g; valid-units = k; whole = refl }) in
           laid u h (record { end = s; laid = (TV wide) .sound (γ .string) u (p .string) s read; moved = eq })
           (⊎-elim (λ (z : n ≡ 0). inr (omega arith)) (λ (z : r + 16 * n ≤ γ .end). inl (omega arith)) room)
           (et ∙ ap (λ (k : ℕ). textAt String wide k (length (unclosed l))) (sym lead))
 
       by-units : (o : Out ℕ (List ℕ)) → (units 2 n) .read (γ .string) r ≡ o → lifted string p (unitsText String wide r o) ≡ got t q → ReaderText γ t p q
       by-units (refused a s) g m = never m
-      by-units (got l s) g m = by-law l s g (lawful wide (unclosed l)) refl m
+      by-units (got l s) g m = by-law l s g (valid wide (unclosed l)) refl m
 
   -- by the length code that was read
   by-length : (o : Out ℕ ℕ) → BS .read (γ .string) (p .string) ≡ o → p .string < γ .end
@@ -148,8 +149,9 @@ module _ (γ : Payloads) (t : Text) (p q : Places) where
       ⊎-elim
       (λ (z : n ≤ 0).
       let y : n ≡ 0 = omega arith in
-      finish n r f h (inl y)
-      (sym (ap (lifted string p) (reader-empty (γ .end) (γ .string) (p .string) h f on y ∙ ap (λ (m : ℕ). unitsText String wide r ((units 2 m) .read (γ .string) r)) (sym y))) ∙ e))
+      let read = reader-empty (γ .end) (γ .string) (p .string) h f on y
+      ∙ ap (λ (m : ℕ). unitsText String wide r ((units 2 m) .read (γ .string) r)) (sym y) in
+      finish n r f h (inl y) (sym (ap (lifted string p) read) ∙ e))
       (λ (z : 0 < n).
       let y : n ≡ 0 → ⊥ = λ x. omega arith in
       ⊎-elim
@@ -175,10 +177,10 @@ module _ (γ : Payloads) (t : Text) (p q : Places) where
   reader-from (laid u h l f e) =
       let r = (TV wide) .complete (γ .string) u (p .string) (l .end) (l .laid) in
       let m : q .string ≡ l .end = ap (λ (s : Places). s .string) (l .moved) in
-      from-reader .sound γ t p q
-      (reader-reads γ p
-      ∙ ap (lifted string p) (ruled (γ .string) (p .string) (γ .end) (parts (γ .string) (p .string) u (l .end) r) h (⊎-elim (λ (w : q .string ≤ γ .end). inl (omega arith)) (λ (w : q .string ≡ p .string + u .lead). inr (omega arith)) f))
-      ∙ ap₂ got (sym e) (sym (l .moved)))
+      let ends : (l .end ≤ γ .end) ⊎ (l .end ≡ p .string + u .lead) =
+      ⊎-elim (λ (w : q .string ≤ γ .end). inl (omega arith)) (λ (w : q .string ≡ p .string + u .lead). inr (omega arith)) f in
+      let read = ruled (γ .string) (p .string) (γ .end) (parts (γ .string) (p .string) u (l .end) r) h ends in
+      from-reader .sound γ t p q (reader-reads γ p ∙ ap (lifted string p) read ∙ ap₂ got (sym e) (sym (l .moved)))
 
 -- text from the lent reader, with its layouts said so
 unfoldable pub reader-text : Format both Text

@@ -16,7 +16,7 @@ use Rattle.bitcursor.specs.Handles.{checked}
 use Rattle.text.specs.declared.Source.{Source}
 use Rattle.text.specs.declared.Source.the-variants.{Main, String}
 use Rattle.text.specs.Units.{units}
-use Rattle.text.specs.Texts.{UnitWidth, wide, unitBytes, unclosed, lawful, judged, written, TV, TV-read}
+use Rattle.text.specs.Texts.{UnitWidth, wide, unitBytes, unclosed, valid, judged, written, TV, TV-read}
 use Rattle.text.specs.Fields.{textAt}
 use Rattle.text.specs.Answers.{placed, unitsText, readerText}
 
@@ -24,7 +24,7 @@ use Rattle.text.specs.Answers.{placed, unitsText, readerText}
 module _ (source : Source) (w : UnitWidth) (xs : List ℕ) (at p : ℕ) (on : at ≤ p) where
   judged-text : (laid : List ℕ) (q : ℕ) → placed source w at ((judged w (p - at) laid) .read xs q) ≡ unitsText source w p (got laid q)
   unfolding judged checked give refuse
-  judged-text laid q = go (lawful w (unclosed laid))
+  judged-text laid q = go (valid w (unclosed laid))
     where
       e : at + (p - at) ≡ p
       e = omega arith
@@ -44,7 +44,8 @@ module _ (source : Source) (w : UnitWidth) (xs : List ℕ) (at p : ℕ) (on : at
 
 -- ---- inline text, by its length code
 module _ (w : UnitWidth) (xs : List ℕ) (at : ℕ) where
-  pub inline-got : {n p : ℕ} → BS .read xs at ≡ got n p → at ≤ p → placed Main w at ((TV w) .read xs at) ≡ unitsText Main w p ((units (unitBytes w) n) .read xs p)
+  pub inline-got : {n p : ℕ} → BS .read xs at ≡ got n p → at ≤ p
+      → placed Main w at ((TV w) .read xs at) ≡ unitsText Main w p ((units (unitBytes w) n) .read xs p)
   unfolding TV tabled TV-read _>>=_ measured
   inline-got {n} {p} e on = rw e (inline-rest Main w xs at p on ((units (unitBytes w) n) .read xs p))
 

@@ -39,8 +39,11 @@ TV-read v = do
 inline-to : (w : UnitWidth) (γ : Payloads) (t : Text) (p q : Places) → (inline w) .lays γ t p q → InlineText w γ t p q
 unfolding inline here peek _>>=_ pure within
 inline-to w γ t p q l =
-    let m = l .3 in
-    (m .0, rw (m .3 .1) (subst (λ (r : Places). Field main (TV w) γ (m .0) r (m .1)) (l .2 .1) (m .2)), m .3 .0 ∙ ap (λ (n : ℕ). textOf Main w n (m .0)) (l .2 .0))
+    let m = l .3 in (
+      m .0,
+      rw (m .3 .1) (subst (λ (r : Places). Field main (TV w) γ (m .0) r (m .1)) (l .2 .1) (m .2)),
+      m .3 .0 ∙ ap (λ (n : ℕ). textOf Main w n (m .0)) (l .2 .0),
+    )
 
 inline-from : (w : UnitWidth) (γ : Payloads) (t : Text) (p q : Places) → InlineText w γ t p q → (inline w) .lays γ t p q
 unfolding inline here peek _>>=_ pure within

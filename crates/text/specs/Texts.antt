@@ -69,21 +69,21 @@ unclosed-closed laid us (padded e) = ap unclosed e ∙ drops us
 unclosed-closed laid us (plain e h) = ap unclosed e ∙ keeps us h
 
 -- ---- what units may be: 8-bit units anything, 16-bit units valid UTF-16
-abbrev pub Lawful : UnitWidth → List ℕ → Type 0
-Lawful narrow us = Unit {0}
-Lawful wide us = Utf16 us
+abbrev pub Valid : UnitWidth → List ℕ → Type 0
+Valid narrow us = Unit {0}
+Valid wide us = Utf16 us
 
-abbrev pub lawful : UnitWidth → List ℕ → Bool
-lawful narrow us = true
-lawful wide us = pairedFrom false us
+abbrev pub valid : UnitWidth → List ℕ → Bool
+valid narrow us = true
+valid wide us = pairedFrom false us
 
-pub lawful-to : (w : UnitWidth) (us : List ℕ) → lawful w us ≡ true → Lawful w us
-lawful-to narrow us e = tt
-lawful-to wide us e = utf16-test us .0 e
+pub valid-to : (w : UnitWidth) (us : List ℕ) → valid w us ≡ true → Valid w us
+valid-to narrow us e = tt
+valid-to wide us e = utf16-test us .0 e
 
-pub lawful-from : (w : UnitWidth) (us : List ℕ) → Lawful w us → lawful w us ≡ true
-lawful-from narrow us l = refl
-lawful-from wide us l = utf16-test us .1 l
+pub valid-from : (w : UnitWidth) (us : List ℕ) → Valid w us → valid w us ≡ true
+valid-from narrow us l = refl
+valid-from wide us l = utf16-test us .1 l
 
 -- ---- a text as it is written: how many bits its length code has, and its units without a closing zero
 pub record Written : Type 0 where
@@ -95,12 +95,12 @@ written lead us = record { lead = lead; units = us }
 
 -- length code, units, optional closing zero
 pub data TV-codes (w : UnitWidth) : Written → List Bool → Type 0 where
-  TV-of : {laid us : List ℕ} {ds : List Bool} → BS-codes (length laid) ds → AllBelow (256 ^ unitBytes w) laid → Closed laid us → Lawful w us
+  TV-of : {laid us : List ℕ} {ds : List Bool} → BS-codes (length laid) ds → AllBelow (256 ^ unitBytes w) laid → Closed laid us → Valid w us
       → TV-codes w (written (length ds) us) (ds ++ unitBits (unitBytes w) laid)
 
 -- what is made of the units: refusal 7 after all of them
 unfoldable pub judged : UnitWidth → ℕ → List ℕ → Code Written
-judged w lead laid = checked (lawful w (unclosed laid)) (give (written lead (unclosed laid))) (refuse NotUtf16)
+judged w lead laid = checked (valid w (unclosed laid)) (give (written lead (unclosed laid))) (refuse NotUtf16)
 
 unfoldable pub TV-read : UnitWidth → Code Written
 TV-read w = do
@@ -110,18 +110,19 @@ TV-read w = do
 
 pub TV-to : (w : UnitWidth) (t : Written) (cs : List Bool) → (TV-read w) .codes t cs → TV-codes w t cs
 unfolding TV-read judged _>>=_ measured units tabled checked give refuse BS
-TV-to w t cs l = go (lawful w (unclosed laid)) refl (l .4 .4)
+TV-to w t cs l = go (valid w (unclosed laid)) refl (l .4 .4)
   where
     laid : List ℕ
     laid = l .4 .0
 
-    go : (b : Bool) → lawful w (unclosed laid) ≡ b
+    go : (b : Bool) → valid w (unclosed laid) ≡ b
         → (checked b (give (written (l .0 .0) (unclosed laid))) (refuse NotUtf16)) .codes t (l .4 .2) → TV-codes w t cs
     go true e m =
         let h : BS-codes (length laid) (l .1) = subst⁻¹ (λ (n : ℕ). BS-codes n (l .1)) (l .4 .3 .0) (l .3 .0) in
-        let f : cs ≡ l .1 ++ unitBits (unitBytes w) laid = l .5 ∙ ap (λ (es : List Bool). l .1 ++ es) (l .4 .5 ∙ ap₂ _++_ (l .4 .3 .2) (m .1) ∙ append-nil (unitBits (unitBytes w) laid)) in
+        let bs = unitBits (unitBytes w) laid in
+        let f : cs ≡ l .1 ++ bs = l .5 ∙ ap (λ (es : List Bool). l .1 ++ es) (l .4 .5 ∙ ap₂ _++_ (l .4 .3 .2) (m .1) ∙ append-nil bs) in
         let g : t ≡ written (length (l .1)) (unclosed laid) = m .0 ∙ ap (λ (n : ℕ). written n (unclosed laid)) (l .3 .1) in
-        subst₂ (TV-codes w) (sym g) (sym f) (TV-of h (l .4 .3 .1) (closed-unclosed laid) (lawful-to w (unclosed laid) e))
+        subst₂ (TV-codes w) (sym g) (sym f) (TV-of h (l .4 .3 .1) (closed-unclosed laid) (valid-to w (unclosed laid) e))
     go false e m = absurd m
 
 pub TV-from : (w : UnitWidth) (t : Written) (cs : List Bool) → TV-codes w t cs → (TV-read w) .codes t cs
@@ -129,7 +130,7 @@ unfolding TV-read judged _>>=_ measured units tabled checked give BS
 TV-from w t cs (TV-of {laid = laid} {us = us} {ds = ds} h a c v) =
     let bs = unitBits (unitBytes w) laid in
     let e : unclosed laid ≡ us = unclosed-closed laid us c in
-    let y : lawful w (unclosed laid) ≡ true = rw e (lawful-from w us v) in (
+    let y : valid w (unclosed laid) ≡ true = rw e (valid-from w us v) in (
       (length ds, length laid),
       ds,
       bs,

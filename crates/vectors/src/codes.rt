@@ -1,8 +1,8 @@
 // The requests for one code: which call each kind is, and its answer as a list of numbers.
 ghost use Prim.Native.Nat.{_≤_};
-use crate::answers;
-use crate::answers::Code;
-use crate::record::ROOM;
+use stored::answers;
+use stored::answers::Code;
+use stored::record::ROOM;
 
 // The kinds, numbered as oracle/pack.rs has them. `more` is a DD's default, as its 64 bits.
 fn call(kind: u64, s: &[u8], at: usize, more: u64) -> Code {

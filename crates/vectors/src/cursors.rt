@@ -1,10 +1,8 @@
-// The requests for one code once more, each by a cursor that is lent to its thin reader: the answer, and the place at which the cursor then stands.
-// The readers that give a pattern's 64 bits have no thin form, so their kinds are not here.
+// The requests for one code once more, each by a cursor that is lent to its reader: the answer, and the place at which the cursor
+// then stands.
+// The readers that give a pattern's 64 bits take no lent cursor, so their kinds are not here.
 ghost use Prim.Native.Nat.{_≤_};
-use crate::answers;
-use crate::answers::Code;
 use crate::codes;
-use crate::record::ROOM;
 use cursor::Answer;
 use cursor::AnswerBool;
 use cursor::AnswerF64;
@@ -19,6 +17,9 @@ use cursor::moved::MovedF64;
 use cursor::moved::MovedHandle;
 use cursor::moved::MovedI16;
 use cursor::moved::MovedI32;
+use stored::answers;
+use stored::answers::Code;
+use stored::record::ROOM;
 
 fn of_number(m: Moved) -> Code {
     let c = m.cursor;
@@ -80,7 +81,7 @@ fn of_handle(m: MovedHandle) -> Code {
     }
 }
 
-// The kinds of `codes` whose readers have a thin form.
+// The kinds of `codes` whose readers take a lent cursor.
 fn call(kind: u64, s: &[u8], at: usize, more: u64) -> Code {
     let c = BitCursor::at(at);
     match kind {
@@ -103,7 +104,7 @@ fn call(kind: u64, s: &[u8], at: usize, more: u64) -> Code {
     }
 }
 
-// Calls the thin reader and puts its answer at the start of `found`; how many numbers that are, or 0 where the kind has none.
+// Calls the reader and puts its answer at the start of `found`; how many numbers that are, or 0 where the kind has none.
 pub fn replay(kind: u64, s: &[u8], at: usize, more: u64, found: &mut [u64; ROOM]) -> usize
     ensures { λ r. ⌜ r ≤ 7 ⌝ }
 {

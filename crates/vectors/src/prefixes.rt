@@ -1,11 +1,11 @@
 // The requests for an entity prefix: the call, and its answer as a list of numbers, the fields in the order of the Rust's answer.
 ghost use Prim.Native.Nat.{_≤_};
-use crate::answers;
-use crate::record::ROOM;
 use common_entity::CommonEntityBits;
 use common_entity::EntityMode;
 use common_entity::MaybeLong;
 use common_entity::Outcome;
+use stored::answers;
+use stored::record::ROOM;
 
 // The kind, numbered as oracle/pack.rs has it.
 pub const KIND: u64 = 19;

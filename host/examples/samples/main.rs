@@ -1,4 +1,4 @@
-//! Writes the files of requests under samples/, the same bytes in every run. `host/samples` calls it.
+//! Writes the files of requests, objects and a drawing under samples/, the same bytes in every run. `host/samples` calls it.
 
 mod files;
 
@@ -11,8 +11,8 @@ fn main() -> ExitCode {
         eprintln!("samples: name the folder that the files are to be written to");
         return ExitCode::from(2);
     };
-    for (name, text) in files::all() {
-        if let Err(error) = fs::write(Path::new(&folder).join(name), text) {
+    for (name, bytes) in files::all() {
+        if let Err(error) = fs::write(Path::new(&folder).join(name), bytes) {
             eprintln!("samples: {name} cannot be written: {error}");
             return ExitCode::from(1);
         }

@@ -11,8 +11,10 @@ $1 == "err" { printf "refusal %s at bits %s and %s\n", $2, $3, $4; next }
     for (i = 4; i <= NF; i++) { name = $i; sub(/=.*/, "", name); field[name] = substr($i, length(name) + 2) }
     split(field["ext"], ext, ",")
     split(field["name"], text, ":")
+    split(field["gname"], other, ":")
     printf "read to bit %s: %s words, %s numbers\n", $2, field["nw"], field["nn"]
     printf "gradient: present %s, angle %s, %s colours\n", field["grad"], double("gangle"), field["gn"]
+    printf "gradient's name: %s units of %s bits at bit %s\n", other[4], other[2], other[3]
     printf "elevation %s, extrusion {%s} {%s} {%s}\n", double("elev"), ext[1], ext[2], ext[3]
     printf "name: %s units of %s bits at bit %s\n", text[4], text[2], text[3]
     printf "solid %s, associative %s, style %s, type %s\n", field["solid"], field["assoc"], field["style"], field["type"]

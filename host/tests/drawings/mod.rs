@@ -4,14 +4,32 @@
 #[path = "../layouts/mod.rs"]
 pub mod layouts;
 
-use dwg_hatch::{HatchPath, HatchPathSegments, Name, Point2D, Vertex};
+use dwg_hatch::{HatchPath, HatchPathSegments, Name, PatternLine, Point2D, Vertex};
 use layouts::{Fill, Numbers, Plan};
 
 /// A line with one closed polyline of release 2, with no bulges unless given.
 pub fn polyline(points: &[(f64, f64)], bulge: Option<f64>) -> String {
+    hatch(b"SOLID", vec![path(points, bulge)], Vec::new())
+}
+
+/// A closed polyline as a path.
+pub fn path(points: &[(f64, f64)], bulge: Option<f64>) -> HatchPath<u64> {
     let vertex = |(x, y): &(f64, f64)| Vertex { point: point(*x, *y), bulge: bulge.map(f64::to_bits) };
     let segments = HatchPathSegments::Polyline { has_bulge: bulge.is_some(), is_closed: true, vertices: points.iter().map(vertex).collect() };
-    hatch(b"SOLID", vec![HatchPath { flags: 3, segments, num_boundary_handles: 0 }], Vec::new())
+    HatchPath { flags: 3, segments, num_boundary_handles: 0 }
+}
+
+/// A line with a square from (0, 0) to a corner, and pattern lines: angle, origin, offset and dashes of each.
+pub fn lined(side: f64, lines: &[(f64, [f64; 2], [f64; 2], &[f64])]) -> String {
+    let bits = |dashes: &[f64]| dashes.iter().map(|dash| dash.to_bits()).collect();
+    let lines = lines.iter().map(|(angle, [x, y], [across, up], dashes)| PatternLine {
+        angle: angle.to_bits(),
+        origin: point(*x, *y),
+        offset: point(*across, *up),
+        dashes: bits(dashes),
+    });
+    let square = path(&[(0.0, 0.0), (side, 0.0), (side, side), (0.0, side)], None);
+    line(&Plan { solid: false, lines: lines.collect(), ..plan([0.0, 0.0, 1.0], b"LINED", vec![square], Vec::new()) }, &mut Numbers(1), false)
 }
 
 pub fn point(x: f64, y: f64) -> Point2D<u64> {
@@ -23,12 +41,16 @@ pub fn hatch(name: &[u8], paths: Vec<HatchPath<u64>>, seeds: Vec<Point2D<u64>>) 
 }
 
 /// The same with an extrusion.
-pub fn hatch_along([x, y, z]: [f64; 3], name: &[u8], paths: Vec<HatchPath<u64>>, seeds: Vec<Point2D<u64>>) -> String {
+pub fn hatch_along(extrusion: [f64; 3], name: &[u8], paths: Vec<HatchPath<u64>>, seeds: Vec<Point2D<u64>>) -> String {
+    line(&plan(extrusion, name, paths, seeds), &mut Numbers(1), false)
+}
+
+/// A solid hatch of release 2.
+pub fn plan([x, y, z]: [f64; 3], name: &[u8], paths: Vec<HatchPath<u64>>, seeds: Vec<Point2D<u64>>) -> Plan {
     let names = [Vec::new(), name.to_vec()].map(Name::Bytes);
     let fill = Fill { doubles: [0; 3], colours: Vec::new() };
     let plane = [0.0, x, y, z].map(f64::to_bits);
-    let plan = Plan { release: 2, names, gradient: false, fill, plane, style: 0, solid: true, paths, lines: Vec::new(), seeds };
-    line(&plan, &mut Numbers(1), false)
+    Plan { release: 2, names, gradient: false, fill, plane, style: 0, solid: true, paths, lines: Vec::new(), seeds }
 }
 
 pub fn line(plan: &Plan, n: &mut Numbers, reader: bool) -> String {

@@ -1,4 +1,5 @@
 //! A reader of JSON for the tests, written from RFC 8259: what the tool prints must be JSON by it, to the letter.
+#![allow(dead_code)]
 
 /// A value. A number is kept as it is written.
 #[derive(Clone, Debug, PartialEq)]

@@ -18,15 +18,16 @@ read-common-entity-bits-requires c κs = search needs
 common-data-requires : tie.Need-common-data-requires
 common-data-requires c κs = search needs
 
-as-data : (o : Out ℕ CommonEntityBits) → record { outcome = (asBits o) .outcome; place = (asBits o) .place; fields = dataOf ((asBits o) .fields) } ≡ asData o
+as-data : (o : Out ℕ CommonEntityBits) → record { outcome = (asBits o) .outcome; place = (asBits o) .place; fields = dataOf ((asBits o) .fields) }
+    ≡ asData o
 as-data (got d p) = refl
 as-data (refused r p) = refl
 
 returns : tie.Need-returns
 returns c =
-    let a = c .before .before .before .before .args in
-    let o = prefixCall (a .release) (now (a .s)) (a .start) in
-    rw (c .common-data .ensures, c .before .before .read-common-entity-bits .ensures) (as-data o)
+    let read = c .before .before in
+    let a = read .before .before .args in
+    rw (c .common-data .ensures, read .read-common-entity-bits .ensures) (as-data (prefixCall (a .release) (now (a .s)) (a .start)))
 
 pub read-common-entity-data-spec : {M : Type 1} → statement M
 read-common-entity-data-spec =

@@ -15,7 +15,9 @@ read-string-tv-requires : tie.Need-read-string-tv-requires
 read-string-tv-requires c κs = search needs
 
 returns-2 : tie.Need-returns-2
-returns-2 c = let a = c .before .before .before .args in c .read-string-tv .ensures ∙ sym (ap asText (limit-within (readerText (a .end)) (now (a .s)) (a .at) (omega arith)))
+returns-2 c =
+    let a = c .before .before .before .args in c .read-string-tv .ensures ∙ sym
+    (ap asText (limit-within (readerText (a .end)) (now (a .s)) (a .at) (omega arith)))
 
 pub read-string-tv-spec : {M : Type 1} → statement M
 read-string-tv-spec = tie.close (tie.spec returns read-string-tv-requires returns-2)

@@ -18,9 +18,13 @@ enum-known-v c = search needs
 
 returns : tie.Need-returns
 returns c =
-    let a = c .before .before .before .before .before .before .args in
-    let m = c .before .before .v .given in
-    sym (ap asText (released-known (λ w. limited (inlineText w)) (now (a .s)) (a .at) (sym (c .before .before .before .before .version-of .ensures) ∙ m .1) ∙ limit-above (inlineText (m .0 .0)) (now (a .s)) (a .at) (omega arith)))
+    let after-v = c .before .before in
+    let after-version-of = after-v .before .before in
+    let entry = after-version-of .before .before in
+    let a = entry .args in
+    let m = after-v .v .given in
+    sym (ap asText (released-known (λ w. limited (inlineText w)) (now (a .s)) (a .at) (sym (after-version-of .version-of .ensures) ∙ m .1)
+    ∙ limit-above (inlineText (m .0 .0)) (now (a .s)) (a .at) (omega arith)))
 
 read-tv-requires : tie.Need-read-tv-requires
 read-tv-requires c κs = search needs
@@ -30,15 +34,22 @@ enum-told c = search needs
 
 returns-2 : tie.Need-returns-2
 returns-2 c =
-    let a = c .before .before .before .before .before .before .before .args in
-    let m = c .before .before .before .v .given in
+    let after-v = c .before .before .before in
+    let after-version-of = after-v .before .before in
+    let entry = after-version-of .before .before in
+    let a = entry .args in
+    let m = after-v .v .given in
     c .read-tv .ensures
-    ∙ sym (ap asText (released-known (λ w. limited (inlineText w)) (now (a .s)) (a .at) (sym (c .before .before .before .before .before .version-of .ensures) ∙ m .1) ∙ limit-within (inlineText (m .0 .0)) (now (a .s)) (a .at) (omega arith)))
+    ∙ sym (ap asText (released-known (λ w. limited (inlineText w)) (now (a .s)) (a .at) (sym (after-version-of .version-of .ensures) ∙ m .1)
+    ∙ limit-within (inlineText (m .0 .0)) (now (a .s)) (a .at) (omega arith)))
 
 returns-3 : tie.Need-returns-3
 returns-3 c =
-    let a = c .before .before .before .before .args in
-    sym (ap asText (released-unknown (λ w. limited (inlineText w)) (now (a .s)) (a .at) (sym (c .before .before .version-of .ensures) ∙ c .enum-told .given .1)))
+    let after-version-of = c .before .before in
+    let entry = after-version-of .before .before in
+    let a = entry .args in
+    sym (ap asText (released-unknown (λ w. limited (inlineText w)) (now (a .s)) (a .at)
+    (sym (after-version-of .version-of .ensures) ∙ c .enum-told .given .1)))
 
 pub read-tv-spec : {M : Type 1} → statement M
 read-tv-spec =

@@ -1,16 +1,21 @@
 -- A counter above 8 is the refusal; else that many bytes, the high one first, are the value.
-use mathlib.Core.Path.{_≡_, refl, sym, ap, _∙_}
-use Prim.Native.Nat.{ℕ, _+_, _-_, _*_, _/_, _^_, _≤_, _<_}
+use mathlib.Core.Path.{_≡_, sym, ap}
+use Prim.Native.Nat.{ℕ, _≤_}
 use native.Mathlib.Omega.{arith}
 use denote.Ref.{now}
-use mathlib.Core.Bool.{Bool, true, false}
+use mathlib.Core.Bool.{true}
+use mathlib.Core.List.{List}
 use lib.Dec.{leb}
 use borrow.Author.Tests.{le-leb, lt-leb}
+use Rattle.bitcursor.specs.declared.Refusal.{Refusal}
 use Rattle.bitcursor.specs.declared.Refusal.the-variants.{HandleCounter}
+use Rattle.bitcursor.specs.declared.Read.{Read}
+use Rattle.bitcursor.specs.declared.Read.the-variants.{Value, Refused}
+use Rattle.bitcursor.specs.Reading.{got, refused}
 use Rattle.bitcursor.specs.Code.{mapped, refuse}
 use Rattle.bitcursor.specs.Bytes.{highFirst}
 use Rattle.bitcursor.specs.Handles.{HANDLE-value, checked, handle}
-use Rattle.bitcursor.specs.Answers.{asHandle}
+use Rattle.bitcursor.specs.Answers.{asRead, asHandle}
 use Rattle.bitcursor.proofs.Steps.{read-value, read-refused, mapped-got, mapped-refused}
 use borrow.Author.Needs.{needs}
 use Rattle.bitcursor.proofs.within.handle_value.Statement.{statement}
@@ -37,23 +42,32 @@ cast-t15 c = search needs
 enum-known-k : tie.Need-enum-known-k
 enum-known-k c = search needs
 
+-- a counter of 8 at most: the bytes are read, and are the handle's value
+module _ (s : List ℕ) (at code counter : ℕ) (small : counter ≤ 8) {x : Read} (e : x ≡ asRead ((highFirst counter) .read s at)) where
+  passes : leb counter 8 ≡ true
+  passes = le-leb counter 8 small
+
+  found : {v p : ℕ} → x ≡ Value v p → (HANDLE-value code counter) .read s at ≡ got (handle code counter v) p
+  unfolding HANDLE-value checked
+  found h = rw (passes, checked) (mapped-got (handle code counter) (highFirst counter) s at (read-value _ e h))
+
+  cut : {r : Refusal} {p : ℕ} → x ≡ Refused r p → (HANDLE-value code counter) .read s at ≡ refused r p
+  unfolding HANDLE-value checked
+  cut h = rw (passes, checked) (mapped-refused (handle code counter) (highFirst counter) s at (read-refused _ e h))
+
 returns-2 : tie.Need-returns-2
-unfolding HANDLE-value checked
 returns-2 c =
-    let a = c .before .before .before .before .before .before .args in
-    let e : leb (a .counter) 8 ≡ true = le-leb (a .counter) 8 (omega arith) in
-    rw (e, checked)
-    (sym (ap asHandle (mapped-got (handle (a .code) (a .counter)) (highFirst (a .counter)) (now (a .s)) (a .at)
-    (read-value _ (c .before .before .before .read-high .ensures) (c .before .v .given .1)))))
+    let after-v = c .before in
+    let after-read-high = after-v .before .before in
+    let a = after-read-high .before .before .before .args in
+    sym (ap asHandle (found (now (a .s)) (a .at) (a .code) (a .counter) (omega arith) (after-read-high .read-high .ensures) (after-v .v .given .1)))
 
 returns-3 : tie.Need-returns-3
-unfolding HANDLE-value checked
 returns-3 c =
-    let a = c .before .before .before .before .before .before .args in
-    let e : leb (a .counter) 8 ≡ true = le-leb (a .counter) 8 (omega arith) in
-    rw (e, checked)
-    (sym (ap asHandle (mapped-refused (handle (a .code) (a .counter)) (highFirst (a .counter)) (now (a .s)) (a .at)
-    (read-refused _ (c .before .before .before .read-high .ensures) (c .before .k .given .1)))))
+    let after-k = c .before in
+    let after-read-high = after-k .before .before in
+    let a = after-read-high .before .before .before .args in
+    sym (ap asHandle (cut (now (a .s)) (a .at) (a .code) (a .counter) (omega arith) (after-read-high .read-high .ensures) (after-k .k .given .1)))
 
 pub handle-value-spec : {M : Type 1} → statement M
 handle-value-spec =

@@ -28,15 +28,10 @@ bits-at-requires c κs = search needs
 add-t5 : tie.Need-add-t5
 add-t5 c = search needs
 
--- ---- the stages of the function, each from a later one
-abbrev entry-from-after-bits-at : tie.After-bits-at → tie.Start
-entry-from-after-bits-at s =
-    let after-shared-slice-known = s .before .before .before in
-    after-shared-slice-known .before
-
 returns-3 : tie.Need-returns-3
 returns-3 c =
-    let entry = entry-from-after-bits-at c in
+    let else2 = c .before in
+    let entry = else2 .before .before .before in
     let a = entry .args in
     ap (λ (v : ℕ). Value v (a .at + a .n)) (c .bits-at .ensures) ∙ sym (ap asRead (raw-there (a .n) (now (a .s)) (a .at) (omega arith)))
 

@@ -1,8 +1,11 @@
 -- The default without its low six bytes leaves room for the two and the four that follow.
 use mathlib.Core.Path.{_≡_, refl, sym, ap, _∙_}
-use Prim.Native.Nat.{ℕ, _+_, _-_, _*_, _/_, _^_, _≤_, _<_}
+use mathlib.Core.List.{List}
+use Prim.Native.Nat.{ℕ, _^_, _<_}
 use native.Mathlib.Omega.{arith}
 use denote.Ref.{now}
+use Rattle.bitcursor.specs.declared.Read.{Read}
+use Rattle.bitcursor.specs.declared.Read.the-variants.{Value}
 use Rattle.bitcursor.specs.Code.{mapped}
 use Rattle.bitcursor.specs.Bytes.{lowFirst}
 use Rattle.bitcursor.specs.Doubles.{low6, six}
@@ -12,6 +15,19 @@ use Rattle.bitcursor.proofs.Steps.{read-value, read-refused, then-got, 
 use borrow.Author.Needs.{needs}
 use Rattle.bitcursor.proofs.within.read_six.Statement.{statement}
 use Rattle.bitcursor.proofs.within.read_six.Tie as tie
+
+-- the two numbers that were read, x and then y
+record Small (v w : ℕ) : Type 0 where
+  middle : v < 2 ^ 16
+  low : w < 2 ^ 32
+
+both-small : (s : List ℕ) (at : ℕ) {x y : Read} {v p w q : ℕ} → x ≡ asRead ((lowFirst 2) .read s at) → x ≡ Value v p
+    → y ≡ asRead ((lowFirst 4) .read s p) → y ≡ Value w q → Small v w
+both-small s at {p = p} e h f k =
+    record {
+      middle = read-below (lowFirst 2) (low-below 2) s at (read-value _ e h);
+      low = read-below (lowFirst 4) (low-below 4) s p (read-value _ f k);
+    }
 
 read-low-requires : tie.Need-read-low-requires
 read-low-requires c κs = search needs
@@ -36,11 +52,9 @@ mul-t17 c =
     let after-read-low = after-middle .before .before in
     let entry = after-read-low .before .before in
     let a = entry .args in
-    let h : after-middle .middle .given .0 .0 < 2 ^ 16 =
-    read-below (lowFirst 2) (low-below 2) (now (a .s)) (a .at) (read-value _ (after-read-low .read-low .ensures) (after-middle .middle .given .1)) in
-    let k : after-low .low .given .0 .0 < 2 ^ 32 =
-    read-below (lowFirst 4) (low-below 4) (now (a .s)) (after-middle .middle .given .0 .1 .0)
-    (read-value _ (after-read-low2 .read-low2 .ensures) (after-low .low .given .1)) in
+    let m = after-middle .middle .given in
+    let n = after-low .low .given in
+    let small = both-small (now (a .s)) (a .at) (after-read-low .read-low .ensures) (m .1) (after-read-low2 .read-low2 .ensures) (n .1) in
     omega arith
 
 add-t18 : tie.Need-add-t18
@@ -51,11 +65,9 @@ add-t18 c =
     let after-read-low = after-middle .before .before in
     let entry = after-read-low .before .before in
     let a = entry .args in
-    let h : after-middle .middle .given .0 .0 < 2 ^ 16 =
-    read-below (lowFirst 2) (low-below 2) (now (a .s)) (a .at) (read-value _ (after-read-low .read-low .ensures) (after-middle .middle .given .1)) in
-    let k : after-low .low .given .0 .0 < 2 ^ 32 =
-    read-below (lowFirst 4) (low-below 4) (now (a .s)) (after-middle .middle .given .0 .1 .0)
-    (read-value _ (after-read-low2 .read-low2 .ensures) (after-low .low .given .1)) in
+    let m = after-middle .middle .given in
+    let n = after-low .low .given in
+    let small = both-small (now (a .s)) (a .at) (after-read-low .read-low .ensures) (m .1) (after-read-low2 .read-low2 .ensures) (n .1) in
     omega arith
 
 add-t19 : tie.Need-add-t19
@@ -66,11 +78,9 @@ add-t19 c =
     let after-read-low = after-middle .before .before in
     let entry = after-read-low .before .before in
     let a = entry .args in
-    let h : after-middle .middle .given .0 .0 < 2 ^ 16 =
-    read-below (lowFirst 2) (low-below 2) (now (a .s)) (a .at) (read-value _ (after-read-low .read-low .ensures) (after-middle .middle .given .1)) in
-    let k : after-low .low .given .0 .0 < 2 ^ 32 =
-    read-below (lowFirst 4) (low-below 4) (now (a .s)) (after-middle .middle .given .0 .1 .0)
-    (read-value _ (after-read-low2 .read-low2 .ensures) (after-low .low .given .1)) in
+    let m = after-middle .middle .given in
+    let n = after-low .low .given in
+    let small = both-small (now (a .s)) (a .at) (after-read-low .read-low .ensures) (m .1) (after-read-low2 .read-low2 .ensures) (n .1) in
     omega arith
 
 enum-known-k : tie.Need-enum-known-k

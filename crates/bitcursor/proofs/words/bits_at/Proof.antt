@@ -1,8 +1,7 @@
 -- The bits lie in one byte or in two, and are what is left of them after a shift and a remainder.
 use native.Mathlib.Omega.{arith}
-use lib.Pow.{pow-pos}
 use denote.Ref.{now}
-use Rattle.bitcursor.proofs.Parts.{in-one, in-two, one-shl}
+use Rattle.bitcursor.proofs.Parts.{in-one, in-two, shl-pos}
 use borrow.Author.Needs.{needs}
 use Rattle.bitcursor.proofs.words.bits_at.Statement.{statement}
 use Rattle.bitcursor.proofs.words.bits_at.Tie as tie
@@ -23,7 +22,9 @@ shl-result : tie.Need-shl-result
 shl-result c = search needs
 
 rem-result : tie.Need-rem-result
-rem-result c = rw (one-shl (c .before .before .before .before .args .n) (omega arith)) (pow-pos (c .before .before .before .before .args .n))
+rem-result c =
+    let after-known = c .before .before in
+    shl-pos (after-known .before .before .args .n) (omega arith)
 
 returns : tie.Need-returns
 returns c =
@@ -60,8 +61,9 @@ shl-result-2 c = search needs
 
 rem-result-2 : tie.Need-rem-result-2
 rem-result-2 c =
-    rw (one-shl (c .before .before .before .before .before .before .args .n) (omega arith))
-    (pow-pos (c .before .before .before .before .before .before .args .n))
+    let after-wide = c .before .before in
+    let after-known = after-wide .before .before in
+    shl-pos (after-known .before .before .args .n) (omega arith)
 
 returns-2 : tie.Need-returns-2
 returns-2 c =

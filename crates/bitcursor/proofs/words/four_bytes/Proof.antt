@@ -59,9 +59,12 @@ add-result-3 c = search needs
 
 returns : tie.Need-returns
 returns c =
-    let a = c .before .before .before .before .before .before .before .before .before .args in (
-      rw (c .before .before .before .before .before .before .wide .ensures .0, c .before .before .before .before .wide2 .ensures .0, c .before .before .wide3 .ensures .0, c .wide4 .ensures .0)
-          (four (now (a .s)) (λ i. omega (arith, c .before .shared-slice-known5 .given i)) (a .q) (omega arith)),
+    let after-wide3 = c .before .before in
+    let after-wide2 = after-wide3 .before .before in
+    let after-wide = after-wide2 .before .before in
+    let a = after-wide .before .before .before .args in (
+      four (now (a .s)) (λ i. omega (arith, c .before .shared-slice-known5 .given i)) (a .q) (omega arith) (after-wide .wide .ensures .0)
+          (after-wide2 .wide2 .ensures .0) (after-wide3 .wide3 .ensures .0) (c .wide4 .ensures .0),
       search needs,
     )
 

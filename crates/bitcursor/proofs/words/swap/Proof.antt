@@ -1,7 +1,5 @@
 -- Each byte is taken by a shift, and they are put together from the other end.
-use Prim.Native.Nat.{_/_, _%_}
-use native.Mathlib.Nat.{add-zero}
-use Rattle.bitcursor.specs.Bytes.{swapped}
+use Rattle.bitcursor.proofs.Swaps.{eight-swapped}
 use borrow.Author.Needs.{needs}
 use Rattle.bitcursor.proofs.words.swap.Statement.{statement}
 use Rattle.bitcursor.proofs.words.swap.Tie as tie
@@ -73,9 +71,17 @@ add-result-7 : tie.Need-add-result-7
 add-result-7 c = search needs
 
 returns : tie.Need-returns
-unfolding swapped
 returns c =
-    rw (c .byte-of8 .ensures .0, c .before .byte-of7 .ensures .0, c .before .before .byte-of6 .ensures .0, c .before .before .before .byte-of5 .ensures .0, c .before .before .before .before .byte-of4 .ensures .0, c .before .before .before .before .before .byte-of3 .ensures .0, c .before .before .before .before .before .before .byte-of2 .ensures .0, c .before .before .before .before .before .before .before .byte-of .ensures .0, add-zero (c .before .before .before .before .before .before .before .before .args .x / 1 % 256))
+    let after-b6 = c .before in
+    let after-b5 = after-b6 .before in
+    let after-b4 = after-b5 .before in
+    let after-b3 = after-b4 .before in
+    let after-b2 = after-b3 .before in
+    let after-b1 = after-b2 .before in
+    let after-b0 = after-b1 .before in
+    eight-swapped (after-b0 .before .args .x) (after-b0 .byte-of .ensures .0) (after-b1 .byte-of2 .ensures .0) (after-b2 .byte-of3 .ensures .0)
+    (after-b3 .byte-of4 .ensures .0) (after-b4 .byte-of5 .ensures .0) (after-b5 .byte-of6 .ensures .0) (after-b6 .byte-of7 .ensures .0)
+    (c .byte-of8 .ensures .0)
 
 pub swap-spec : {M : Type 1} → statement M
 swap-spec =

@@ -29,10 +29,10 @@ add-result c = search needs
 
 returns : tie.Need-returns
 returns c =
-    let first = c .before .before in
-    let a = first .before .before .before .args in (
-      rw (first .wide .ensures .0, c .wide2 .ensures .0) (two (now (a .s)) (λ i. omega (arith, c .before .shared-slice-known3 .given i)) (a .q)
-          (omega arith)),
+    let after-wide = c .before .before in
+    let a = after-wide .before .before .before .args in (
+      two (now (a .s)) (λ i. omega (arith, c .before .shared-slice-known3 .given i)) (a .q) (omega arith) (after-wide .wide .ensures .0)
+          (c .wide2 .ensures .0),
       search needs,
     )
 

@@ -24,7 +24,14 @@ flag-requires-5 : tie.Need-flag-requires-5
 flag-requires-5 c κs = search needs
 
 returns-2 : tie.Need-returns-2
-returns-2 c = rw (not-false (c .before .before .before .before .before .before .before .args .row .«color_flags») (c .before .before .before .before .before .if1 .left), c .flag5 .ensures, c .before .flag4 .ensures, c .before .before .flag3 .ensures, c .before .before .before .flag2 .ensures, c .before .before .before .before .flag .ensures)
+returns-2 c =
+    let alpha = c .before in
+    let name = alpha .before in
+    let rgb = name .before in
+    let book = rgb .before in
+    let flags = book .before in
+    let has = not-false (flags .before .before .args .row .«color_flags») (flags .if1 .left) in
+    rw (has, c .flag5 .ensures, alpha .flag4 .ensures, name .flag3 .ensures, rgb .flag2 .ensures, book .flag .ensures)
 
 pub announced-by-spec : {M : Type 1} → statement M
 announced-by-spec =

@@ -1,6 +1,8 @@
--- Each step goes on from the one before it.
+-- Each step goes on from the one before it; below 2000 there is nothing to go on to.
 use mathlib.Core.Path.{_≡_, refl, sym, ap, _∙_}
+use denote.Ref.{now}
 use Rattle.common_entity.specs.Parts.{coloursOf}
+use Rattle.common_entity.specs.PlainColours.{plain-colours}
 use borrow.Author.Needs.{needs}
 use Rattle.common_entity.proofs.parts.read_colours.Statement.{statement}
 use Rattle.common_entity.proofs.parts.read_colours.Tie as tie
@@ -10,6 +12,17 @@ then-bs-requires c κs = search needs
 
 value-of-requires : tie.Need-value-of-requires
 value-of-requires c κs = search needs
+
+then-bits-requires : tie.Need-then-bits-requires
+then-bits-requires c κs = search needs
+
+returns : tie.Need-returns
+returns c =
+    let colour = c .before .before in
+    let read = colour .before in
+    let a = read .before .before .args in
+    let e = plain-colours (a .row) (now (a .s)) (a .prior) (read .then-bs .ensures) (rw (colour .value-of .ensures) at (c .before .if1 .taken)) in
+    rw (c .then-bits .ensures, colour .value-of .ensures) (sym e)
 
 announced-by-requires : tie.Need-announced-by-requires
 announced-by-requires c κs = search needs
@@ -35,9 +48,19 @@ value-of-requires-3 c κs = search needs
 value-of-requires-4 : tie.Need-value-of-requires-4
 value-of-requires-4 c κs = search needs
 
-returns : tie.Need-returns
+returns-2 : tie.Need-returns-2
 unfolding coloursOf
-returns c = rw (c .value-of4 .ensures, c .before .value-of3 .ensures, c .before .before .value-of2 .ensures, c .before .before .before .then-name2 .ensures, c .before .before .before .before .then-name .ensures, c .before .before .before .before .before .then-bl2 .ensures, c .before .before .before .before .before .before .then-bl .ensures, c .before .before .before .before .before .before .before .announced-by .ensures, c .before .before .before .before .before .before .before .before .value-of .ensures, c .before .before .before .before .before .before .before .before .before .then-bs .ensures)
+returns-2 c =
+    let alphas = c .before in
+    let rgbs = alphas .before in
+    let book = rgbs .before in
+    let named = book .before in
+    let alpha = named .before in
+    let rgb = alpha .before in
+    let has = rgb .before in
+    let colour = has .before .before in
+    rw (c .value-of4 .ensures, alphas .value-of3 .ensures, rgbs .value-of2 .ensures, book .then-name2 .ensures, named .then-name .ensures)
+    (rw (alpha .then-bl2 .ensures, rgb .then-bl .ensures, has .announced-by .ensures, colour .value-of .ensures, colour .before .then-bs .ensures))
 
 pub read-colours-spec : {M : Type 1} → statement M
 read-colours-spec =
@@ -45,6 +68,8 @@ read-colours-spec =
     (tie.spec
     then-bs-requires
     value-of-requires
+    then-bits-requires
+    returns
     announced-by-requires
     then-bl-requires
     then-bl-requires-2
@@ -53,4 +78,4 @@ read-colours-spec =
     value-of-requires-2
     value-of-requires-3
     value-of-requires-4
-    returns)
+    returns-2)

@@ -28,7 +28,14 @@ value-of-requires-3 c κs = search needs
 
 returns : tie.Need-returns
 unfolding headOf RL extended chainFrom
-returns c = rw (c .value-of3 .ensures, c .before .value-of2 .ensures, c .before .before .value-of .ensures, c .before .before .before .then-low .ensures, c .before .before .before .before .then-graphics .ensures, c .before .before .before .before .before .skip-extended-data .ensures)
+returns c =
+    let draws = c .before in
+    let xdatas = draws .before in
+    let end = xdatas .before in
+    let drawn = end .before in
+    let xdata = drawn .before in
+    rw (c .value-of3 .ensures, draws .value-of2 .ensures, xdatas .value-of .ensures, end .then-low .ensures)
+    (rw (drawn .then-graphics .ensures, xdata .skip-extended-data .ensures))
 
 pub read-head-spec : {M : Type 1} → statement M
 read-head-spec =

@@ -45,7 +45,21 @@ value-of-requires-6 c κs = search needs
 
 returns : tie.Need-returns
 unfolding modesOf held BB
-returns c = rw (c .value-of6 .ensures, c .before .value-of5 .ensures, c .before .before .value-of4 .ensures, c .before .before .before .value-of3 .ensures, c .before .before .before .before .value-of2 .ensures, c .before .before .before .before .before .value-of .ensures, c .before .before .before .before .before .before .then-bits5 .ensures, c .before .before .before .before .before .before .before .then-bits4 .ensures, c .before .before .before .before .before .before .before .before .then-bits3 .ensures, c .before .before .before .before .before .before .before .before .before .then-bits2 .ensures, c .before .before .before .before .before .before .before .before .before .before .then-bl .ensures, c .before .before .before .before .before .before .before .before .before .before .before .then-bits .ensures)
+returns c =
+    let by-layers = c .before in
+    let binaries = by-layers .before in
+    let dictionaries = binaries .before in
+    let reactors = dictionaries .before in
+    let modes = reactors .before in
+    let links = modes .before in
+    let by-layer = links .before in
+    let binary = by-layer .before in
+    let dictionary = binary .before in
+    let reactor = dictionary .before in
+    let mode = reactor .before in
+    rw (c .value-of6 .ensures, by-layers .value-of5 .ensures, binaries .value-of4 .ensures, dictionaries .value-of3 .ensures)
+    (rw (reactors .value-of2 .ensures, modes .value-of .ensures, links .then-bits5 .ensures, by-layer .then-bits4 .ensures)
+    (rw (binary .then-bits3 .ensures, dictionary .then-bits2 .ensures, reactor .then-bl .ensures, mode .then-bits .ensures)))
 
 pub read-modes-spec : {M : Type 1} → statement M
 read-modes-spec =

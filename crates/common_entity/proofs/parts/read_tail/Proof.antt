@@ -38,7 +38,18 @@ value-of-requires-5 c κs = search needs
 
 returns : tie.Need-returns
 unfolding tailOf RC
-returns c = rw (c .value-of5 .ensures, c .before .value-of4 .ensures, c .before .before .value-of3 .ensures, c .before .before .before .value-of2 .ensures, c .before .before .before .before .value-of .ensures, c .before .before .before .before .before .then-low .ensures, c .before .before .before .before .before .before .then-bs .ensures, c .before .before .before .before .before .before .before .then-bits3 .ensures, c .before .before .before .before .before .before .before .before .then-bits2 .ensures, c .before .before .before .before .before .before .before .before .before .then-bits .ensures)
+returns c =
+    let invisibles = c .before in
+    let edges = invisibles .before in
+    let faces = edges .before in
+    let fulls = faces .before in
+    let weight = fulls .before in
+    let invisible = weight .before in
+    let edge = invisible .before in
+    let face = edge .before in
+    let full = face .before in
+    rw (c .value-of5 .ensures, invisibles .value-of4 .ensures, edges .value-of3 .ensures, faces .value-of2 .ensures, fulls .value-of .ensures)
+    (rw (weight .then-low .ensures, invisible .then-bs .ensures, edge .then-bits3 .ensures, face .then-bits2 .ensures, full .then-bits .ensures))
 
 pub read-tail-spec : {M : Type 1} → statement M
 read-tail-spec =

@@ -1,7 +1,24 @@
 -- Each number is in its field's range, and stands in its field.
-use mathlib.Core.Path.{_≡_, refl, sym, ap, _∙_}
+use mathlib.Core.Path.{_≡_, _∙_}
+use mathlib.Core.Bool.{true, not}
+use mathlib.Core.List.{[], _∷_}
+use lib.Dec.{eqb}
+use lib.IntN.{ℤ}
 use mir.Syntax.{w16}
 use mir.ValLaws.{toZ-ofZ}
+use Rattle.bitcursor.specs.Codes.{signed}
+use Rattle.common_entity.specs.declared.EntityMode.{EntityMode}
+use Rattle.common_entity.specs.declared.CommonEntityBits.{CommonEntityBits}
+use Rattle.common_entity.specs.declared.table.Row.{Row}
+use Rattle.common_entity.specs.declared.parts.Announced.{Announced}
+use Rattle.common_entity.specs.declared.parts.Head.{Head}
+use Rattle.common_entity.specs.declared.parts.Modes.{Modes}
+use Rattle.common_entity.specs.declared.parts.Colours.{Colours}
+use Rattle.common_entity.specs.declared.parts.Styles.{Styles}
+use Rattle.common_entity.specs.declared.parts.Tail.{Tail}
+use Rattle.common_entity.specs.Values.{modeOf, maybe}
+use Rattle.common_entity.specs.Parts.{announcedBy}
+use Rattle.common_entity.specs.Record.{bitsOf}
 use borrow.Author.Needs.{needs}
 use Rattle.common_entity.proofs.record.common_bits.Statement.{statement}
 use Rattle.common_entity.proofs.record.common_bits.Tie as tie
@@ -30,27 +47,83 @@ cast-t16 c = search needs
 short-of-requires : tie.Need-short-of-requires
 short-of-requires c κs = search needs
 
+-- the entry, from where the colour is cast
+abbrev entry : tie.After-struct-known10 → tie.Start
+entry s =
+    let known8 = s .before .before .before in
+    let known5 = known8 .before .before .before in
+    let known2 = known5 .before .before .before in
+    let has = known2 .before .before .before in
+    has .before
+
+-- where the rgb is cast, from where the lineweight is
+abbrev from-weight : tie.After-struct-known17 → tie.After-struct-known11
+from-weight s =
+    let known14 = s .before .before .before in
+    known14 .before .before .before
+
 cast-t19 : tie.Need-cast-t19
-cast-t19 c = record { fits = c .before .before .before .before .before .before .before .before .before .before .before .before .before .pre .colour }
+cast-t19 c = record { fits = entry c .pre .colour }
 
 cast-t20 : tie.Need-cast-t20
-cast-t20 c = record { fits = c .before .before .before .before .before .before .before .before .before .before .before .before .before .before .pre .rgb }
+cast-t20 c = record { fits = entry (c .before) .pre .rgb }
 
 cast-t22 : tie.Need-cast-t22
-cast-t22 c = record { fits = c .before .before .before .before .before .before .before .before .before .before .before .before .before .before .before .pre .alpha }
+cast-t22 c = record { fits = entry (c .before .before) .pre .alpha }
 
 cast-t24 : tie.Need-cast-t24
-cast-t24 c = record { fits = c .before .before .before .before .before .before .before .before .before .before .before .before .before .before .before .before .pre .linetype }
+cast-t24 c = record { fits = entry (c .before .before .before) .pre .linetype }
 
 cast-t29 : tie.Need-cast-t29
-cast-t29 c = record { fits = c .before .before .before .before .before .before .before .before .before .before .before .before .before .before .before .before .before .before .before .before .pre .weight }
+cast-t29 c = let known11 = from-weight c in record { fits = entry (known11 .before) .pre .weight }
 
 cast-t32 : tie.Need-cast-t32
-cast-t32 c = record { fits = c .before .before .before .before .before .before .before .before .before .before .before .before .before .before .before .before .before .before .before .before .before .before .before .pre .end }
+cast-t32 c =
+    let known11 = from-weight (c .before .before .before) in
+    record { fits = entry (known11 .before) .pre .end }
+
+-- the record with the mode, the signed invisibility and what the colour announces as they were made
+module _ (row : Row) (h : Head) (m : Modes) (c : Colours) (t : Styles) (e : Tail) where
+  made : {mode : EntityMode} {invisible : ℤ} {has : Announced} → mode ≡ modeOf (m .mode) → invisible ≡ signed 16 (e .invisible)
+      → has ≡ announcedBy row (c .colour)
+      → record {
+        «raw_mode» = m .mode;
+        mode = mode;
+        «num_reactors» = m .reactors;
+        «no_xdictionary» = eqb 1 (m .«no_dictionary»);
+        «binary_chain» = eqb 1 (m .binary);
+        «is_on_layer» = true;
+        «non_fixed_ltype» = not (eqb 1 (m .«by_layer»));
+        «plotstyle_flag» = t .plot;
+        «material_flag» = t .material;
+        «shadow_flags» = t .shadow;
+        invisibility = invisible;
+        nolinks = eqb 1 (m .links);
+        «color_raw» = c .colour;
+        «color_rgb» = maybe (has .rgb) (c .rgb);
+        «color_alpha» = maybe (has .alpha) (c .alpha);
+        «ltype_scale» = t .scale;
+        «ltype_flags» = t .linetype;
+        «visual_style_flags» = eqb 1 (e .full) ∷ (eqb 1 (e .face) ∷ (eqb 1 (e .edge) ∷ []));
+        lineweight = e .weight;
+        «had_graphics» = eqb 1 (h .drawn);
+        «had_extended_data» = eqb 1 (h .xdata);
+        «data_end_bits» = maybe (row .«data_end») (h .end);
+      }
+      ≡ bitsOf row h m c t e
+  made p q r = rw (p, q, r)
 
 returns : tie.Need-returns
 returns c =
-    rw (toZ-ofZ w16 (c .before .before .before .before .before .before .before .before .before .before .before .before .short-of .result) (record { sfits = c .before .before .before .before .before .before .before .before .before .before .before .before .short-of .ok }), c .before .before .before .before .before .before .before .before .before .before .before .before .short-of .ensures, c .before .before .before .before .before .before .before .before .before .before .before .before .before .before .before .before .before .before .before .before .entity-mode .ensures, c .before .before .before .before .before .before .before .before .before .before .before .before .before .before .before .before .before .before .before .before .before .before .announced-by .ensures)
+    let known11 = from-weight (c .before .before .before) in
+    let short = known11 .before .before .before in
+    let known6 = short .before .before .before in
+    let known3 = known6 .before .before .before in
+    let mode = known3 .before .before in
+    let has = mode .before .before in
+    let a = has .before .args in
+    let signed = toZ-ofZ w16 (short .short-of .result) (record { sfits = short .short-of .ok }) in
+    made (a .row) (a .h) (a .m) (a .c) (a .t) (a .e) (mode .entity-mode .ensures) (signed ∙ short .short-of .ensures) (has .announced-by .ensures)
 
 pub common-bits-spec : {M : Type 1} → statement M
 common-bits-spec =

@@ -11,7 +11,11 @@ double-of-requires c κs = search needs
 
 returns : tie.Need-returns
 returns c =
-    rw (toZ-ofZ w16 (c .before .before .before .before .before .before .args .b .invisibility) (record { sfits = c .struct-told .given .1 .1 .1 .1 .1 .1 .1 .1 .1 .1 .0 .1 }), c .before .double-of .ensures)
+    let double = c .before in
+    let first = double .before .before .before in
+    let b = first .before .before .args .b in
+    let told = c .struct-told .given .1 .1 .1 .1 .1 in
+    rw (toZ-ofZ w16 (b .invisibility) (record { sfits = told .1 .1 .1 .1 .1 .0 .1 }), double .double-of .ensures)
 
 pub common-data-spec : {M : Type 1} → statement M
 common-data-spec = tie.close (tie.spec double-of-requires returns)

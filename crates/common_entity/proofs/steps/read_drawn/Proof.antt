@@ -34,24 +34,42 @@ enum-known-size-2 c = search needs
 returns : tie.Need-returns
 unfolding drawing give
 returns c =
-    let a = c .before .before .before .before .before .before .before .before .before .args in
-    let m = c .before .before .before .before .before .size .given in
-    sym (ap asRead (then-got (checked (a .bll) BLL RL) (λ size. skip size >>= λ passed. give 1) (now (a .s)) (a .at) (read-value _ (c .before .before .before .before .before .before .before .read-size .ensures) (m .1))
-    ∙ then-got (skip (m .0 .0)) (λ passed. give 1) (now (a .s)) (m .0 .1 .0) (passed-got _ (c .before .before .before .skip-bytes .ensures) (c .before .e .given .1))))
+    let after-e = c .before in
+    let after-skip-bytes = after-e .before .before in
+    let after-size = after-skip-bytes .before .before in
+    let after-read-size = after-size .before .before in
+    let entry = after-read-size .before .before in
+    let a = entry .args in
+    let m = after-size .size .given in
+    sym (ap asRead (then-got (checked (a .bll) BLL RL) (λ size. skip size >>= λ passed. give 1) (now (a .s)) (a .at)
+    (read-value _ (after-read-size .read-size .ensures) (m .1))
+    ∙ then-got (skip (m .0 .0)) (λ passed. give 1) (now (a .s)) (m .0 .1 .0)
+    (passed-got _ (after-skip-bytes .skip-bytes .ensures) (after-e .e .given .1))))
 
 returns-2 : tie.Need-returns-2
 unfolding drawing
 returns-2 c =
-    let a = c .before .before .before .before .before .before .before .before .before .args in
-    let m = c .before .before .before .before .before .size .given in
-    sym (ap asRead (then-got (checked (a .bll) BLL RL) (λ size. skip size >>= λ passed. give 1) (now (a .s)) (a .at) (read-value _ (c .before .before .before .before .before .before .before .read-size .ensures) (m .1))
-    ∙ then-refused (skip (m .0 .0)) (λ passed. give 1) (now (a .s)) (m .0 .1 .0) (passed-refused _ (c .before .before .before .skip-bytes .ensures) (c .before .k .given .1))))
+    let after-k = c .before in
+    let after-skip-bytes = after-k .before .before in
+    let after-size = after-skip-bytes .before .before in
+    let after-read-size = after-size .before .before in
+    let entry = after-read-size .before .before in
+    let a = entry .args in
+    let m = after-size .size .given in
+    sym (ap asRead (then-got (checked (a .bll) BLL RL) (λ size. skip size >>= λ passed. give 1) (now (a .s)) (a .at)
+    (read-value _ (after-read-size .read-size .ensures) (m .1))
+    ∙ then-refused (skip (m .0 .0)) (λ passed. give 1) (now (a .s)) (m .0 .1 .0)
+    (passed-refused _ (after-skip-bytes .skip-bytes .ensures) (after-k .k .given .1))))
 
 returns-3 : tie.Need-returns-3
 unfolding drawing
 returns-3 c =
-    let a = c .before .before .before .before .before .args in
-    sym (ap asRead (then-refused (checked (a .bll) BLL RL) (λ size. skip size >>= λ passed. give 1) (now (a .s)) (a .at) (read-refused _ (c .before .before .before .read-size .ensures) (c .before .size2 .given .1))))
+    let after-size2 = c .before in
+    let after-read-size = after-size2 .before .before in
+    let entry = after-read-size .before .before in
+    let a = entry .args in
+    sym (ap asRead (then-refused (checked (a .bll) BLL RL) (λ size. skip size >>= λ passed. give 1) (now (a .s)) (a .at)
+    (read-refused _ (after-read-size .read-size .ensures) (after-size2 .size2 .given .1))))
 
 pub read-drawn-spec : {M : Type 1} → statement M
 read-drawn-spec =

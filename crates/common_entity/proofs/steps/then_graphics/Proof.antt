@@ -26,11 +26,16 @@ read-drawn-requires c κs = search needs
 returns : tie.Need-returns
 unfolding graphics held
 returns c =
-    let a = c .before .before .before .before .before .before .before .args in
-    let m = c .before .before .before .had .given in
+    let then1 = c .before in
+    let after-had = then1 .before .before in
+    let after-then-bits = after-had .before .before in
+    let entry = after-then-bits .before .before in
+    let a = entry .args in
+    let m = after-had .had .given in
     c .read-drawn .ensures
-    ∙ sym (then-on BIT (λ had. checked (eqb had 1) (drawing (a .bll)) (give 0)) (now (a .s)) (a .prior) (c .before .before .before .before .before .then-bits .ensures) (m .1)
-    ∙ ap (λ (d : Code ℕ). asRead (d .read (now (a .s)) (m .0 .1 .0))) (checked-yes (drawing (a .bll)) (give 0) (eq-eqb (m .0 .0) 1 (c .before .if1 .taken))))
+    ∙ sym (then-on BIT (λ had. checked (eqb had 1) (drawing (a .bll)) (give 0)) (now (a .s)) (a .prior) (after-then-bits .then-bits .ensures) (m .1)
+    ∙ ap (λ (d : Code ℕ). asRead (d .read (now (a .s)) (m .0 .1 .0))) (checked-yes (drawing (a .bll)) (give 0)
+    (eq-eqb (m .0 .0) 1 (then1 .if1 .taken))))
 
 enum-known-k : tie.Need-enum-known-k
 enum-known-k c = search needs
@@ -38,16 +43,23 @@ enum-known-k c = search needs
 returns-2 : tie.Need-returns-2
 unfolding graphics held give
 returns-2 c =
-    let a = c .before .before .before .before .before .before .args in
-    let m = c .before .before .had .given in
-    sym (then-on BIT (λ had. checked (eqb had 1) (drawing (a .bll)) (give 0)) (now (a .s)) (a .prior) (c .before .before .before .before .then-bits .ensures) (m .1)
+    let after-had = c .before .before in
+    let after-then-bits = after-had .before .before in
+    let entry = after-then-bits .before .before in
+    let a = entry .args in
+    let m = after-had .had .given in
+    sym (then-on BIT (λ had. checked (eqb had 1) (drawing (a .bll)) (give 0)) (now (a .s)) (a .prior) (after-then-bits .then-bits .ensures) (m .1)
     ∙ ap (λ (d : Code ℕ). asRead (d .read (now (a .s)) (m .0 .1 .0))) (checked-no (drawing (a .bll)) (give 0) (ne-eqb (m .0 .0) 1 (c .if1 .left))))
 
 returns-3 : tie.Need-returns-3
 unfolding graphics held
 returns-3 c =
-    let a = c .before .before .before .before .before .args in
-    sym (then-off BIT (λ had. checked (eqb had 1) (drawing (a .bll)) (give 0)) (now (a .s)) (a .prior) (c .before .before .before .then-bits .ensures) (c .before .k .given .1))
+    let after-k = c .before in
+    let after-then-bits = after-k .before .before in
+    let entry = after-then-bits .before .before in
+    let a = entry .args in
+    sym (then-off BIT (λ had. checked (eqb had 1) (drawing (a .bll)) (give 0)) (now (a .s)) (a .prior) (after-then-bits .then-bits .ensures)
+    (after-k .k .given .1))
 
 pub then-graphics-spec : {M : Type 1} → statement M
 then-graphics-spec =

@@ -25,17 +25,29 @@ enum-known-k c = search needs
 
 returns : tie.Need-returns
 returns c =
-    let a = c .before .before .before .before .before .before .before .before .before .args in
-    let m = c .before .before .before .before .before .before .prior .given in
-    let h = ap (thenRead ((held (a .has) (name (a .two-bytes)) 0) .read (now (a .s)))) (m .1) ∙ ap (λ (d : Code ℕ). asRead (d .read (now (a .s)) (m .0 .1 .0))) (held-yes (name (a .two-bytes)) 0 (c .before .before .before .before .if1 .taken)) in
-    sym (h ∙ ap asRead (name-found (a .two-bytes) (now (a .s)) (m .0 .1 .0) (c .before .before .before .read-tv-by .ensures) (c .before .q .given .1)))
+    let after-q = c .before in
+    let after-read-tv-by = after-q .before .before in
+    let then1 = after-read-tv-by .before in
+    let after-prior = then1 .before .before in
+    let entry = after-prior .before .before .before in
+    let a = entry .args in
+    let m = after-prior .prior .given in
+    let h = ap (thenRead ((held (a .has) (name (a .two-bytes)) 0) .read (now (a .s)))) (m .1) ∙ ap
+    (λ (d : Code ℕ). asRead (d .read (now (a .s)) (m .0 .1 .0))) (held-yes (name (a .two-bytes)) 0 (then1 .if1 .taken)) in
+    sym (h ∙ ap asRead (name-found (a .two-bytes) (now (a .s)) (m .0 .1 .0) (after-read-tv-by .read-tv-by .ensures) (after-q .q .given .1)))
 
 returns-2 : tie.Need-returns-2
 returns-2 c =
-    let a = c .before .before .before .before .before .before .before .before .before .args in
-    let m = c .before .before .before .before .before .before .prior .given in
-    let h = ap (thenRead ((held (a .has) (name (a .two-bytes)) 0) .read (now (a .s)))) (m .1) ∙ ap (λ (d : Code ℕ). asRead (d .read (now (a .s)) (m .0 .1 .0))) (held-yes (name (a .two-bytes)) 0 (c .before .before .before .before .if1 .taken)) in
-    sym (h ∙ ap asRead (name-refused (a .two-bytes) (now (a .s)) (m .0 .1 .0) (c .before .before .before .read-tv-by .ensures) (c .before .k .given .1)))
+    let after-k = c .before in
+    let after-read-tv-by = after-k .before .before in
+    let then1 = after-read-tv-by .before in
+    let after-prior = then1 .before .before in
+    let entry = after-prior .before .before .before in
+    let a = entry .args in
+    let m = after-prior .prior .given in
+    let h = ap (thenRead ((held (a .has) (name (a .two-bytes)) 0) .read (now (a .s)))) (m .1) ∙ ap
+    (λ (d : Code ℕ). asRead (d .read (now (a .s)) (m .0 .1 .0))) (held-yes (name (a .two-bytes)) 0 (then1 .if1 .taken)) in
+    sym (h ∙ ap asRead (name-refused (a .two-bytes) (now (a .s)) (m .0 .1 .0) (after-read-tv-by .read-tv-by .ensures) (after-k .k .given .1)))
 
 enum-known-prior-2 : tie.Need-enum-known-prior-2
 enum-known-prior-2 c = search needs
@@ -43,14 +55,19 @@ enum-known-prior-2 c = search needs
 returns-3 : tie.Need-returns-3
 unfolding give
 returns-3 c =
-    let a = c .before .before .before .before .before .args in
-    let m = c .before .before .prior .given in
-    sym (ap (thenRead ((held (a .has) (name (a .two-bytes)) 0) .read (now (a .s)))) (m .1) ∙ ap (λ (d : Code ℕ). asRead (d .read (now (a .s)) (m .0 .1 .0))) (held-no (name (a .two-bytes)) 0 (c .if1 .left)))
+    let after-prior = c .before .before in
+    let entry = after-prior .before .before .before in
+    let a = entry .args in
+    let m = after-prior .prior .given in
+    sym (ap (thenRead ((held (a .has) (name (a .two-bytes)) 0) .read (now (a .s)))) (m .1) ∙ ap
+    (λ (d : Code ℕ). asRead (d .read (now (a .s)) (m .0 .1 .0))) (held-no (name (a .two-bytes)) 0 (c .if1 .left)))
 
 returns-4 : tie.Need-returns-4
 returns-4 c =
-    let a = c .before .before .before .before .args in
-    sym (ap (thenRead ((held (a .has) (name (a .two-bytes)) 0) .read (now (a .s)))) (c .before .prior2 .given .1))
+    let after-prior2 = c .before in
+    let entry = after-prior2 .before .before .before in
+    let a = entry .args in
+    sym (ap (thenRead ((held (a .has) (name (a .two-bytes)) 0) .read (now (a .s)))) (after-prior2 .prior2 .given .1))
 
 pub then-name-spec : {M : Type 1} → statement M
 then-name-spec =

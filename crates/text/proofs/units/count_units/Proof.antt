@@ -46,13 +46,17 @@ sub-result c = search needs
 
 returns-2 : tie.Need-returns-2
 returns-2 c =
-    let a = c .before .before .before .before .args in
-    count-closed (now (a .s)) (a .at) (a .k) (a .n) (omega arith) (sym (c .before .low-at .ensures) ∙ c .if2 .taken)
+    let after-low-at = c .before in
+    let entry = after-low-at .before .before .before in
+    let a = entry .args in
+    count-closed (now (a .s)) (a .at) (a .k) (a .n) (omega arith) (sym (after-low-at .low-at .ensures) ∙ c .if2 .taken)
 
 returns-3 : tie.Need-returns-3
 returns-3 c =
-    let a = c .before .before .before .before .args in
-    count-open (now (a .s)) (a .at) (a .k) (a .n) (omega arith) (λ z. c .if2 .left (c .before .low-at .ensures ∙ z))
+    let after-low-at = c .before in
+    let entry = after-low-at .before .before .before in
+    let a = entry .args in
+    count-open (now (a .s)) (a .at) (a .k) (a .n) (omega arith) (λ z. c .if2 .left (after-low-at .low-at .ensures ∙ z))
 
 pub count-units-spec : {M : Type 1} → statement M
 count-units-spec =

@@ -40,10 +40,14 @@ is-low-requires c κs = search needs
 
 returns : tie.Need-returns Inv-loop μ-loop
 returns c =
-    let a = c .before .before .before .before .before .before .args in
-    let l = c .before .before .before .before .loop in
-    pass-stop (now (a .s)) (a .at) (a .n) (l .i) (omega arith) (l .half) (c .before .before .low-at .result) (c .before .is-low .result)
-    (c .before .before .low-at .ensures) (c .before .is-low .ensures) (c .if1 .taken)
+    let after-is-low = c .before in
+    let after-low-at = after-is-low .before in
+    let at-loop = after-low-at .before .before in
+    let entry = at-loop .before .before in
+    let a = entry .args in
+    let l = at-loop .loop in
+    pass-stop (now (a .s)) (a .at) (a .n) (l .i) (omega arith) (l .half) (after-low-at .low-at .result) (after-is-low .is-low .result)
+    (after-low-at .low-at .ensures) (after-is-low .is-low .ensures) (c .if1 .taken)
     ∙ sym (l .inv .1)
 
 is-high-requires : tie.Need-is-high-requires Inv-loop μ-loop
@@ -57,12 +61,18 @@ loop-less c = search needs
 
 loop-again : tie.Need-loop-again Inv-loop μ-loop
 loop-again c =
-    let a = c .before .before .before .before .before .before .before .args in
-    let l = c .before .before .before .before .before .loop in (
+    let else1 = c .before in
+    let after-is-low = else1 .before in
+    let after-low-at = after-is-low .before in
+    let at-loop = after-low-at .before .before in
+    let entry = at-loop .before .before in
+    let a = entry .args in
+    let l = at-loop .loop in (
       omega arith,
       l .inv .1
-          ∙ pass-on (now (a .s)) (a .at) (a .n) (l .i) (omega arith) (l .half) (c .before .before .before .low-at .result) (c .before .before .is-low .result) (c .is-high .result)
-          (c .before .before .before .low-at .ensures) (c .before .before .is-low .ensures) (c .before .if1 .left) (c .is-high .ensures),
+          ∙ pass-on (now (a .s)) (a .at) (a .n) (l .i) (omega arith) (l .half) (after-low-at .low-at .result) (after-is-low .is-low .result)
+          (c .is-high .result)
+          (after-low-at .low-at .ensures) (after-is-low .is-low .ensures) (else1 .if1 .left) (c .is-high .ensures),
     )
 
 returns-2 : tie.Need-returns-2 Inv-loop μ-loop

@@ -27,7 +27,9 @@ returns-7 : tie.Need-returns-7
 returns-7 c = sym (ap versionOf (c .match .keys7))
 
 returns-8 : tie.Need-returns-8
-returns-8 c = sym (unknown (c .before .args .release) (c .match .rest .0 .0 .0 .0 .0 .0 .1) (c .match .rest .0 .0 .0 .0 .0 .1) (c .match .rest .0 .0 .0 .0 .1) (c .match .rest .0 .0 .0 .1) (c .match .rest .0 .0 .1) (c .match .rest .0 .1) (c .match .rest .1))
+returns-8 c =
+    sym (unknown (c .before .args .release) (c .match .rest .0 .0 .0 .0 .0 .0 .1) (c .match .rest .0 .0 .0 .0 .0 .1) (c .match .rest .0 .0 .0 .0 .1)
+    (c .match .rest .0 .0 .0 .1) (c .match .rest .0 .0 .1) (c .match .rest .0 .1) (c .match .rest .1))
 
 pub version-of-spec : {M : Type 1} → statement M
 version-of-spec =

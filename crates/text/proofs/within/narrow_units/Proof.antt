@@ -19,8 +19,11 @@ enum-known-p c = search needs
 
 count-units-requires : tie.Need-count-units-requires
 count-units-requires c κs =
-    let a = c .before .before .before .before .before .args in
-    let t = passed-there (now (a .s)) (a .n) (a .at) (c .before .before .before .skip-bytes .ensures) (c .before .p .given .1) in
+    let after-p = c .before in
+    let after-skip-bytes = after-p .before .before in
+    let entry = after-skip-bytes .before .before in
+    let a = entry .args in
+    let t = passed-there (now (a .s)) (a .n) (a .at) (after-skip-bytes .skip-bytes .ensures) (after-p .p .given .1) in
     omega arith
 
 enum-known-k : tie.Need-enum-known-k
@@ -28,15 +31,22 @@ enum-known-k c = search needs
 
 returns : tie.Need-returns
 returns c =
-    let a = c .before .before .before .before .before .before .args in
-    let t = passed-there (now (a .s)) (a .n) (a .at) (c .before .before .before .before .skip-bytes .ensures) (c .before .before .p .given .1) in
-    units-found Main narrow (now (a .s)) (a .at) (a .n) (c .before .before .p .given .0 .0) (omega arith) (omega arith) (c .count-units .result) (c .count-units .ensures) refl
+    let after-p = c .before .before in
+    let after-skip-bytes = after-p .before .before in
+    let entry = after-skip-bytes .before .before in
+    let a = entry .args in
+    let t = passed-there (now (a .s)) (a .n) (a .at) (after-skip-bytes .skip-bytes .ensures) (after-p .p .given .1) in
+    units-found Main narrow (now (a .s)) (a .at) (a .n) (after-p .p .given .0 .0) (omega arith) (omega arith) (c .count-units .result)
+    (c .count-units .ensures) refl
 
 returns-2 : tie.Need-returns-2
 returns-2 c =
-    let a = c .before .before .before .before .before .args in
-    let t = passed-short (now (a .s)) (a .n) (a .at) (c .before .before .before .skip-bytes .ensures) (c .before .k .given .1) in
-    units-cut Main narrow (now (a .s)) (a .at) (a .n) (c .before .k .given .0 .1 .0) (omega arith) (t .why) (t .stop)
+    let after-k = c .before in
+    let after-skip-bytes = after-k .before .before in
+    let entry = after-skip-bytes .before .before in
+    let a = entry .args in
+    let t = passed-short (now (a .s)) (a .n) (a .at) (after-skip-bytes .skip-bytes .ensures) (after-k .k .given .1) in
+    units-cut Main narrow (now (a .s)) (a .at) (a .n) (after-k .k .given .0 .1 .0) (omega arith) (t .why) (t .stop)
 
 pub narrow-units-spec : {M : Type 1} → statement M
 narrow-units-spec =

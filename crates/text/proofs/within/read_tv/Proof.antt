@@ -20,7 +20,8 @@ returns : tie.Need-returns
 unfolding inlineText
 returns c =
     let a = c .before .before .before .args in
-    c .read-tv-by .ensures ∙ ap (λ (t : Bool). asText (placed Main (widthBy t) (a .at) ((TV (widthBy t)) .read (now (a .s)) (a .at)))) (c .before .is-r2007-plus .ensures)
+    c .read-tv-by .ensures ∙ ap (λ (t : Bool). asText (placed Main (widthBy t) (a .at) ((TV (widthBy t)) .read (now (a .s)) (a .at))))
+    (c .before .is-r2007-plus .ensures)
 
 pub read-tv-spec : {M : Type 1} → statement M
 read-tv-spec = tie.close (tie.spec is-r2007-plus-requires read-tv-by-requires returns)

@@ -1,15 +1,12 @@
 -- The units are passed by one comparison, the last one says how many are left, and one pass over those judges them.
-use mathlib.Core.Path.{_≡_, refl, sym, ap, subst, _∙_}
-use Prim.Native.Nat.{ℕ, _+_, _-_, _*_, _≤_, _<_}
+use mathlib.Core.Path.{sym, _∙_}
+use Prim.Native.Nat.{_*_}
 use native.Mathlib.Omega.{arith}
 use denote.Ref.{now}
-use mathlib.Core.Bool.{Bool, true, false}
 use Rattle.bitcursor.proofs.Steps.{passed-there, passed-short}
-use Rattle.text.specs.Units.{unitsAt}
-use Rattle.text.specs.Utf16.{pairedFrom}
 use Rattle.text.specs.Texts.{wide}
-use Rattle.text.proofs.UnitLaws.{count-most, unclosed-units}
-use Rattle.text.proofs.TextLaws.{units-found, units-bad, units-cut}
+use Rattle.text.proofs.UnitLaws.{count-most}
+use Rattle.text.proofs.TextLaws.{all-valid, units-found, units-bad, units-cut}
 use borrow.Author.Needs.{needs}
 use Rattle.text.proofs.within.wide_units.Statement.{statement}
 use Rattle.text.proofs.within.wide_units.Tie as tie
@@ -25,39 +22,61 @@ enum-known-p c = search needs
 
 count-units-requires : tie.Need-count-units-requires
 count-units-requires c κs =
-    let a = c .before .before .before .before .before .args in
-    let t = passed-there (now (a .s)) (2 * a .n) (a .at) (c .before .before .before .skip-bytes .ensures) (c .before .p .given .1) in
+    let after-p = c .before in
+    let after-skip-bytes = after-p .before .before in
+    let entry = after-skip-bytes .before .before in
+    let a = entry .args in
+    let t = passed-there (now (a .s)) (2 * a .n) (a .at) (after-skip-bytes .skip-bytes .ensures) (after-p .p .given .1) in
     omega arith
 
 is-utf16-requires : tie.Need-is-utf16-requires
 is-utf16-requires c κs =
-    let a = c .before .before .before .before .before .before .args in
-    let t = passed-there (now (a .s)) (2 * a .n) (a .at) (c .before .before .before .before .skip-bytes .ensures) (c .before .before .p .given .1) in
+    let after-p = c .before .before in
+    let after-skip-bytes = after-p .before .before in
+    let entry = after-skip-bytes .before .before in
+    let a = entry .args in
+    let t = passed-there (now (a .s)) (2 * a .n) (a .at) (after-skip-bytes .skip-bytes .ensures) (after-p .p .given .1) in
     let m = count-most (now (a .s)) (a .at) 2 (a .n) in
     omega (arith, c .count-units .ensures)
 
 returns : tie.Need-returns
 returns c =
-    let a = c .before .before .before .before .before .before .before .before .args in
-    let t = passed-there (now (a .s)) (2 * a .n) (a .at) (c .before .before .before .before .before .before .skip-bytes .ensures) (c .before .before .before .before .p .given .1) in
-    let l = c .before .is-utf16 .ensures ∙ ap (λ (m : ℕ). pairedFrom false (unitsAt (now (a .s)) (a .at) 2 m)) (c .before .before .count-units .ensures) ∙ ap (pairedFrom false) (sym (unclosed-units (now (a .s)) (a .at) 2 (a .n))) in
-    units-found (a .source) wide (now (a .s)) (a .at) (a .n) (c .before .before .before .before .p .given .0 .0) (omega arith) (omega arith) (c .before .before .count-units .result) (c .before .before .count-units .ensures) (sym l ∙ c .if1 .taken)
+    let after-is-utf16 = c .before in
+    let after-count-units = after-is-utf16 .before in
+    let after-p = after-count-units .before .before in
+    let after-skip-bytes = after-p .before .before in
+    let entry = after-skip-bytes .before .before in
+    let a = entry .args in
+    let t = passed-there (now (a .s)) (2 * a .n) (a .at) (after-skip-bytes .skip-bytes .ensures) (after-p .p .given .1) in
+    let counted = after-count-units .count-units in
+    let valid = all-valid (now (a .s)) (a .at) (a .n) (counted .result) (after-is-utf16 .is-utf16 .ensures) (counted .ensures) in
+    units-found (a .source) wide (now (a .s)) (a .at) (a .n) (after-p .p .given .0 .0) (omega arith) (omega arith)
+    (counted .result) (counted .ensures) (sym valid ∙ c .if1 .taken)
 
 enum-known-k : tie.Need-enum-known-k
 enum-known-k c = search needs
 
 returns-2 : tie.Need-returns-2
 returns-2 c =
-    let a = c .before .before .before .before .before .before .before .before .args in
-    let t = passed-there (now (a .s)) (2 * a .n) (a .at) (c .before .before .before .before .before .before .skip-bytes .ensures) (c .before .before .before .before .p .given .1) in
-    let l = c .before .is-utf16 .ensures ∙ ap (λ (m : ℕ). pairedFrom false (unitsAt (now (a .s)) (a .at) 2 m)) (c .before .before .count-units .ensures) ∙ ap (pairedFrom false) (sym (unclosed-units (now (a .s)) (a .at) 2 (a .n))) in
-    units-bad (a .source) wide (now (a .s)) (a .at) (a .n) (c .before .before .before .before .p .given .0 .0) (omega arith) (omega arith) (sym l ∙ c .if1 .left)
+    let after-is-utf16 = c .before in
+    let after-count-units = after-is-utf16 .before in
+    let after-p = after-count-units .before .before in
+    let after-skip-bytes = after-p .before .before in
+    let entry = after-skip-bytes .before .before in
+    let a = entry .args in
+    let t = passed-there (now (a .s)) (2 * a .n) (a .at) (after-skip-bytes .skip-bytes .ensures) (after-p .p .given .1) in
+    let counted = after-count-units .count-units in
+    let valid = all-valid (now (a .s)) (a .at) (a .n) (counted .result) (after-is-utf16 .is-utf16 .ensures) (counted .ensures) in
+    units-bad (a .source) wide (now (a .s)) (a .at) (a .n) (after-p .p .given .0 .0) (omega arith) (omega arith) (sym valid ∙ c .if1 .left)
 
 returns-3 : tie.Need-returns-3
 returns-3 c =
-    let a = c .before .before .before .before .before .args in
-    let t = passed-short (now (a .s)) (2 * a .n) (a .at) (c .before .before .before .skip-bytes .ensures) (c .before .k .given .1) in
-    units-cut (a .source) wide (now (a .s)) (a .at) (a .n) (c .before .k .given .0 .1 .0) (omega arith) (t .why) (t .stop)
+    let after-k = c .before in
+    let after-skip-bytes = after-k .before .before in
+    let entry = after-skip-bytes .before .before in
+    let a = entry .args in
+    let t = passed-short (now (a .s)) (2 * a .n) (a .at) (after-skip-bytes .skip-bytes .ensures) (after-k .k .given .1) in
+    units-cut (a .source) wide (now (a .s)) (a .at) (a .n) (after-k .k .given .0 .1 .0) (omega arith) (t .why) (t .stop)
 
 pub wide-units-spec : {M : Type 1} → statement M
 wide-units-spec =

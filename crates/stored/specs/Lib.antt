@@ -1,0 +1,2 @@
+-- The definitions that the contracts of the comparing program cite.
+pub mod Items

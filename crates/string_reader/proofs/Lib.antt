@@ -1,0 +1,5 @@
+pub mod Starts
+pub mod Asked
+pub mod Tokens
+pub mod Loans
+pub mod Questions

@@ -1,2 +1,0 @@
--- The definitions that the contracts of the comparing program cite.
-pub mod Words

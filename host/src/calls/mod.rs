@@ -1,0 +1,13 @@
+//! Safe calls over the boundary. They know nothing of the tool.
+
+pub(crate) mod codes;
+mod hatch_record;
+pub(crate) mod hatches;
+mod kept;
+mod outline_lists;
+pub(crate) mod outlines;
+pub(crate) mod prefixes;
+pub(crate) mod refusal;
+pub(crate) mod release;
+pub(crate) mod texts;
+pub(crate) mod typed;
