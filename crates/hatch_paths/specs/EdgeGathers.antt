@@ -193,7 +193,8 @@ module _ (xs : List ℕ) where
     edge-of-gathers (suc (suc (suc zero))) p =
         first-gathers edgeEntries xs p ellipseEntries ellipse-edge (curve-walk 4) _ _ (ellipse-gathers p) (λ a q h. last-gathers edgeEntries xs q _ refl)
     edge-of-gathers (suc (suc (suc (suc zero)))) p =
-        first-gathers edgeEntries xs p splineEntries (spline-edge caps v) (spline-walk caps fit-release) _ _ (spline-gathers p) (λ a q h. last-gathers edgeEntries xs q _ refl)
+        first-gathers edgeEntries xs p splineEntries (spline-edge caps v) (spline-walk caps fit-release) _ _ (spline-gathers p)
+        (λ a q h. last-gathers edgeEntries xs q _ refl)
     edge-of-gathers (suc (suc (suc (suc (suc k))))) p = none-such (suc (suc (suc (suc (suc k))))) p
 
     pub edge-gathers : (p : ℕ) → gathered edgeEntries ((edge caps v) .read xs p) ≡ (edge-walk caps fit-release) .read xs p

@@ -273,7 +273,6 @@ fn decode_edge(
     }
 }
 
-// n edges.
 pub fn decode_edges(
     s: &[u8],
     at: usize,

@@ -18,7 +18,6 @@ use hatch_points::lists::Sizes;
 use hatch_points::lists::Walk;
 use hatch_points::vertices;
 
-// The words of a polyline.
 fn put_polyline_head(words: &mut [u32], at: usize, bulge: u64, closed: u64, n: u64)
     requires { ⌜ (at + 3 < 2 ^ 64) × ((bulge < 2 ^ 32) × ((closed < 2 ^ 32) × (n < 2 ^ 32))) ⌝ }
     ensures { λ _. ⌜ now (words .exit) ≡ sets (now (words .entry)) at (bulge ∷ (closed ∷ (n ∷ []))) ⌝ }
@@ -60,7 +59,6 @@ fn decode_polyline_path(
     }
 }
 
-// A list of edges.
 fn decode_edge_path(
     s: &[u8],
     at: usize,
@@ -201,7 +199,6 @@ fn decode_path(
     }
 }
 
-// n paths.
 pub fn decode_paths(
     s: &[u8],
     at: usize,

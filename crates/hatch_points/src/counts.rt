@@ -1,4 +1,5 @@
-// Counts: refused with 3 above the cap or above the bits left after them, as the Rust's `bounds_check` has it.
+// Counts: refused with 3 above the cap, and above the bits left after them, as the Rust's `bounds_check` has it. The functions `then_..` read one behind
+// another field, whose refusal stays.
 ghost use mathlib.Core.Path.{_≡_};
 ghost use Prim.Native.Nat.{_-_, _≤_};
 ghost use lib.ListN.{length};
@@ -57,7 +58,6 @@ pub fn read_short_count(s: &[u8], at: usize, cap: usize) -> Read
     bounds_check(s, bitcursor::within::read_bs_u(s, at), cap)
 }
 
-// A count behind another field.
 pub fn then_count(s: &[u8], prior: Read, cap: usize) -> Read
     requires { ⌜ length (now s) ≤ limit ⌝ }
     ensures { λ r. ⌜ r ≡ thenRead ((bounded cap BL) .read (now (s .entry))) prior ⌝ }
@@ -68,7 +68,6 @@ pub fn then_count(s: &[u8], prior: Read, cap: usize) -> Read
     }
 }
 
-// A short count behind another field.
 pub fn then_short_count(s: &[u8], prior: Read, cap: usize) -> Read
     requires { ⌜ length (now s) ≤ limit ⌝ }
     ensures { λ r. ⌜ r ≡ thenRead ((bounded cap BS) .read (now (s .entry))) prior ⌝ }

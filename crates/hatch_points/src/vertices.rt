@@ -33,7 +33,7 @@ fn read_extra(s: &[u8], at: usize) -> Read
     }
 }
 
-// Past a point and the double behind it.
+// The place after a point and the double behind it, which no list has room for.
 fn pass_vertex(s: &[u8], at: usize) -> Passed
     requires { ⌜ (length (now s) ≤ limit) × (at ≤ 8 * length (now s)) ⌝ }
     ensures { λ r. ⌜ ExtraPassed (now (s .entry)) at r ⌝ }

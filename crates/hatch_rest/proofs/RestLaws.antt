@@ -73,7 +73,8 @@ paths-row xs caps v g p =
     ∙ listed-row xs (caps .paths) BL (path caps in-payload v 0) (takes-path caps in-payload v 0) g p
 
 -- x, y and w are the answers for solid, associative and the count of paths
-module _ (xs : List ℕ) (caps : Caps) (v : Version) (p : ℕ) {x y w : Read} (e₁ : x ≡ asRead ((raw 1) .read xs p)) (e₂ : y ≡ thenRead ((held true (raw 1) 0) .read xs) x)
+module _ (xs : List ℕ) (caps : Caps) (v : Version) (p : ℕ) {x y w : Read} (e₁ : x ≡ asRead ((raw 1) .read xs p))
+    (e₂ : y ≡ thenRead ((held true (raw 1) 0) .read xs) x)
     (e₃ : w ≡ thenRead ((bounded (caps .paths) BL) .read xs) y) where
   abbrev pub solid : Bool
   solid = eqb 1 (valueOf x)
@@ -122,7 +123,8 @@ module _ (xs : List ℕ) (caps : Caps) (v : Version) (p : ℕ) {x y w : Read} (e
         → (RefusedRest k t ≡ restWalk ((rest caps in-payload v) .read xs p)) × Gives xs restEntries ((rest caps in-payload v) .read xs p) l noSizes l₁
     rest-paths-refused d =
         let o = value-refused (all pathEntries) ((times n (path caps in-payload v 0)) .read xs q) walked d in
-        answers-refused restEntries ((rest caps in-payload v) .read xs p) restWalk (behind-count ∙ then-refused (times n (path caps in-payload v 0)) _ xs o) (walk-kept h d)
+        answers-refused restEntries ((rest caps in-payload v) .read xs p) restWalk
+        (behind-count ∙ then-refused (times n (path caps in-payload v 0)) _ xs o) (walk-kept h d)
 
     -- and u that for the tail
     module _ {t : ℕ} {z : Sizes} (d : r ≡ DoneWalk t z) where
@@ -135,10 +137,12 @@ module _ (xs : List ℕ) (caps : Caps) (v : Version) (p : ℕ) {x y w : Read} (e
       module _ {u : TailWalk} {l₂ : Lists}
           (j : (u ≡ tailWalk z ((tail caps solid (z .derived)) .read xs t)) × Gives xs tailEntries ((tail caps solid (z .derived)) .read xs t) l₁ z l₂) where
         behind-paths : (rest caps in-payload v) .read xs p
-            ≡ (tail caps solid (z .derived) >>= λ a. pure (record { solid = solid; associative = associative; paths = paths-value .value; tail = a })) .read xs t
+            ≡ (tail caps solid (z .derived) >>= λ a. pure
+            (record { solid = solid; associative = associative; paths = paths-value .value; tail = a })) .read xs t
         behind-paths =
             behind-count ∙ then-got (times n (path caps in-payload v 0)) (after-paths solid associative) xs (paths-value .read)
-            ∙ ap (λ (c : Bool). (tail caps solid c >>= λ a. pure {M = one} (record { solid = solid; associative = associative; paths = paths-value .value; tail = a })) .read xs t) (sym has)
+            ∙ ap (λ (c : Bool). (tail caps solid c >>= λ a. pure {M = one}
+            (record { solid = solid; associative = associative; paths = paths-value .value; tail = a })) .read xs t) (sym has)
 
         pub rest-tail-refused : {k : Refusal} {m : ℕ} → u ≡ RefusedTail k m
             → (RefusedRest k m ≡ restWalk ((rest caps in-payload v) .read xs p)) × Gives xs restEntries ((rest caps in-payload v) .read xs p) l noSizes l₂
@@ -153,7 +157,8 @@ module _ (xs : List ℕ) (caps : Caps) (v : Version) (p : ℕ) {x y w : Read} (e
         rest-done {m = m} f =
             let c = tail-is ((tail caps solid (z .derived)) .read xs t) z (sym f ∙ j .0) in
             let body : RestValue = record { solid = solid; associative = associative; paths = paths-value .value; tail = c .0 } in
-            let o = behind-paths ∙ then-got (tail caps solid (z .derived)) (λ a. pure (record { solid = solid; associative = associative; paths = paths-value .value; tail = a })) xs (c .1) ∙ pure-read body xs m in
+            let o = behind-paths ∙ then-got (tail caps solid (z .derived))
+            (λ a. pure (record { solid = solid; associative = associative; paths = paths-value .value; tail = a })) xs (c .1) ∙ pure-read body xs m in
             let s = paths-value .step ⊕ gives-step tailEntries ((tail caps solid (z .derived)) .read xs t) (j .1) (c .1) (c .3) in
             let last = gives-ready tailEntries ((tail caps solid (z .derived)) .read xs t) (j .1) (c .1) (c .3) in
             let many = times-length (path caps in-payload v 0) xs n q (paths-value .read) in (

@@ -88,7 +88,9 @@ module _ (xs : List ℕ) (caps : Caps) (solid has : Bool) where
 
     pub tail-fields-refused : {l : Lists} {z : Sizes} {k : Refusal} {q : ℕ} → x₂ ≡ Refused k q
         → (RefusedTail k q ≡ tailWalk z ((tail caps solid has) .read xs p)) × Gives xs tailEntries ((tail caps solid has) .read xs p) l z l
-    tail-fields-refused {z = z} i = answers-refused tailEntries ((tail caps solid has) .read xs p) (tailWalk z) (tail-row ∙ ap (resumed xs (tail-after-type (valueOf x₁))) i) kept-same
+    tail-fields-refused {z = z} i =
+        answers-refused tailEntries ((tail caps solid has) .read xs p) (tailWalk z)
+        (tail-row ∙ ap (resumed xs (tail-after-type (valueOf x₁))) i) kept-same
 
     -- r is the answer for the pattern
     module _ {kind q : ℕ} (i : x₂ ≡ Value kind q) {r : PatternWalk} {z : Sizes} {l l₁ : Lists}
@@ -118,10 +120,12 @@ module _ (xs : List ℕ) (caps : Caps) (solid has : Bool) where
         ending-asks = gives-ready patternEntries ((pattern caps solid) .read xs q) (h .1) (pattern-value .1) (pattern-value .3)
 
         module _ {w : EndingWalk} {d₁ d₂ : List Float} {b₁ b₂ ws : List ℕ} (s : l₁ ≡ lists d₁ b₁ ws)
-            (j : (w ≡ endingWalk y ((ending caps has) .read xs t)) × Gives xs endingEntries ((ending caps has) .read xs t) (lists d₁ b₁ []) y (lists d₂ b₂ [])) where
+            (j : (w ≡ endingWalk y ((ending caps has) .read xs t)) × Gives xs endingEntries ((ending caps has) .read xs t) (lists d₁ b₁ []) y
+            (lists d₂ b₂ [])) where
           pattern-step : Step l z (patternEntries (pattern-value .0)) (lists d₁ b₁ ws) y
           pattern-step =
-              subst (λ (k : Lists). Step l z (patternEntries (pattern-value .0)) k y) s (gives-step patternEntries ((pattern caps solid) .read xs q) (h .1) (pattern-value .1) (pattern-value .3))
+              subst (λ (k : Lists). Step l z (patternEntries (pattern-value .0)) k y) s
+              (gives-step patternEntries ((pattern caps solid) .read xs q) (h .1) (pattern-value .1) (pattern-value .3))
 
           pub tail-ending-refused : {k : Refusal} {m : ℕ} → w ≡ RefusedEnding k m
               → (RefusedTail k m ≡ tailWalk z ((tail caps solid has) .read xs p)) × Gives xs tailEntries ((tail caps solid has) .read xs p) l z (lists d₂ b₂ ws)
@@ -135,7 +139,8 @@ module _ (xs : List ℕ) (caps : Caps) (solid has : Bool) where
               × Gives xs tailEntries ((tail caps solid has) .read xs p) l z (lists d₂ b₂ ws)
           tail-done {m = m} f g =
               let c = ending-is ((ending caps has) .read xs t) y (sym f ∙ j .0) in
-              let o = behind-pattern ∙ then-got (ending caps has) tail-after-pattern xs (c .1) ∙ pure-read (record { pattern-style = valueOf x₁; pattern-type = kind; pattern = pattern-value .0; ending = c .0 }) xs m in
+              let o = behind-pattern ∙ then-got (ending caps has) tail-after-pattern xs (c .1)
+              ∙ pure-read (record { pattern-style = valueOf x₁; pattern-type = kind; pattern = pattern-value .0; ending = c .0 }) xs m in
               let s₂ = pattern-step ⊕ ending-words (c .0) ws (gives-step endingEntries ((ending caps has) .read xs t) (j .1) (c .1) (c .3)) in
               let last = gives-ready endingEntries ((ending caps has) .read xs t) (j .1) (c .1) (c .3) in (
                 (λ i. DoneTail (record { style = g i; kind = kind; pattern = pattern-value .2 i; ending = c .2 i }) m (s₂ .sizes i)) ∙ ap (tailWalk z) (sym o),

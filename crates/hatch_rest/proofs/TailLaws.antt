@@ -104,7 +104,9 @@ module _ (xs : List ℕ) (caps : Caps) where
       one-more xs (λ v. coded BD) (λ v angle. scale-on angle) (Value 0 p) e₁
       ∙ one-more xs (λ v. coded BD) double-on x₁ e₂
       ∙ bit-more xs (lines-on (valueOf x₁)) x₂ e₃
-      ∙ resumed-same xs _ _ (λ n q. listed-row xs (caps .«pattern_lines») BS (pattern-line (caps .dashes)) (takes-line (caps .dashes)) (made (valueOf x₁) (valueOf x₂) (eqb 1 n)) q) x₃
+      ∙ resumed-same xs _ _
+      (λ n q. listed-row xs (caps .«pattern_lines») BS (pattern-line (caps .dashes)) (takes-line (caps .dashes))
+      (made (valueOf x₁) (valueOf x₂) (eqb 1 n)) q) x₃
       ∙ one-more xs (λ v. bounded (caps .«pattern_lines») BS) (λ v. pattern-after-count (valueOf x₁) (valueOf x₂) (eqb 1 v)) x₃ e₄
     where
       made : ℕ → ℕ → Bool → List PatternLine → Format one Pattern
@@ -154,7 +156,9 @@ module _ (xs : List ℕ) (caps : Caps) where
 
       lines-walk : {l l′ : Lists} {z : Sizes} {r : Walk} → Walks xs ((repeated n (line-walk (caps .dashes))) .read xs q) l z l′ r
           → Walks xs (gathered (all lineEntries) ((times n (pattern-line (caps .dashes))) .read xs q)) l z l′ r
-      lines-walk h = walks-as h (sym (times-gather (pattern-line (caps .dashes)) xs lineEntries (line-walk (caps .dashes)) (line-gathers xs (caps .dashes)) n q))
+      lines-walk h =
+          walks-as h
+          (sym (times-gather (pattern-line (caps .dashes)) xs lineEntries (line-walk (caps .dashes)) (line-gathers xs (caps .dashes)) n q))
 
       pub pattern-lines-refused : {l l′ : Lists} {z : Sizes} {r : Walk} → Walks xs ((repeated n (line-walk (caps .dashes))) .read xs q) l z l′ r
           → {k : Refusal} {t : ℕ} → r ≡ RefusedWalk k t
@@ -170,9 +174,12 @@ module _ (xs : List ℕ) (caps : Caps) where
           × Gives xs patternEntries ((pattern caps false) .read xs p) l z l′
       pattern-done {z = z} h {t} d f₁ f₂ f₃ =
           let g = value-read (all lineEntries) ((times n (pattern-line (caps .dashes))) .read xs q) (lines-walk h) d in
-          let o = behind-count ∙ then-got (times n (pattern-line (caps .dashes))) (λ lines. pure (record { angle = valueOf x₁; scale = valueOf x₂; double = eqb 1 (valueOf x₃); lines = lines })) xs (g .read) ∙ pure-read (record { angle = valueOf x₁; scale = valueOf x₂; double = eqb 1 (valueOf x₃); lines = g .value }) xs t in
+          let o = behind-count ∙ then-got (times n (pattern-line (caps .dashes)))
+          (λ lines. pure (record { angle = valueOf x₁; scale = valueOf x₂; double = eqb 1 (valueOf x₃); lines = lines })) xs (g .read)
+          ∙ pure-read (record { angle = valueOf x₁; scale = valueOf x₂; double = eqb 1 (valueOf x₃); lines = g .value }) xs t in
           let m = times-length (pattern-line (caps .dashes)) xs n q (g .read) in (
-            (λ i. DonePattern (record { angle = f₁ i; scale = f₂ i; double = eqb 1 (f₃ i); lines = sym m i }) t (g .step .sizes i)) ∙ ap (patternWalk z) (sym o),
+            (λ i. DonePattern (record { angle = f₁ i; scale = f₂ i; double = eqb 1 (f₃ i); lines = sym m i }) t (g .step .sizes i))
+                ∙ ap (patternWalk z) (sym o),
             gives-got patternEntries ((pattern caps false) .read xs p) o (g .step .lists) (subst (Ready xs t) (g .step .sizes) (walk-ready h d)),
           )
 
@@ -230,7 +237,8 @@ module _ (xs : List ℕ) (caps : Caps) where
           × Gives xs endingEntries ((ending caps has) .read xs p) l z l′
       ending-done {z = z} h {t} d f₁ =
           let g = value-read (all (pointEntries xs)) ((times n point) .read xs q) (seeds-walk h) d in
-          let o = behind-seeds ∙ then-got (times n point) (λ seeds. pure (record { pixel-size = valueOf x₁; seed-points = seeds })) xs (g .read) ∙ pure-read (record { pixel-size = valueOf x₁; seed-points = g .value }) xs t in
+          let o = behind-seeds ∙ then-got (times n point) (λ seeds. pure (record { pixel-size = valueOf x₁; seed-points = seeds })) xs (g .read)
+          ∙ pure-read (record { pixel-size = valueOf x₁; seed-points = g .value }) xs t in
           let m = times-length point xs n q (g .read) in
           let s = step-as (all-numbers pointNumbers (g .value)) (g .step) in (
             (λ i. DoneEnding (record { «pixel_size» = f₁ i; «seed_points» = sym m i }) t (s .sizes i)) ∙ ap (endingWalk z) (sym o),

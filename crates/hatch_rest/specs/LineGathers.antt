@@ -36,6 +36,9 @@ module _ (xs : List ℕ) (cap : ℕ) where
       same-first lineEntries xs q (coded BD) _ _ (λ c q h.
       same-first lineEntries xs q (coded BD) _ _ (λ d q h.
       same-first lineEntries xs q (coded BD) _ _ (λ e q h.
-      listed-gathers lineEntries xs cap BS (coded BD) takes-bit-BD single double-run (doubles-gather xs) (λ dashes. pure (record { angle = a; origin = record { x = b; y = c }; offset = record { x = d; y = e }; dashes = dashes })) (λ n z. pure (plus (numbers (a ∷ (b ∷ (c ∷ (d ∷ (e ∷ [])))))) (plus (word n) z)))
-      (λ dashes q. last-gathers lineEntries xs q _ (ap (λ (z : Entries). plus (numbers (a ∷ (b ∷ (c ∷ (d ∷ (e ∷ [])))))) (plus (word (length dashes)) z)) (sym (all-single dashes)))) q)))))
+      listed-gathers lineEntries xs cap BS (coded BD) takes-bit-BD single double-run (doubles-gather xs)
+      (λ dashes. pure (record { angle = a; origin = record { x = b; y = c }; offset = record { x = d; y = e }; dashes = dashes }))
+      (λ n z. pure (plus (numbers (a ∷ (b ∷ (c ∷ (d ∷ (e ∷ [])))))) (plus (word n) z)))
+      (λ dashes q. last-gathers lineEntries xs q _
+      (ap (λ (z : Entries). plus (numbers (a ∷ (b ∷ (c ∷ (d ∷ (e ∷ [])))))) (plus (word (length dashes)) z)) (sym (all-single dashes)))) q)))))
       ∙ five xs (λ a. bounded cap BS >>= λ n. double-run n >>= λ dashes. pure (plus a (plus (word n) dashes))) p

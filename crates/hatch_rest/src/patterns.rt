@@ -91,7 +91,6 @@ fn decode_pattern_line(
     }
 }
 
-// n pattern lines.
 fn decode_pattern_lines(
     s: &[u8],
     at: usize,
@@ -200,7 +199,6 @@ fn read_pixel_size(s: &[u8], at: usize, has: bool) -> Read
     Read::Value(0, at)
 }
 
-// The pixel size and the seed points.
 fn decode_ending(
     s: &[u8],
     at: usize,

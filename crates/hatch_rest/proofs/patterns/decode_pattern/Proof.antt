@@ -36,9 +36,11 @@ returns c =
     let after-slice-known3 = c .before in
     let entry = entry-from-after-slice-known3 after-slice-known3 in
     let a = entry .args in
-    let o = pattern-solid (now (a .s)) (a .caps) (a .solid) (a .at) (c .if1 .taken) in
-    (ap (Done (patternOf no-pattern) (a .at)) (sym (grow-none (a .z))) ∙ ap (patternWalk (a .z)) (sym o), gives-got patternEntries
-    ((pattern (a .caps) (a .solid)) .read (now (a .s)) (a .at)) o refl (subst (Ready (now (a .s)) (a .at)) (sym (grow-none (a .z))) (entry .pre)))
+    let o = pattern-solid (now (a .s)) (a .caps) (a .solid) (a .at) (c .if1 .taken) in (
+      ap (Done (patternOf no-pattern) (a .at)) (sym (grow-none (a .z))) ∙ ap (patternWalk (a .z)) (sym o),
+      gives-got patternEntries
+          ((pattern (a .caps) (a .solid)) .read (now (a .s)) (a .at)) o refl (subst (Ready (now (a .s)) (a .at)) (sym (grow-none (a .z))) (entry .pre)),
+    )
 
 decode-open-pattern-requires : tie.Need-decode-open-pattern-requires
 decode-open-pattern-requires c κs = search needs

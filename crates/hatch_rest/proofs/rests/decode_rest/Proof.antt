@@ -83,9 +83,11 @@ decode-paths-requires c κs =
     let after-read-bits = after-then-bits .before in
     let after-is-r2010-plus = after-read-bits .before in
     let entry = entry-from-after-is-r2010-plus after-is-r2010-plus in
-    let args = entry .args in
-    (rest-ready (now (args .s)) (args .caps) (args .v) (args .at) (after-read-bits .read-bits .ensures) (after-then-bits .then-bits .ensures)
-    (after-then-count .then-count .ensures) (after-count .count .given .1) (entry .pre .0) (entry .pre .1 .0), (entry .pre) .1 .1)
+    let args = entry .args in (
+      rest-ready (now (args .s)) (args .caps) (args .v) (args .at) (after-read-bits .read-bits .ensures) (after-then-bits .then-bits .ensures)
+          (after-then-count .then-count .ensures) (after-count .count .given .1) (entry .pre .0) (entry .pre .1 .0),
+      (entry .pre) .1 .1,
+    )
 
 enum-known-q : tie.Need-enum-known-q
 enum-known-q c = search needs
@@ -154,10 +156,17 @@ returns c =
     let t = rest-done (now (args .s)) (args .caps) (args .v) (args .at) (after-read-bits .read-bits .ensures) (after-then-bits .then-bits .ensures)
     (after-then-count .then-count .ensures) (after-count .count .given .1) (after-is-r2010-plus .is-r2010-plus .ensures)
     (after-decode-paths .decode-paths .ensures) (after-q .q .given .1) (tail-by (now (args .s)) (args .caps) (after-q .q .given .0 .1 .0 .derived)
-    (after-q .q .given .0 .0) (after-value-of .value-of .ensures) (after-decode-tail .decode-tail .ensures)) (after-t .t .given .1) in
-    ((λ i. Done (record { solid = eqb 1 (after-value-of .value-of .ensures i); associative = eqb 1
-    (c .value-of2 .ensures i); paths = after-count .count .given .0 .0; tail = after-t .t .given .0 .0 }) (after-t .t .given .0 .1 .0)
-    (after-t .t .given .0 .1 .1 .0)) ∙ t .0, t .1)
+    (after-q .q .given .0 .0) (after-value-of .value-of .ensures) (after-decode-tail .decode-tail .ensures)) (after-t .t .given .1) in (
+      (λ i. Done (record {
+        solid = eqb 1 (after-value-of .value-of .ensures i);
+        associative = eqb 1
+            (c .value-of2 .ensures i);
+        paths = after-count .count .given .0 .0;
+        tail = after-t .t .given .0 .0;
+      }) (after-t .t .given .0 .1 .0)
+          (after-t .t .given .0 .1 .1 .0)) ∙ t .0,
+      t .1,
+    )
 
 same-length-4 : tie.Need-same-length-4
 same-length-4 c = search needs
