@@ -13,5 +13,6 @@ pub mod Answers
 pub mod Sequence
 pub mod Format
 pub mod Whole
+pub mod Chains
 pub mod Inputs
 pub mod Fields

@@ -17,7 +17,8 @@ use Rattle.bitcursor.specs.Handles.{BLL, HANDLE, checked}
 use Rattle.bitcursor.specs.Sequence.{held}
 use Rattle.text.specs.Texts.{Written, TV}
 use Rattle.text.specs.Fields.{widthBy}
-use Rattle.common_entity.specs.Layouts.{Coded, Field, Block, BlockLaid, Each, _⨾_, some, XdataLaid, SizeLaid, GraphicsLaid, NameLaid}
+use Rattle.bitcursor.specs.Chains.{Each, _⨾_}
+use Rattle.common_entity.specs.Layouts.{Coded, Field, Block, BlockLaid, some, XdataLaid, SizeLaid, GraphicsLaid, NameLaid}
 use Rattle.common_entity.specs.Joins.{apart, joined, no-bits, of-no-bits}
 use Rattle.common_entity.specs.Prefix.{BIT, chain, extended, drawing, graphics, name}
 

@@ -7,6 +7,7 @@ use Prim.Native.Nat.{ℕ, _≤_}
 use lib.ListN.{length}
 use Rattle.bitcursor.specs.declared.Handle.{Handle}
 use Rattle.bitcursor.specs.Code.{Code, Laid}
+use Rattle.bitcursor.specs.Chains.{_⨾_, Nothing, Each}
 use Rattle.bitcursor.specs.Bytes.{skip}
 use Rattle.bitcursor.specs.Codes.{B, BB, RC, RL, BS, signed-BS, BL}
 use Rattle.bitcursor.specs.Doubles.{BD}
@@ -17,21 +18,6 @@ use Rattle.common_entity.specs.declared.MaybeLong.{MaybeLong}
 use Rattle.common_entity.specs.declared.CommonEntityBits.{CommonEntityBits}
 use Rattle.common_entity.specs.declared.table.Row.{Row}
 use Rattle.common_entity.specs.Values.{modeOf, maybe, hasRgb, hasAlpha, hasName, hasBookName}
-
--- ---- how layouts are put together
-infixr 5 _⨾_
--- one behind the other, at some place in between
-abbrev pub _⨾_ : (ℕ → ℕ → Type 0) → (ℕ → ℕ → Type 0) → ℕ → ℕ → Type 0
-_⨾_ L M p q = (r : ℕ) × L p r × M r q
-
--- no bits
-abbrev pub Nothing : ℕ → ℕ → Type 0
-Nothing p q = q ≡ p
-
--- the items of a list one behind the other
-abbrev pub Each : {A : Type 0} → (A → ℕ → ℕ → Type 0) → List A → ℕ → ℕ → Type 0
-Each L [] = Nothing
-Each L (a ∷ items) = L a ⨾ Each L items
 
 -- an XDATA block: its size in bytes and the handle before them
 pub record Block : Type 0 where

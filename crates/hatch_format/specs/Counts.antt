@@ -13,11 +13,12 @@ use Rattle.bitcursor.specs.Bits.{size}
 use Rattle.bitcursor.specs.Reading.{Out, got, refused, andThen}
 use Rattle.bitcursor.specs.Code.{Code, Laid}
 use Rattle.bitcursor.specs.Ranges.{Below}
+use Rattle.bitcursor.specs.Chains.{EachBy, Each}
 use Rattle.bitcursor.specs.Format.{Format, pure, refuse, _>>=_, relay, either}
 use Rattle.bitcursor.specs.Inputs.{one}
 use Rattle.bitcursor.specs.Fields.{coded, at-least}
 use Rattle.hatch_format.specs.Takes.{Takes, moved}
-use Rattle.hatch_format.specs.Layouts.{EachBy, Each, Count, Bounded, ListedBy, Listed}
+use Rattle.hatch_format.specs.Layouts.{Count, Bounded, ListedBy, Listed}
 
 -- ---- n items, each read by a running sum of those before it
 module _ {A S : Type 0} (f : S → Format one A) (add : S → A → S) where

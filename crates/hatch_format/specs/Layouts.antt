@@ -8,6 +8,7 @@ use lib.Dec.{leb}
 use lib.ListN.{length}
 use Rattle.bitcursor.specs.Bits.{size}
 use Rattle.bitcursor.specs.Code.{Code, Laid}
+use Rattle.bitcursor.specs.Chains.{_⨾_, Nothing, EachBy, Each}
 use Rattle.bitcursor.specs.Codes.{B, RC, RD, BS, signed-BS, BL}
 use Rattle.bitcursor.specs.Doubles.{BD}
 use Rattle.bitcursor.specs.Sequence.{held}
@@ -24,25 +25,6 @@ use Rattle.hatch_format.specs.Values.{Point, Vertex, Arc, Ellipse, Fits,
 use Rattle.hatch_format.specs.Values.{Segments, polyline, edges}
 use Rattle.hatch_format.specs.Values.{Path, polylined, derived, addHandles}
 use Rattle.hatch_format.specs.Values.{PatternLine, Pattern, no-pattern, Block, Gradient, no-gradient, shown, Plane, Ending, Tail, Rest, Body}
-
--- ---- how layouts are put together
-infixr 5 _⨾_
--- one behind the other, at some place in between
-abbrev pub _⨾_ : {P : Type 0} → (P → P → Type 0) → (P → P → Type 0) → P → P → Type 0
-_⨾_ {P} L M p q = (r : P) × L p r × M r q
-
--- no bits
-abbrev pub Nothing : {P : Type 0} → P → P → Type 0
-Nothing p q = q ≡ p
-
--- the items of a list one behind the other, each by a running sum of those before it
-abbrev pub EachBy : {A S P : Type 0} → (S → A → P → P → Type 0) → (S → A → S) → S → List A → P → P → Type 0
-EachBy L add s [] = Nothing
-EachBy L add s (a ∷ items) = L s a ⨾ EachBy L add (add s a) items
-
--- the items of a list one behind the other
-abbrev pub Each : {A P : Type 0} → (A → P → P → Type 0) → List A → P → P → Type 0
-Each L = EachBy (λ (s : Unit {0}). L) (λ s a. s) tt
 
 -- ---- of one payload
 module _ (xs : List ℕ) where
