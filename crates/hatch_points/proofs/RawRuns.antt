@@ -3,7 +3,7 @@
 use mathlib.Core.Path.{_≡_, refl, sym, ap, ap₂, _∙_}
 use mathlib.Core.List.{List, [], _∷_, _++_}
 use mathlib.Core.Logic.{⊎-elim, _⊎_, inl, inr}
-use Prim.Native.Nat.{ℕ, zero, suc, _+_, _-_, _*_, _/_, _≤_, _<_, max}
+use Prim.Native.Nat.{ℕ, zero, suc, _+_, _-_, _*_, _/_, _≤_, _<_, min}
 use native.Mathlib.Omega.{arith}
 use lib.Ieee.{Float, ofBits, binary64}
 use lib.ListN.{length, set, length-set}
@@ -20,7 +20,7 @@ use Rattle.hatch_format.specs.Counts.{times, times-read}
 use Rattle.hatch_points.specs.Gathered.{Entries, numbers, gathered}
 use Rattle.hatch_points.specs.Walks.{raw-run}
 use Rattle.hatch_points.specs.Lists.{doublesOf, doubles-append, length-doubles}
-use Rattle.hatch_points.specs.Stores.{rawAt, roomFor}
+use Rattle.hatch_points.specs.Stores.{rawAt}
 use Rattle.hatch_points.proofs.Laws.{sets-append, sets-out}
 
 pub length-raw : (xs : List ℕ) (p n : ℕ) → length (rawAt xs p n) ≡ n
@@ -105,32 +105,25 @@ raw-add xs p (suc m) n =
     ap (rawAt xs p) e ∙ ap (λ (l : List ℕ). lowNumber (bytesAt xs p 8) ∷ l) (raw-add xs (p + 64) m n)
     ∙ ap (λ (q : ℕ). lowNumber (bytesAt xs p 8) ∷ (rawAt xs (p + 64) m ++ rawAt xs q n)) f
 
--- m of n RD are stored, as many as the longer list has room for: that is the same as n stores
-module _ (xs : List ℕ) (p n m i : ℕ) (l : List Float) (b : List ℕ) (h : m ≡ roomFor n i (length l) (length b)) where
-  enough : (m ≡ n) ⊎ ((length l ≤ i + m) × (length b ≤ i + m))
-  enough =
-      ⊎-elim
-      (λ (w : n ≤ max (length l) (length b) - i). inl (omega arith))
-      (λ (w : max (length l) (length b) - i < n). inr (omega arith, omega arith))
-      (le-or-lt n (max (length l) (length b) - i))
+-- m of n RD are stored, as many as the list has room for: that is the same as n stores
+module _ (xs : List ℕ) (p n m i : ℕ) where
+  split : m ≤ n → rawAt xs p n ≡ rawAt xs p m ++ rawAt xs (p + 64 * m) (n - m)
+  split le = let e : n ≡ m + (n - m) = omega arith in ap (rawAt xs p) e ∙ raw-add xs p m (n - m)
 
-  split : rawAt xs p n ≡ rawAt xs p m ++ rawAt xs (p + 64 * m) (n - m)
-  split = let e : n ≡ m + (n - m) = omega (arith, h) in ap (rawAt xs p) e ∙ raw-add xs p m (n - m)
-
-  pub bits-enough : sets b i (rawAt xs p m) ≡ sets b i (rawAt xs p n)
-  bits-enough =
+  pub bits-enough : (b : List ℕ) → m ≡ min n (length b - i) → sets b i (rawAt xs p m) ≡ sets b i (rawAt xs p n)
+  bits-enough b h =
       ⊎-elim
-      (λ (e : m ≡ n). ap (λ (k : ℕ). sets b i (rawAt xs p k)) e)
-      (λ (w : (length l ≤ i + m) × (length b ≤ i + m)).
-      sets-enough b i (rawAt xs p m) (rawAt xs (p + 64 * m) (n - m)) (omega (arith, w .1, length-raw xs p m)) ∙ ap (sets b i) (sym split))
-      enough
+      (λ (w : n ≤ length b - i). let e : m ≡ n = omega arith in ap (λ (k : ℕ). sets b i (rawAt xs p k)) e)
+      (λ (w : length b - i < n).
+      sets-enough b i (rawAt xs p m) (rawAt xs (p + 64 * m) (n - m)) (omega (arith, length-raw xs p m)) ∙ ap (sets b i) (sym (split (omega arith))))
+      (le-or-lt n (length b - i))
 
-  pub doubles-enough : sets l i (doublesOf (rawAt xs p m)) ≡ sets l i (doublesOf (rawAt xs p n))
-  doubles-enough =
+  pub doubles-enough : (l : List Float) → m ≡ min n (length l - i) → sets l i (doublesOf (rawAt xs p m)) ≡ sets l i (doublesOf (rawAt xs p n))
+  doubles-enough l h =
       ⊎-elim
-      (λ (e : m ≡ n). ap (λ (k : ℕ). sets l i (doublesOf (rawAt xs p k))) e)
-      (λ (w : (length l ≤ i + m) × (length b ≤ i + m)).
+      (λ (w : n ≤ length l - i). let e : m ≡ n = omega arith in ap (λ (k : ℕ). sets l i (doublesOf (rawAt xs p k))) e)
+      (λ (w : length l - i < n).
       sets-enough l i (doublesOf (rawAt xs p m)) (doublesOf (rawAt xs (p + 64 * m) (n - m)))
-      (omega (arith, w .0, length-doubles (rawAt xs p m), length-raw xs p m))
-      ∙ ap (sets l i) (sym (ap doublesOf split ∙ doubles-append (rawAt xs p m) (rawAt xs (p + 64 * m) (n - m)))))
-      enough
+      (omega (arith, length-doubles (rawAt xs p m), length-raw xs p m))
+      ∙ ap (sets l i) (sym (ap doublesOf (split (omega arith)) ∙ doubles-append (rawAt xs p m) (rawAt xs (p + 64 * m) (n - m)))))
+      (le-or-lt n (length l - i))

@@ -15,6 +15,7 @@ use crate::lists::Sizes;
 use crate::lists::Walk;
 use bitcursor::Passed;
 use bitcursor::Read;
+use bitcursor::values;
 use bitcursor::words;
 
 pub fn longer(a: usize, b: usize) -> usize
@@ -40,17 +41,60 @@ pub fn stores(n: usize, from: usize, doubles: usize, bits: usize) -> usize
     room - from
 }
 
-// Stores the n RD at `at`, which are all there.
-fn put_run(s: &[u8], at: usize, n: usize, numbers: &mut [f64], bits: &mut [u64], from: usize)
-    requires { ⌜ (length (now s) ≤ limit) × ((at + 64 * n ≤ 8 * length (now s)) × (from + n < 2 ^ 64)) ⌝ }
-    ensures { λ _. ⌜ (now (numbers .exit) ≡ sets (now (numbers .entry)) from (doublesOf (rawAt (now (s .entry)) at n)))
-        × (now (bits .exit) ≡ sets (now (bits .entry)) from (rawAt (now (s .entry)) at n)) ⌝ }
+// Stores the n RD at `at`, which are all there, in a list that has room for them: no turn tests the list's length.
+fn put_run_doubles(s: &[u8], at: usize, n: usize, numbers: &mut [f64], from: usize)
+    requires { ⌜ (length (now s) ≤ limit) × ((at + 64 * n ≤ 8 * length (now s)) × (from + n ≤ length (now numbers))) ⌝ }
+    ensures { λ _. ⌜ now (numbers .exit) ≡ sets (now (numbers .entry)) from (doublesOf (rawAt (now (s .entry)) at n)) ⌝ }
 {
     let mut i: usize = 0;
     while i < n {
-        lists::put_number(numbers, bits, from + i, words::low_at(s, at + 64 * i, 8));
+        numbers[from + i] = values::double_of(words::eight_at(s, at + 64 * i));
         i += 1;
     }
+}
+
+fn put_run_bits(s: &[u8], at: usize, n: usize, bits: &mut [u64], from: usize)
+    requires { ⌜ (length (now s) ≤ limit) × ((at + 64 * n ≤ 8 * length (now s)) × (from + n ≤ length (now bits))) ⌝ }
+    ensures { λ _. ⌜ now (bits .exit) ≡ sets (now (bits .entry)) from (rawAt (now (s .entry)) at n) ⌝ }
+{
+    let mut i: usize = 0;
+    while i < n {
+        bits[from + i] = words::eight_at(s, at + 64 * i);
+        i += 1;
+    }
+}
+
+// Stores the n RD at `at`, which are all there, so far as the list has room.
+fn put_as_doubles(s: &[u8], at: usize, n: usize, numbers: &mut [f64], from: usize)
+    requires { ⌜ (length (now s) ≤ limit) × (at + 64 * n ≤ 8 * length (now s)) ⌝ }
+    ensures { λ _. ⌜ now (numbers .exit) ≡ sets (now (numbers .entry)) from (doublesOf (rawAt (now (s .entry)) at n)) ⌝ }
+{
+    let m = stores(n, from, numbers.len(), 0);
+    if m == 0 {
+        return;
+    }
+    put_run_doubles(s, at, m, numbers, from);
+}
+
+fn put_as_bits(s: &[u8], at: usize, n: usize, bits: &mut [u64], from: usize)
+    requires { ⌜ (length (now s) ≤ limit) × (at + 64 * n ≤ 8 * length (now s)) ⌝ }
+    ensures { λ _. ⌜ now (bits .exit) ≡ sets (now (bits .entry)) from (rawAt (now (s .entry)) at n) ⌝ }
+{
+    let m = stores(n, from, 0, bits.len());
+    if m == 0 {
+        return;
+    }
+    put_run_bits(s, at, m, bits, from);
+}
+
+// The same in both lists.
+fn put_run(s: &[u8], at: usize, n: usize, numbers: &mut [f64], bits: &mut [u64], from: usize)
+    requires { ⌜ (length (now s) ≤ limit) × (at + 64 * n ≤ 8 * length (now s)) ⌝ }
+    ensures { λ _. ⌜ (now (numbers .exit) ≡ sets (now (numbers .entry)) from (doublesOf (rawAt (now (s .entry)) at n)))
+        × (now (bits .exit) ≡ sets (now (bits .entry)) from (rawAt (now (s .entry)) at n)) ⌝ }
+{
+    put_as_doubles(s, at, n, numbers, from);
+    put_as_bits(s, at, n, bits, from);
 }
 
 // n RD: where there is nothing to store, one comparison, however many they are.
@@ -68,8 +112,7 @@ pub fn raw_run(
 {
     match bitcursor::within::skip_bytes(s, at, 8 * n) {
         Passed::To(p) => {
-            let m = stores(n, z.numbers, numbers.len(), bits.len());
-            put_run(s, at, m, numbers, bits, z.numbers);
+            put_run(s, at, n, numbers, bits, z.numbers);
             Walk::Done(
                 p,
                 Sizes {
@@ -95,8 +138,8 @@ fn read_knot(s: &[u8], at: usize) -> Read
     bitcursor::within::read_bd_there(s, at)
 }
 
-// Past a BD whose value no list has room for, and which is not made.
-pub fn pass_bd(s: &[u8], at: usize) -> Passed
+// Past a BD whose value no list has room for, and which is not made; one loop calls it, too.
+fn pass_bd(s: &[u8], at: usize) -> Passed
     requires { ⌜ (length (now s) ≤ limit) × (at ≤ 8 * length (now s)) ⌝ }
     ensures { λ r. ⌜ r ≡ passedBy (BD .read (now (s .entry)) at) ⌝ }
 {
@@ -107,7 +150,7 @@ pub fn pass_bd(s: &[u8], at: usize) -> Passed
 }
 
 // The place that an answer leaves.
-fn passed(read: Read) -> Passed
+pub fn passed(read: Read) -> Passed
     ensures { λ r. ⌜ r ≡ placeRead read ⌝ }
 {
     match read {

@@ -39,7 +39,12 @@ fn pass_vertex(s: &[u8], at: usize) -> Passed
     ensures { λ r. ⌜ ExtraPassed (now (s .entry)) at r ⌝ }
 {
     match bitcursor::within::skip_bytes(s, at, 16) {
-        Passed::To(p) => runs::pass_bd(s, p),
+        Passed::To(p) => {
+            if s.len() < p / 8 + 10 {
+                return runs::passed(bitcursor::within::read_bd_bits(s, p));
+            }
+            runs::passed(bitcursor::within::read_bd_there(s, p))
+        }
         Passed::Refused(k, p) => Passed::Refused(k, p),
     }
 }
@@ -50,8 +55,8 @@ fn put_vertex(s: &[u8], at: usize, extra: u64, numbers: &mut [f64], bits: &mut [
     ensures { λ _. ⌜ (now (numbers .exit) ≡ sets (now (numbers .entry)) from (doublesOf (vertexAt (now (s .entry)) at extra)))
         × (now (bits .exit) ≡ sets (now (bits .entry)) from (vertexAt (now (s .entry)) at extra)) ⌝ }
 {
-    lists::put_number(numbers, bits, from, words::low_at(s, at, 8));
-    lists::put_number(numbers, bits, from + 1, words::low_at(s, at + 64, 8));
+    lists::put_number(numbers, bits, from, words::eight_at(s, at));
+    lists::put_number(numbers, bits, from + 1, words::eight_at(s, at + 64));
     lists::put_number(numbers, bits, from + 2, extra);
 }
 

@@ -12,11 +12,11 @@ use Rattle.hatch_points.proofs.vertices.put_vertex.Statement.{statement
 use Rattle.hatch_points.proofs.vertices.put_vertex.Tie as tie
 use Rattle.hatch_points.proofs.vertices.put_vertex.Reads as reads
 use Rattle.hatch_points.proofs.vertices.put_vertex.Lts as lts
-use Rattle.bitcursor.proofs.words.low_at.Reads as low-at-reads
+use Rattle.bitcursor.proofs.words.eight_at.Reads as eight-at-reads
 use Rattle.hatch_points.proofs.lists.put_number.Reads as put-number-reads
 
-low-at-requires : tie.Need-low-at-requires
-low-at-requires c κs = search needs
+eight-at-requires : tie.Need-eight-at-requires
+eight-at-requires c κs = search needs
 
 put-number-requires : tie.Need-put-number-requires
 put-number-requires c κs = search needs
@@ -24,11 +24,11 @@ put-number-requires c κs = search needs
 add-put-number : tie.Need-add-put-number
 add-put-number c = search needs
 
-add-low-at : tie.Need-add-low-at
-add-low-at c = search needs
+add-eight-at : tie.Need-add-eight-at
+add-eight-at c = search needs
 
-low-at-requires-2 : tie.Need-low-at-requires-2
-low-at-requires-2 c κs = search needs
+eight-at-requires-2 : tie.Need-eight-at-requires-2
+eight-at-requires-2 c κs = search needs
 
 put-number-requires-2 : tie.Need-put-number-requires-2
 put-number-requires-2 c κs = search needs
@@ -57,14 +57,14 @@ after-put-number2-from-after-put-number3 s =
     let after-numbers2 = after-slice-known6 .before .before .before in
     after-numbers2 .before
 
-abbrev after-put-number-from-after-low-at2 : tie.After-low-at2 → tie.After-put-number
-after-put-number-from-after-low-at2 s =
+abbrev after-put-number-from-after-eight-at2 : tie.After-eight-at2 → tie.After-put-number
+after-put-number-from-after-eight-at2 s =
     let after-slice-known4 = s .before .before .before in
     let after-numbers = after-slice-known4 .before .before .before in
     after-numbers .before
 
-abbrev entry-from-after-low-at : tie.After-low-at → tie.Start
-entry-from-after-low-at s =
+abbrev entry-from-after-eight-at : tie.After-eight-at → tie.Start
+entry-from-after-eight-at s =
     let after-slice-known2 = s .before .before .before in
     after-slice-known2 .before .before .before
 
@@ -72,26 +72,26 @@ returns : tie.Need-returns
 returns c =
     let after-put-number3 = after-put-number3-from-after-slice-known8 c in
     let after-put-number2 = after-put-number2-from-after-put-number3 after-put-number3 in
-    let after-low-at2 = after-put-number2 .before in
-    let after-put-number = after-put-number-from-after-low-at2 after-low-at2 in
-    let after-low-at = after-put-number .before in
-    let entry = entry-from-after-low-at after-low-at in
+    let after-eight-at2 = after-put-number2 .before in
+    let after-put-number = after-put-number-from-after-eight-at2 after-eight-at2 in
+    let after-eight-at = after-put-number .before in
+    let entry = entry-from-after-eight-at after-eight-at in
     let a = (entry .args) in (
-      three (ofBits binary64) (now (a .numbers)) (a .from) (a .extra) (after-put-number .put-number .ensures .0) (after-low-at .low-at .ensures)
-          (after-put-number2 .put-number2 .ensures .0) (after-low-at2 .low-at2 .ensures) (after-put-number3 .put-number3 .ensures .0),
-      three (λ x. x) (now (a .bits)) (a .from) (a .extra) (after-put-number .put-number .ensures .1) (after-low-at .low-at .ensures)
-          (after-put-number2 .put-number2 .ensures .1) (after-low-at2 .low-at2 .ensures) (after-put-number3 .put-number3 .ensures .1),
+      three (ofBits binary64) (now (a .numbers)) (a .from) (a .extra) (after-put-number .put-number .ensures .0) (after-eight-at .eight-at .ensures)
+          (after-put-number2 .put-number2 .ensures .0) (after-eight-at2 .eight-at2 .ensures) (after-put-number3 .put-number3 .ensures .0),
+      three (λ x. x) (now (a .bits)) (a .from) (a .extra) (after-put-number .put-number .ensures .1) (after-eight-at .eight-at .ensures)
+          (after-put-number2 .put-number2 .ensures .1) (after-eight-at2 .eight-at2 .ensures) (after-put-number3 .put-number3 .ensures .1),
     )
 
 pub put-vertex-spec : {M : Type 1} → statement M
 put-vertex-spec =
     tie.close
     (tie.spec
-    low-at-requires
+    eight-at-requires
     put-number-requires
     add-put-number
-    add-low-at
-    low-at-requires-2
+    add-eight-at
+    eight-at-requires-2
     put-number-requires-2
     add-put-number-2
     put-number-requires-3
