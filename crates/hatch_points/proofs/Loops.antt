@@ -227,4 +227,3 @@ single-long xs p e q i = go (BD .read xs p) i
 pub single-refused : (xs : List ℕ) (p : ℕ) {k : Refusal} {q : ℕ} → BD .read xs p ≡ refused k q → single-walk .read xs p ≡ refused k q
 unfolding single-walk _>>=_ pure
 single-refused xs p e = rw e
-
