@@ -2,3 +2,5 @@ pub mod Seeds
 pub mod Parts
 pub mod Calls
 pub mod Demands
+pub mod EntryBits
+pub mod Measuring
