@@ -1,12 +1,19 @@
 -- What crosses the C boundary of a hatch call: its record as numbers, with each double as its 64 bits or as the double. On a refusal the
 -- record is zero but for the places, and so is every number. Assumes nothing.
+use mathlib.Core.Path.{_≡_}
+use mathlib.Core.List.{List}
 use Prim.Native.Nat.{ℕ}
+use lib.Ieee.{Float}
+use Rattle.bitcursor.specs.Reading.{Out}
+use Rattle.bitcursor.specs.Inputs.{Places}
 use Rattle.bitcursor.specs.Refusals.{refusalNumber}
 use Rattle.text.specs.declared.Text.{Text}
 use Rattle.hatch_format.specs.declared.GradientFill.{GradientFill}
 use Rattle.hatch_format.specs.declared.GradientFillBits.{GradientFillBits}
 use Rattle.hatch_format.specs.declared.Hatch.{Hatch}
 use Rattle.hatch_format.specs.declared.HatchBits.{HatchBits}
+use Rattle.hatch_format.specs.Values.{Body}
+use Rattle.hatch.specs.Calls.{asBits, asData, wordsAfter, numbersAfter, doublesAfter}
 use Rattle.hatch.specs.declared.Outcome.{Outcome}
 use Rattle.hatch.specs.declared.Outcome.the-variants.{Read, Refused}
 use Rattle.hatch.specs.declared.HatchAnswer.{HatchAnswer}
@@ -129,3 +136,10 @@ lengthsAnswer a =
       words = a .words;
       numbers = a .numbers;
     }
+
+-- ---- what a call across the boundary ensures, by what the definition reads: its answer, and each list before and after it
+abbrev pub Decodes : Out Places Body → BodyAnswer → (numbers numbers′ : List Float) (words words′ : List ℕ) → Type 0
+Decodes o r numbers numbers′ words words′ = (r ≡ bodyAnswer (asData o)) × ((numbers′ ≡ doublesAfter o numbers) × (words′ ≡ wordsAfter o words))
+
+abbrev pub DecodesBits : Out Places Body → BodyBitsAnswer → (bits bits′ words words′ : List ℕ) → Type 0
+DecodesBits o r bits bits′ words words′ = (r ≡ bodyBits (asBits o)) × ((bits′ ≡ numbersAfter o bits) × (words′ ≡ wordsAfter o words))

@@ -1,11 +1,14 @@
-// The hatch calls of the boundary, and the structs of numbers that they answer with; thin over crate hatch.
+// The hatch calls of the boundary, and the structs of numbers that they answer with; thin over crate hatch. Where there are no colours the answer
+// is made at once; the two ways are calls of their own, since one answer for both would be copied field by field.
 // specs/HatchBoundary promises that each answer is the call's as numbers; the lists are what the call leaves there.
 ghost use mathlib.Core.Path.{_≡_};
 ghost use lib.ListN.{length};
 ghost use Rattle.hatch_format.specs.Call.{none, lent};
-ghost use Rattle.hatch.specs.Calls.{callOf, asBits, asData, asLengths, wordsAfter, numbersAfter, doublesAfter, most};
-ghost use Rattle.dwg_hatch.specs.HatchBoundary.{bodyAnswer, bodyBits, lengthsAnswer};
+ghost use Rattle.hatch.specs.Calls.{callOf, asLengths, most};
+ghost use Rattle.dwg_hatch.specs.HatchBoundary.{Decodes, DecodesBits, lengthsAnswer};
 use crate::hatches;
+use hatch::calls;
+use hatch::record;
 use hatch_format::GradientColor;
 use hatch_format::GradientColorBits;
 
@@ -112,9 +115,13 @@ pub extern "C" fn dwg_hatch_decode(
     numbers: &mut [f64],
     words: &mut [u32],
 ) -> BodyAnswer
-    ensures { λ r. ⌜ (r ≡ bodyAnswer (asData (callOf release (now (main .entry)) start none (length (now (words .entry))) (length (now (numbers .entry)))))) × ((now (numbers .exit) ≡ doublesAfter (callOf release (now (main .entry)) start none (length (now (words .entry))) (length (now (numbers .entry)))) (now (numbers .entry))) × (now (words .exit) ≡ wordsAfter (callOf release (now (main .entry)) start none (length (now (words .entry))) (length (now (numbers .entry)))) (now (words .entry)))) ⌝ }
+    ensures { λ r. ⌜ Decodes (callOf release (now (main .entry)) start none (length (now (words .entry))) (length (now (numbers .entry)))) r (now (numbers .entry)) (now (numbers .exit)) (now (words .entry)) (now (words .exit)) ⌝ }
 {
-    hatches::of_hatch(hatch::decode(main, start, release, numbers, words))
+    let read = calls::read(main, start, release, numbers, words);
+    if 0 < record::num_colors(read) {
+        return hatches::colored(main, read);
+    }
+    hatches::plain(read)
 }
 
 // The same with each double as its 64 bits.
@@ -126,9 +133,13 @@ pub extern "C" fn dwg_hatch_decode_bits(
     bits: &mut [u64],
     words: &mut [u32],
 ) -> BodyBitsAnswer
-    ensures { λ r. ⌜ (r ≡ bodyBits (asBits (callOf release (now (main .entry)) start none (length (now (words .entry))) (length (now (bits .entry)))))) × ((now (bits .exit) ≡ numbersAfter (callOf release (now (main .entry)) start none (length (now (words .entry))) (length (now (bits .entry)))) (now (bits .entry))) × (now (words .exit) ≡ wordsAfter (callOf release (now (main .entry)) start none (length (now (words .entry))) (length (now (bits .entry)))) (now (words .entry)))) ⌝ }
+    ensures { λ r. ⌜ DecodesBits (callOf release (now (main .entry)) start none (length (now (words .entry))) (length (now (bits .entry)))) r (now (bits .entry)) (now (bits .exit)) (now (words .entry)) (now (words .exit)) ⌝ }
 {
-    hatches::of_hatch_bits(hatch::decode_bits(main, start, release, bits, words))
+    let read = calls::read_bits(main, start, release, bits, words);
+    if 0 < record::num_colors(read) {
+        return hatches::colored_bits(main, read);
+    }
+    hatches::plain_bits(read)
 }
 
 // The hatch body with a string reader that stands at `string_start` of the string payload and ends at the bit `string_end`.
@@ -143,9 +154,9 @@ pub extern "C" fn dwg_hatch_decode_with_strings(
     numbers: &mut [f64],
     words: &mut [u32],
 ) -> BodyAnswer
-    ensures { λ r. ⌜ (r ≡ bodyAnswer (asData (callOf release (now (main .entry)) start (lent (now (string .entry)) «string_start» «string_end») (length (now (words .entry))) (length (now (numbers .entry)))))) × ((now (numbers .exit) ≡ doublesAfter (callOf release (now (main .entry)) start (lent (now (string .entry)) «string_start» «string_end») (length (now (words .entry))) (length (now (numbers .entry)))) (now (numbers .entry))) × (now (words .exit) ≡ wordsAfter (callOf release (now (main .entry)) start (lent (now (string .entry)) «string_start» «string_end») (length (now (words .entry))) (length (now (numbers .entry)))) (now (words .entry)))) ⌝ }
+    ensures { λ r. ⌜ Decodes (callOf release (now (main .entry)) start (lent (now (string .entry)) «string_start» «string_end») (length (now (words .entry))) (length (now (numbers .entry)))) r (now (numbers .entry)) (now (numbers .exit)) (now (words .entry)) (now (words .exit)) ⌝ }
 {
-    hatches::of_hatch(hatch::decode_with_strings(
+    let read = calls::read_with_strings(
         main,
         start,
         string,
@@ -154,7 +165,11 @@ pub extern "C" fn dwg_hatch_decode_with_strings(
         release,
         numbers,
         words,
-    ))
+    );
+    if 0 < record::num_colors(read) {
+        return hatches::colored(main, read);
+    }
+    hatches::plain(read)
 }
 
 // The same with each double as its 64 bits.
@@ -169,9 +184,9 @@ pub extern "C" fn dwg_hatch_decode_with_strings_bits(
     bits: &mut [u64],
     words: &mut [u32],
 ) -> BodyBitsAnswer
-    ensures { λ r. ⌜ (r ≡ bodyBits (asBits (callOf release (now (main .entry)) start (lent (now (string .entry)) «string_start» «string_end») (length (now (words .entry))) (length (now (bits .entry)))))) × ((now (bits .exit) ≡ numbersAfter (callOf release (now (main .entry)) start (lent (now (string .entry)) «string_start» «string_end») (length (now (words .entry))) (length (now (bits .entry)))) (now (bits .entry))) × (now (words .exit) ≡ wordsAfter (callOf release (now (main .entry)) start (lent (now (string .entry)) «string_start» «string_end») (length (now (words .entry))) (length (now (bits .entry)))) (now (words .entry)))) ⌝ }
+    ensures { λ r. ⌜ DecodesBits (callOf release (now (main .entry)) start (lent (now (string .entry)) «string_start» «string_end») (length (now (words .entry))) (length (now (bits .entry)))) r (now (bits .entry)) (now (bits .exit)) (now (words .entry)) (now (words .exit)) ⌝ }
 {
-    hatches::of_hatch_bits(hatch::decode_with_strings_bits(
+    let read = calls::read_with_strings_bits(
         main,
         start,
         string,
@@ -180,7 +195,11 @@ pub extern "C" fn dwg_hatch_decode_with_strings_bits(
         release,
         bits,
         words,
-    ))
+    );
+    if 0 < record::num_colors(read) {
+        return hatches::colored_bits(main, read);
+    }
+    hatches::plain_bits(read)
 }
 
 // The lengths that the lists must have for the hatch body, whatever is lent.

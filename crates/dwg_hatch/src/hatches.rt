@@ -1,5 +1,10 @@
 // A hatch as numbers: what crosses the boundary in place of enums.
 ghost use mathlib.Core.Path.{_≡_};
+ghost use mathlib.Core.List.{[]};
+ghost use Prim.Native.Nat.{_<_};
+ghost use Rattle.hatch_format.specs.Record.{sixteen};
+ghost use Rattle.hatch.specs.Calls.{doublesIn};
+ghost use Rattle.hatch.specs.Parts.{partsIn, numColors, answerWith, answerIn, Small, Readable};
 ghost use Rattle.dwg_hatch.specs.HatchBoundary.{outcomeNumber, textFields, gradientFields, gradientBits, bodyFields, bodyBitsFields, bodyAnswer, bodyBits, lengthsAnswer};
 use crate::answers;
 use crate::bodies::BodyAnswer;
@@ -13,6 +18,8 @@ use hatch::HatchAnswer;
 use hatch::HatchBitsAnswer;
 use hatch::Lengths;
 use hatch::Outcome;
+use hatch::bodies::BodyRead;
+use hatch::record;
 use hatch_format::GradientFill;
 use hatch_format::GradientFillBits;
 use hatch_format::Hatch;
@@ -112,7 +119,7 @@ fn of_bits_fields(h: HatchBits) -> BodyFields
     }
 }
 
-pub fn of_hatch(a: HatchAnswer) -> BodyAnswer
+fn of_hatch(a: HatchAnswer) -> BodyAnswer
     ensures { λ r. ⌜ r ≡ bodyAnswer a ⌝ }
 {
     let outcome = a.outcome;
@@ -136,7 +143,7 @@ pub fn of_hatch(a: HatchAnswer) -> BodyAnswer
     }
 }
 
-pub fn of_hatch_bits(a: HatchBitsAnswer) -> BodyBitsAnswer
+fn of_hatch_bits(a: HatchBitsAnswer) -> BodyBitsAnswer
     ensures { λ r. ⌜ r ≡ bodyBits a ⌝ }
 {
     let outcome = a.outcome;
@@ -158,6 +165,38 @@ pub fn of_hatch_bits(a: HatchBitsAnswer) -> BodyBitsAnswer
         pixel_size: h.pixel_size,
         fields: of_bits_fields(h),
     }
+}
+
+// The answer of a call that has no colours, made at once.
+pub fn plain(r: BodyRead) -> BodyAnswer
+    requires { ⌜ Small (partsIn r) ⌝ }
+    ensures { λ x. ⌜ x ≡ bodyAnswer (doublesIn (answerWith (sixteen []) r)) ⌝ }
+{
+    of_hatch(record::plain_doubles(r))
+}
+
+// The answer with the colours read once more.
+pub fn colored(main: &[u8], r: BodyRead) -> BodyAnswer
+    requires { ⌜ Readable (now main) r × (0 < numColors r) ⌝ }
+    ensures { λ x. ⌜ x ≡ bodyAnswer (doublesIn (answerIn (now (main .entry)) r)) ⌝ }
+{
+    of_hatch(record::colored_doubles(main, r))
+}
+
+// The same with each double as its 64 bits.
+pub fn plain_bits(r: BodyRead) -> BodyBitsAnswer
+    requires { ⌜ Small (partsIn r) ⌝ }
+    ensures { λ x. ⌜ x ≡ bodyBits (answerWith (sixteen []) r) ⌝ }
+{
+    of_hatch_bits(record::plain_bits(r))
+}
+
+// The same with each double as its 64 bits.
+pub fn colored_bits(main: &[u8], r: BodyRead) -> BodyBitsAnswer
+    requires { ⌜ Readable (now main) r × (0 < numColors r) ⌝ }
+    ensures { λ x. ⌜ x ≡ bodyBits (answerIn (now (main .entry)) r) ⌝ }
+{
+    of_hatch_bits(record::colored_bits(main, r))
 }
 
 pub fn of_lengths(a: Lengths) -> LengthsAnswer

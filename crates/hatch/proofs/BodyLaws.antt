@@ -2,7 +2,7 @@
 use mathlib.Core.Path.{_≡_, refl, sym, ap, ap₂, subst, _∙_}
 use mathlib.Core.Bool.{Bool, true, false, _&&_}
 use mathlib.Core.List.{List, [], _∷_, _++_, append-nil}
-use Prim.Native.Nat.{ℕ, suc, _+_, _*_, _^_, _≤_, _<_, max}
+use Prim.Native.Nat.{ℕ, suc, _^_, _≤_, _<_}
 use native.Mathlib.Nat.{zero-add}
 use native.Mathlib.Omega.{arith}
 use lib.Dec.{leb}
@@ -12,64 +12,33 @@ use lib.Seq.{sets}
 use borrow.Author.Tests.{le-leb, leb-true, lt-leb}
 use Rattle.bitcursor.specs.declared.Refusal.{Refusal}
 use Rattle.bitcursor.specs.declared.Refusal.the-variants.{ListTooShort}
-use Rattle.bitcursor.specs.Bits.{size}
-use Rattle.bitcursor.specs.Reading.{Out, got, refused, place, andThen}
+use Rattle.bitcursor.specs.Reading.{Out, got, refused}
 use Rattle.bitcursor.specs.Ranges.{BS-below}
-use Rattle.bitcursor.specs.Format.{Format, pure, _>>=_, relay}
-use Rattle.bitcursor.specs.Inputs.{Places, Payloads, Onward}
-use Rattle.bitcursor.specs.Fields.{main, within, lifted}
-use Rattle.text.specs.declared.Places.{Places as CodePlaces}
+use Rattle.bitcursor.specs.Format.{relay}
+use Rattle.text.specs.declared.Places.{Places}
 use Rattle.text.specs.declared.version.Version.{Version}
-use Rattle.text.specs.Releases.{releaseNumber}
-use Rattle.text.specs.Answers.{asPlaces, placesOf}
-use Rattle.hatch_format.specs.Caps.{documentCaps}
 use Rattle.hatch_format.specs.declared.Caps.{Caps}
-use Rattle.hatch_format.specs.Values.{Gradient, Plane, Rest as RestValue, Body}
-use Rattle.hatch_format.specs.Layouts.{GradientLaid}
-use Rattle.hatch_format.specs.Entries.{every, words, numbers, pathWords, lineWords, pathNumbers, lineNumbers, pointNumbers}
-use Rattle.hatch_format.specs.Record.{recordOf, zeroRecord}
+use Rattle.hatch_format.specs.HandleRule.{Handles}
+use Rattle.hatch_format.specs.Values.{Rest as RestValue}
+use Rattle.hatch_format.specs.Entries.{every, words, numbers, lineWords, lineNumbers, pointNumbers}
 use Rattle.hatch_format.specs.Patterns.{rest}
-use Rattle.hatch_format.specs.Gradients.{gradient}
-use Rattle.hatch_format.specs.Hatch.{plane, hatch}
-use Rattle.hatch_format.specs.Call.{roomFor}
-use Rattle.hatch_format.specs.Begins.{BL-begins, BD-begins}
 use Rattle.hatch_points.specs.declared.lists.Sizes.{Sizes}
-use Rattle.hatch.specs.declared.fronts.Ended.{Ended}
-use Rattle.hatch.specs.declared.fronts.Ended.the-variants.{Done as DoneFront, Refused as RefusedFront}
-use Rattle.hatch.specs.declared.fronts.Front.{Front as FrontRead}
+use Rattle.hatch_points.specs.Gathered.{Entries, gathered}
+use Rattle.hatch_points.specs.Gathers.{all-both}
+use Rattle.hatch_points.specs.Lists.{Lists, lists, doublesOf, lay, grow, Laid}
+use Rattle.hatch_paths.specs.PathGathers.{all-paths}
 use Rattle.hatch_rest.specs.declared.rests.Rest.{Rest}
 use Rattle.hatch_rest.specs.declared.rests.RestWalk.{RestWalk}
 use Rattle.hatch_rest.specs.declared.rests.RestWalk.the-variants.{Done, Refused}
-use Rattle.hatch.specs.declared.HatchBitsAnswer.{HatchBitsAnswer}
-use Rattle.hatch.specs.declared.Outcome.the-variants.{Read}
-use Rattle.hatch_format.specs.declared.HatchBits.{HatchBits}
-use Rattle.hatch_points.specs.Gathered.{Entries, all, gathered}
-use Rattle.hatch_points.specs.Gathers.{all-both}
-use Rattle.hatch_paths.specs.PathGathers.{pathEntries, all-paths}
-use Rattle.hatch_points.specs.Lists.{Lists, lists, doublesOf, lay, grow, Laid}
-use Rattle.hatch_points.specs.Heads.{Modest}
 use Rattle.hatch_rest.specs.Tails.{Gives}
 use Rattle.hatch_rest.specs.Rests.{noSizes, restOf, restEntries, restWalk}
-use Rattle.hatch.specs.Fronts.{Front, front, named, whole, hatch-front, frontOf}
-use Rattle.hatch.specs.Bodies.{madeOf, placed, noneLent, Walked, roomy, madeIf, closedOf, layIf, closedLists}
-use Rattle.hatch.specs.Calls.{asBits, laidOver}
+use Rattle.hatch_front.specs.declared.Front.{Front}
+use Rattle.hatch.specs.declared.bodies.Parts.{Parts}
+use Rattle.hatch.specs.declared.bodies.BodyRead.{BodyRead}
+use Rattle.hatch.specs.declared.bodies.BodyRead.the-variants.{Done as DoneBody, Refused as RefusedBody}
+use Rattle.hatch.specs.Parts.{placed, noneLent, Walked, longEnough, partsIf, restRead, laidIf, restLists}
 
-pub modest : Modest documentCaps
-modest =
-    record {
-      vertices = omega arith;
-      edges = omega arith;
-      knots = omega arith;
-      controls = omega arith;
-      fits = omega arith;
-      handles = omega arith;
-      paths = omega arith;
-      lines = omega arith;
-      dashes = omega arith;
-      seeds = omega arith;
-    }
-
--- ---- what the rest's answer tells
+-- ---- from the rest's answer, what was read
 pub rest-done : (o : Out ℕ RestValue) {t : Rest} {q : ℕ} {z : Sizes} → Done t q z ≡ restWalk o
     → (a : RestValue) × (o ≡ got a q) × (t ≡ restOf a) × (z ≡ grow noSizes (restEntries a))
 rest-done (got a p) {t} {q} {z} e =
@@ -81,11 +50,11 @@ pub rest-not : (o : Out ℕ RestValue) {k : Refusal} {q : ℕ} → Refused k q �
 rest-not (got a p) e = let x : _≡_ {A = ℕ} 0 1 = cc in absurd (omega arith)
 rest-not (refused k p) e = cc
 
-pub rest-range : (caps : Caps) (v : Version) (xs : List ℕ) (p : ℕ) {a : RestValue} {q : ℕ} → (rest caps v) .read xs p ≡ got a q
+pub rest-range : (caps : Caps) (handles : Handles) (v : Version) (xs : List ℕ) (p : ℕ) {a : RestValue} {q : ℕ} → (rest caps handles v) .read xs p ≡ got a q
     → (a .tail .pattern-style < 2 ^ 16) × (a .tail .pattern-type < 2 ^ 16)
 unfolding rest relay
-rest-range caps v xs p {a} {q} e =
-    let l = (rest caps v) .sound xs a p q e .2 .2 .2 in
+rest-range caps handles v xs p {a} {q} e =
+    let l = (rest caps handles v) .sound xs a p q e .2 .2 .2 in
     (BS-below (a .tail .pattern-style) (l .1 .code) (l .1 .listed), BS-below (a .tail .pattern-type) (l .2 .1 .code) (l .2 .1 .listed))
 
 -- ---- what the rest lays is the definition's words and numbers
@@ -106,42 +75,46 @@ used-numbers a = zero-add (length (restEntries a .numbers)) ∙ ap length (laid-
 
 -- ---- the room
 module _ (nw nn : ℕ) (z : Sizes) where
-  pub short-words : nw < z .words → roomy nw nn z ≡ false
+  pub short-words : nw < z .words → longEnough nw nn z ≡ false
   short-words h = rw (lt-leb (z .words) nw h)
 
-  pub short-numbers : z .words ≤ nw → nn < z .numbers → roomy nw nn z ≡ false
+  pub short-numbers : z .words ≤ nw → nn < z .numbers → longEnough nw nn z ≡ false
   short-numbers g h = rw (le-leb (z .words) nw g, lt-leb (z .numbers) nn h)
 
-  pub room : z .words ≤ nw → z .numbers ≤ nn → roomy nw nn z ≡ true
-  room g h = rw (le-leb (z .words) nw g, le-leb (z .numbers) nn h)
+  pub long-enough : z .words ≤ nw → z .numbers ≤ nn → longEnough nw nn z ≡ true
+  long-enough g h = rw (le-leb (z .words) nw g, le-leb (z .numbers) nn h)
 
 -- ---- the rest behind a front
-module _ (f : FrontRead) (nw nn : ℕ) (p : CodePlaces) (o : Out ℕ RestValue) {t : Rest} {q : ℕ} {z : Sizes} (e : Done t q z ≡ restWalk o) where
-  told : (a : RestValue) × (o ≡ got a q) × (t ≡ restOf a) × (z ≡ grow noSizes (restEntries a))
-  told = rest-done o e
+module _ (f : Front) (nw nn : ℕ) (p : Places) (o : Out ℕ RestValue) {t : Rest} {q : ℕ} {z : Sizes} (e : Done t q z ≡ restWalk o) where
+  read : (a : RestValue) × (o ≡ got a q) × (t ≡ restOf a) × (z ≡ grow noSizes (restEntries a))
+  read = rest-done o e
 
-  pub closed-short : {r : HatchBitsAnswer} {l l′ : Lists} → roomy nw nn z ≡ false → r ≡ asBits (refused ListTooShort (placesOf (placed p q))) → l′ ≡ l
-      → (r ≡ closedOf f nw nn p o) × (l′ ≡ closedLists l nw nn o)
-  closed-short {r} {l} {l′} s i j =
-      let b : roomy nw nn (grow noSizes (restEntries (told .0))) ≡ false = ap (roomy nw nn) (sym (told .3)) ∙ s in
-      subst (λ (x : Out ℕ RestValue). (r ≡ closedOf f nw nn p x) × (l′ ≡ closedLists l nw nn x)) (sym (told .1))
-      (i ∙ ap (λ (c : Bool). madeIf c f (told .0) (placed p q)) (sym b), j ∙ ap (λ (c : Bool). layIf c l (told .0)) (sym b))
+  same-room : {b : Bool} → longEnough nw nn z ≡ b → longEnough nw nn (grow noSizes (restEntries (read .0))) ≡ b
+  same-room s = ap (longEnough nw nn) (sym (read .3)) ∙ s
 
-  pub closed-full : {h : HatchBits} (l l′ : Lists) → roomy nw nn z ≡ true → h ≡ madeOf f t z (placed p q) → Laid (gathered restEntries o) l noSizes l′
-      → (record { outcome = Read; hatch = h } ≡ closedOf f nw nn p o) × (l′ ≡ closedLists l nw nn o)
-  closed-full {h} l l′ s i g =
-      let a = told .0 in
-      let b : roomy nw nn (grow noSizes (restEntries a)) ≡ true = ap (roomy nw nn) (sym (told .3)) ∙ s in
-      let k : l′ ≡ lay l noSizes (restEntries a) = subst (λ (x : Out ℕ RestValue). Laid (gathered restEntries x) l noSizes l′) (told .1) g in
-      subst (λ (x : Out ℕ RestValue). (record { outcome = Read; hatch = h } ≡ closedOf f nw nn p x) × (l′ ≡ closedLists l nw nn x)) (sym (told .1)) (
-        ap (λ (x : HatchBits). record { outcome = Read; hatch = x }) (i ∙ ap₂ (λ (u : Rest) (y : Sizes). madeOf f u y (placed p q)) (told .2) (told .3)) ∙ ap (λ (c : Bool). madeIf c f a (placed p q)) (sym b),
-        k ∙ ap (λ (c : Bool). layIf c l a) (sym b),
-      )
+  abbrev Answered : BodyRead → Lists → Lists → Out ℕ RestValue → Type 0
+  Answered r l l′ x = (r ≡ restRead f nw nn p x) × (l′ ≡ restLists l nw nn x)
 
-pub closed-no : (f : FrontRead) (nw nn : ℕ) (p : CodePlaces) (o : Out ℕ RestValue) {k : Refusal} {q : ℕ} {r : HatchBitsAnswer} {l l′ : Lists} → Refused k q ≡ restWalk o
-    → r ≡ asBits (refused k (placesOf (placed p q))) → l′ ≡ l → (r ≡ closedOf f nw nn p o) × (l′ ≡ closedLists l nw nn o)
-closed-no f nw nn p o {k} {q} {r} {l} {l′} e i j =
-    subst (λ (x : Out ℕ RestValue). (r ≡ closedOf f nw nn p x) × (l′ ≡ closedLists l nw nn x)) (sym (rest-not o e)) (i, j)
+  pub rest-short : {l l′ : Lists} → longEnough nw nn z ≡ false → l′ ≡ l → Answered (RefusedBody ListTooShort (placed p q)) l l′ o
+  rest-short {l} {l′} s j =
+      let b = same-room s in
+      subst (Answered (RefusedBody ListTooShort (placed p q)) l l′) (sym (read .1))
+      (ap (λ (c : Bool). partsIf c f (read .0) (placed p q)) (sym b), j ∙ ap (λ (c : Bool). laidIf c l (read .0)) (sym b))
+
+  pub rest-full : (l l′ : Lists) → longEnough nw nn z ≡ true → Laid (gathered restEntries o) l noSizes l′
+      → Answered (DoneBody (record { front = f; rest = t; used = z; places = placed p q })) l l′ o
+  rest-full l l′ s g =
+      let a = read .0 in
+      let b = same-room s in
+      let laid : l′ ≡ lay l noSizes (restEntries a) = subst (λ (x : Out ℕ RestValue). Laid (gathered restEntries x) l noSizes l′) (read .1) g in
+      let same = ap₂ (λ (u : Rest) (y : Sizes). DoneBody (record { front = f; rest = u; used = y; places = placed p q })) (read .2) (read .3) in
+      subst (Answered (DoneBody (record { front = f; rest = t; used = z; places = placed p q })) l l′) (sym (read .1))
+      (same ∙ ap (λ (c : Bool). partsIf c f a (placed p q)) (sym b), laid ∙ ap (λ (c : Bool). laidIf c l a) (sym b))
+
+pub rest-refused : (f : Front) (nw nn : ℕ) (p : Places) (o : Out ℕ RestValue) {k : Refusal} {q : ℕ} {l l′ : Lists} → Refused k q ≡ restWalk o → l′ ≡ l
+    → (RefusedBody k (placed p q) ≡ restRead f nw nn p o) × (l′ ≡ restLists l nw nn o)
+rest-refused f nw nn p o {k} {q} {l} {l′} e j =
+    subst (λ (x : Out ℕ RestValue). (RefusedBody k (placed p q) ≡ restRead f nw nn p x) × (l′ ≡ restLists l nw nn x)) (sym (rest-not o e)) (refl, j)
 
 -- ---- a walk that measures, and one that fills
 module _ (xs : List ℕ) (o : Out ℕ RestValue) (l l′ : Lists) {fill : Bool} where
@@ -151,16 +124,9 @@ module _ (xs : List ℕ) (o : Out ℕ RestValue) (l l′ : Lists) {fill : Bool} 
   pub measured : fill ≡ false → l′ ≡ l → Walked fill xs o l l′
   measured e i = subst (λ (b : Bool). Walked b xs o l l′) (sym e) i
 
--- the same by caps that are known as others
-pub walk-as : {c d : Caps} → c ≡ d → (v : Version) (xs : List ℕ) (p : ℕ) {r w : RestWalk} → r ≡ w → r ≡ restWalk ((rest c v) .read xs p)
-    → w ≡ restWalk ((rest d v) .read xs p)
-walk-as e v xs p i j = sym i ∙ (j ∙ ap (λ (x : Caps). restWalk ((rest x v) .read xs p)) e)
-
--- and from lists that are known as others
-pub laid-as : {c d : Caps} → c ≡ d → (v : Version) (xs : List ℕ) (p : ℕ) {l m : Lists} (l′ : Lists) → m ≡ l → Laid (gathered restEntries ((rest c v) .read xs p)) m noSizes l′
-    → Laid (gathered restEntries ((rest d v) .read xs p)) l noSizes l′
-laid-as {c} {d} e v xs p {l} {m} l′ i h =
-    subst (λ (x : Lists). Laid (gathered restEntries ((rest d v) .read xs p)) x noSizes l′) i (subst (λ (x : Caps). Laid (gathered restEntries ((rest x v) .read xs p)) m noSizes l′) e h)
+-- what was laid, from lists that are known as others
+pub laid-from : (o : Out ℕ RestValue) {l m : Lists} (l′ : Lists) → m ≡ l → Laid (gathered restEntries o) m noSizes l′ → Laid (gathered restEntries o) l noSizes l′
+laid-from o l′ i h = subst (λ (x : Lists). Laid (gathered restEntries o) x noSizes l′) i h
 
 -- ---- empty lists take nothing
 sets-none : {A : Type 0} (l : List A) (i : ℕ) (vs : List A) → length l ≡ 0 → l ≡ sets l i vs
@@ -182,7 +148,8 @@ none-all a b c h = go (leb a 0) (leb b 0) (leb c 0) refl refl refl h
     go false t u e f g h = let x : _≡_ {A = ℕ} 0 1 = cc in absurd (omega arith)
 
 pub none-laid : (o : Out ℕ RestValue) (a : List Float) (b c : List ℕ) → noneLent (length a) (length b) (length c) ≡ true → Laid (gathered restEntries o) (lists a b c) noSizes (lists a b c)
-none-laid (refused k q) a b c h = tt
+none-laid (refused k q) a b c h =
+    record { doubles = record { long = refl; front = refl }; bits = record { long = refl; front = refl }; words = record { long = refl; front = refl } }
 none-laid (got v q) a b c h =
     let n = none-all (length a) (length b) (length c) h in
     let e = restEntries v in

@@ -2,7 +2,7 @@
 use mathlib.Core.Path.{_≡_, refl, sym, ap, ap₂, subst, _∙_}
 use mathlib.Core.Bool.{Bool, true, false, _&&_}
 use mathlib.Core.List.{List, []}
-use Prim.Native.Nat.{ℕ, _+_, _*_, _≤_, _<_, max}
+use Prim.Native.Nat.{ℕ, _*_, _^_, _≤_, _<_}
 use native.Mathlib.Omega.{arith}
 use lib.Dec.{leb}
 use lib.ListN.{length}
@@ -12,59 +12,62 @@ use Rattle.bitcursor.specs.declared.Refusal.the-variants.{TooFewBits, UnknownRe
 use Rattle.bitcursor.specs.Bits.{size}
 use Rattle.bitcursor.specs.Reading.{Out, got, refused, place, andThen}
 use Rattle.bitcursor.specs.Answers.{limit}
-use Rattle.bitcursor.specs.Format.{Format, pure, _>>=_, relay}
+use Rattle.bitcursor.specs.Format.{pure, _>>=_, relay}
 use Rattle.bitcursor.specs.Inputs.{Places, Payloads, Onward}
 use Rattle.bitcursor.specs.Fields.{main, within, lifted, movedIn}
 use Rattle.text.specs.declared.Places.{Places as CodePlaces}
 use Rattle.text.specs.declared.version.Version.{Version}
 use Rattle.text.specs.declared.version.MaybeVersion.the-variants.{Known, Unknown}
 use Rattle.text.specs.Releases.{releaseNumber, versionOf}
-use Rattle.text.specs.Answers.{asPlaces, placesOf, payloads}
-use Rattle.hatch_format.specs.Caps.{documentCaps}
+use Rattle.text.specs.Answers.{asPlaces, placesOf}
 use Rattle.hatch_format.specs.declared.Caps.{Caps}
+use Rattle.hatch_format.specs.HandleRule.{Handles}
 use Rattle.hatch_format.specs.Values.{Rest as RestValue, Body}
 use Rattle.hatch_format.specs.Layouts.{GradientLaid}
 use Rattle.hatch_format.specs.Entries.{words, numbers}
-use Rattle.hatch_format.specs.Record.{recordOf, zeroRecord}
 use Rattle.hatch_format.specs.Patterns.{rest}
 use Rattle.hatch_format.specs.Gradients.{gradient}
 use Rattle.hatch_format.specs.Hatch.{plane, hatch}
-use Rattle.hatch_format.specs.Call.{roomFor}
+use Rattle.hatch_format.specs.Call.{roomFor, callOn}
 use Rattle.hatch_format.specs.Begins.{BL-begins, BD-begins}
-use Rattle.hatch_points.specs.declared.lists.Sizes.{Sizes}
-use Rattle.hatch.specs.declared.fronts.Ended.the-variants.{Done as DoneFront, Refused as RefusedFront}
-use Rattle.hatch.specs.declared.fronts.Front.{Front as FrontRead}
-use Rattle.hatch.specs.declared.HatchBitsAnswer.{HatchBitsAnswer}
-use Rattle.hatch.specs.declared.Outcome.the-variants.{Read}
-use Rattle.hatch_format.specs.declared.HatchBits.{HatchBits}
 use Rattle.hatch_points.specs.Lists.{Lists, grow}
 use Rattle.hatch_rest.specs.Rests.{noSizes, restOf, restEntries}
-use Rattle.hatch.specs.Fronts.{Front, front, named, whole, hatch-front, frontOf}
-use Rattle.hatch.specs.Bodies.{madeOf, placed, roomy, madeIf, closedOf, layIf, closedLists, openedBy, opened}
-use Rattle.hatch.specs.Calls.{asBits, laidOver}
-use Rattle.hatch.proofs.BodyLaws.{used-words, used-numbers}
+use Rattle.hatch_front.specs.declared.Front.{Front as CodeFront}
+use Rattle.hatch_front.specs.declared.FrontRead.{FrontRead}
+use Rattle.hatch_front.specs.declared.FrontRead.the-variants.{Done as DoneFront, Refused as RefusedFront}
+use Rattle.hatch_front.specs.Fronts.{Front, front, named, whole, hatch-front}
+use Rattle.hatch_front.specs.Answers.{ColorsAt, frontOf, FrontIs}
+use Rattle.hatch.specs.declared.bodies.Parts.{Parts}
+use Rattle.hatch.specs.declared.bodies.BodyRead.{BodyRead}
+use Rattle.hatch.specs.declared.bodies.BodyRead.the-variants.{Done, Refused as RefusedBody}
+use Rattle.hatch.specs.Parts.{BodyIs, Readable, placed, longEnough, partsIf, restRead, laidIf, restLists}
+use Rattle.hatch.specs.Calls.{laidOver, CallIs}
+use Rattle.hatch.proofs.BodyLaws.{used-words, used-numbers, rest-range}
 
--- ---- what the front's answer tells
-pub front-done : (o : Out Places Front) {r : FrontRead} {p : CodePlaces} → r ≡ frontOf o → r .last ≡ DoneFront p
-    → (f : Front) × (q : Places) × (o ≡ got f q) × (p ≡ asPlaces q) × (r ≡ frontOf (got f q))
-front-done (got f q) {r} {p} e h =
-    let i : DoneFront p ≡ DoneFront (asPlaces q) = sym h ∙ ap (λ (x : FrontRead). x .last) e in
-    (f, q, refl, cc, e)
-front-done (refused k q) {r} {p} e h =
-    let i : DoneFront p ≡ RefusedFront k (asPlaces q) = sym h ∙ ap (λ (x : FrontRead). x .last) e in
-    let x : _≡_ {A = ℕ} 0 1 = cc in
+-- ---- from the front's answer, what was read
+pub front-got : (xs : List ℕ) (o : Out Places Front) {x : FrontRead} {f : CodeFront} {p : CodePlaces} → FrontIs xs o x → x ≡ DoneFront f p
+    → (a : Front) × (at : ℕ) × (o ≡ got a (placesOf p)) × (f ≡ frontOf at a) × ColorsAt xs at (a .gradient .colors)
+front-got xs (got a q) {x} {f} {p} e h =
+    let i : DoneFront f p ≡ DoneFront (frontOf (e .0) a) (asPlaces q) = sym h ∙ e .1 in
+    let ep : asPlaces q ≡ p = cc in
+    let ef : f ≡ frontOf (e .0) a = cc in
+    (a, e .0, ap (got a) (ap placesOf ep), ef, e .2)
+front-got xs (refused k q) {x} {f} {p} e h =
+    let i : DoneFront f p ≡ RefusedFront k (asPlaces q) = sym h ∙ e in
+    let z : _≡_ {A = ℕ} 0 1 = cc in
     absurd (omega arith)
 
-pub front-stop : (o : Out Places Front) {r : FrontRead} {k : Refusal} {p : CodePlaces} → r ≡ frontOf o → r .last ≡ RefusedFront k p
-    → (q : Places) × (o ≡ refused k q) × (p ≡ asPlaces q)
-front-stop (got f q) {r} {k} {p} e h =
-    let i : RefusedFront k p ≡ DoneFront (asPlaces q) = sym h ∙ ap (λ (x : FrontRead). x .last) e in
-    let x : _≡_ {A = ℕ} 0 1 = cc in
+pub front-refused : (xs : List ℕ) (o : Out Places Front) {x : FrontRead} {k : Refusal} {p : CodePlaces} → FrontIs xs o x → x ≡ RefusedFront k p
+    → o ≡ refused k (placesOf p)
+front-refused xs (got a q) {x} {k} {p} e h =
+    let i : RefusedFront k p ≡ DoneFront (frontOf (e .0) a) (asPlaces q) = sym h ∙ e .1 in
+    let z : _≡_ {A = ℕ} 0 1 = cc in
     absurd (omega arith)
-front-stop (refused j q) {r} {k} {p} e h =
-    let i : RefusedFront k p ≡ RefusedFront j (asPlaces q) = sym h ∙ ap (λ (x : FrontRead). x .last) e in
-    let m : j ≡ k = cc in
-    (q, ap (λ (x : Refusal). refused x q) m, cc)
+front-refused xs (refused j q) {x} {k} {p} e h =
+    let i : RefusedFront k p ≡ RefusedFront j (asPlaces q) = sym h ∙ e in
+    let ek : j ≡ k = cc in
+    let ep : asPlaces q ≡ p = cc in
+    ap₂ refused ek (ap placesOf ep)
 
 -- the rest starts within the main payload: the front's first field is a code of two bits at least
 pub front-within : (caps : Caps) (v : Version) (γ : Payloads) (p : Places) {f : Front} {q : Places} → (front caps v) .read γ p ≡ got f q → q .main ≤ size (γ .main)
@@ -83,97 +86,95 @@ front-within caps v γ p {f} {q} e =
     go a r false g h = subst (λ (s : Places). s .main < size (γ .main)) (g .1) h
 
 -- ---- the rest behind the front
-module _ (v : Version) (γ : Payloads) (f : Front) (q : Places) (nw nn : ℕ) where
+module _ (caps : Caps) (handles : Handles) (v : Version) (γ : Payloads) (f : Front) (at : ℕ) (q : Places) (nw nn : ℕ) (within : length (γ .main) ≤ limit)
+    (colors : ColorsAt (γ .main) at (f .gradient .colors)) where
   abbrev body : RestValue → Body
   body a = record { gradient = f .gradient; plane = f .plane; name = f .name; rest = a }
 
-  same-room : (a : RestValue) → leb (length (words a)) nw && leb (length (numbers a)) nn ≡ roomy nw nn (grow noSizes (restEntries a))
+  same-room : (a : RestValue) → leb (length (words a)) nw && leb (length (numbers a)) nn ≡ longEnough nw nn (grow noSizes (restEntries a))
   same-room a = ap₂ (λ (m n : ℕ). leb m nw && leb n nn) (sym (used-words a)) (sym (used-numbers a))
-
-  same-record : (a : RestValue) (t : ℕ) → recordOf (body a) (movedIn main q t) ≡ madeOf (frontOf (got f q)) (restOf a) (grow noSizes (restEntries a)) (placed (asPlaces q) t)
-  same-record a t =
-      let z = grow noSizes (restEntries a) in
-      ap (λ (y : Sizes). madeOf (frontOf (got f q)) (restOf a) y (placed (asPlaces q) t))
-      (λ i. record { numbers = sym (used-numbers a) i; words = sym (used-words a) i; derived = z .derived })
-
-  made-if : (a : RestValue) (t : ℕ) (b : Bool)
-      → asBits (elim b [ true ↦ got (body a) (movedIn main q t) | false ↦ refused ListTooShort (movedIn main q t) ]) ≡ madeIf b (frontOf (got f q)) a (placed (asPlaces q) t)
-  made-if a t true = ap (λ (h : HatchBits). record { outcome = Read; hatch = h }) (same-record a t)
-  made-if a t false = refl
-
-  lay-if : (l : Lists) (a : RestValue) (t : ℕ) (b : Bool)
-      → laidOver l (elim b [ true ↦ got (body a) (movedIn main q t) | false ↦ refused ListTooShort (movedIn main q t) ]) ≡ layIf b l a
-  lay-if l a t true = refl
-  lay-if l a t false = refl
 
   abbrev behind : Out ℕ RestValue → Out Places Body
   behind o = roomFor nw nn (andThen (lifted main q o) (λ b r. got (body b) r))
 
-  answer-closed : (o : Out ℕ RestValue) → asBits (behind o) ≡ closedOf (frontOf (got f q)) nw nn (asPlaces q) o
-  answer-closed (refused k t) = refl
-  answer-closed (got a t) = made-if a t (leb (length (words a)) nw && leb (length (numbers a)) nn) ∙ ap (λ (b : Bool). madeIf b (frontOf (got f q)) a (placed (asPlaces q) t)) (same-room a)
+  answered : (l : Lists) (a : RestValue) (t : ℕ) → (a .tail .pattern-style < 2 ^ 16) × (a .tail .pattern-type < 2 ^ 16) → (b : Bool)
+      → CallIs (γ .main) (elim b [ true ↦ got (body a) (movedIn main q t) | false ↦ refused ListTooShort (movedIn main q t) ]) l (laidIf b l a)
+      (partsIf b (frontOf at f) a (placed (asPlaces q) t))
+  answered l a t small true = record { body = (at, refl, colors); readable = (within, (colors .few, small)); lists = refl }
+  answered l a t small false = record { body = refl; readable = tt; lists = refl }
 
-  lists-closed : (l : Lists) (o : Out ℕ RestValue) → laidOver l (behind o) ≡ closedLists l nw nn o
-  lists-closed l (refused k t) = refl
-  lists-closed l (got a t) = lay-if l a t (leb (length (words a)) nw && leb (length (numbers a)) nn) ∙ ap (λ (b : Bool). layIf b l a) (same-room a)
+  pub behind-is : (l : Lists) (p : ℕ) (o : Out ℕ RestValue) → (rest caps handles v) .read (γ .main) p ≡ o
+      → CallIs (γ .main) (behind o) l (restLists l nw nn o) (restRead (frontOf at f) nw nn (asPlaces q) o)
+  behind-is l p (refused k t) e = record { body = refl; readable = tt; lists = refl }
+  behind-is l p (got a t) e =
+      subst (λ (b : Bool). CallIs (γ .main) (behind (got a t)) l (laidIf b l a) (partsIf b (frontOf at f) a (placed (asPlaces q) t))) (same-room a)
+      (answered l a t (rest-range caps handles v (γ .main) p e) (leb (length (words a)) nw && leb (length (numbers a)) nn))
+
+module _ (caps : Caps) (handles : Handles) (v : Version) (γ : Payloads) where
+  abbrev wholeRead : Places → ℕ → ℕ → Out Places Body
+  wholeRead p nw nn = roomFor nw nn ((hatch caps handles v) .read γ p)
+
+  abbrev restAt : ℕ → Out ℕ RestValue
+  restAt n = (rest caps handles v) .read (γ .main) n
 
 -- the whole body, from the answer for the rest behind its front
-module _ (v : Version) (γ : Payloads) (p : Places) (nw nn : ℕ) {r : FrontRead} (e : r ≡ frontOf ((front documentCaps v) .read γ p)) where
-  pub body-done : {c : CodePlaces} {u : HatchBitsAnswer} (l : Lists) {l′ : Lists} → r .last ≡ DoneFront c
-      → (u ≡ closedOf r nw nn c ((rest documentCaps v) .read (γ .main) (c .main))) × (l′ ≡ closedLists l nw nn ((rest documentCaps v) .read (γ .main) (c .main)))
-      → (u ≡ asBits (roomFor nw nn ((hatch documentCaps v) .read γ p))) × (l′ ≡ laidOver l (roomFor nw nn ((hatch documentCaps v) .read γ p)))
-  body-done {c} {u} l {l′} h k =
-      let t = front-done ((front documentCaps v) .read γ p) e h in
-      let f = t .0 in
-      let q = t .1 in
-      let o = (rest documentCaps v) .read (γ .main) (q .main) in
-      let w : (hatch documentCaps v) .read γ p ≡ whole documentCaps v γ f q = hatch-front documentCaps v γ p ∙ ap (λ (x : Out Places Front). andThen x (whole documentCaps v γ)) (t .2) in
-      let i : u ≡ closedOf (frontOf (got f q)) nw nn (asPlaces q) o =
-      k .0 ∙ ap₂ (λ (x : FrontRead) (y : CodePlaces). closedOf x nw nn y ((rest documentCaps v) .read (γ .main) (y .main))) (t .4) (t .3) in
-      let j : l′ ≡ closedLists l nw nn o = k .1 ∙ ap (λ (y : CodePlaces). closedLists l nw nn ((rest documentCaps v) .read (γ .main) (y .main))) (t .3) in (
-        i ∙ sym (answer-closed v γ f q nw nn o) ∙ ap (λ (x : Out Places Body). asBits (roomFor nw nn x)) (sym w),
-        j ∙ sym (lists-closed v γ f q nw nn l o) ∙ ap (λ (x : Out Places Body). laidOver l (roomFor nw nn x)) (sym w),
-      )
+module _ (caps : Caps) (handles : Handles) (v : Version) (γ : Payloads) (p : Places) (nw nn : ℕ) (x : FrontRead)
+    (e : FrontIs (γ .main) ((front caps v) .read γ p) x) where
+  pub body-done : {f : CodeFront} {c : CodePlaces} {u : BodyRead} (l : Lists) {l′ : Lists} → length (γ .main) ≤ limit → x ≡ DoneFront f c
+      → (u ≡ restRead f nw nn c (restAt caps handles v γ (c .main))) × (l′ ≡ restLists l nw nn (restAt caps handles v γ (c .main)))
+      → CallIs (γ .main) (wholeRead caps handles v γ p nw nn) l l′ u
+  body-done {f} {c} {u} l {l′} within h k =
+      let t = front-got (γ .main) ((front caps v) .read γ p) e h in
+      let a = t .0 in
+      let read : (hatch caps handles v) .read γ p ≡ whole caps handles v γ a (placesOf c) =
+      hatch-front caps handles v γ p ∙ ap (λ (y : Out Places Front). andThen y (whole caps handles v γ)) (t .2) in
+      let is = behind-is caps handles v γ a (t .1) (placesOf c) nw nn within (t .4) l (c .main) (restAt caps handles v γ (c .main)) refl in
+      let same : u ≡ restRead (frontOf (t .1) a) nw nn c (restAt caps handles v γ (c .main)) = k .0 ∙ ap (λ (y : CodeFront). restRead y nw nn c (restAt caps handles v γ (c .main))) (t .3) in
+      rw (read, same, k .1) is
 
-  pub body-no : {k : Refusal} {c : CodePlaces} {u : HatchBitsAnswer} {l l′ : Lists} → r .last ≡ RefusedFront k c → u ≡ asBits (refused k (placesOf c)) → l′ ≡ l
-      → (u ≡ asBits (roomFor nw nn ((hatch documentCaps v) .read γ p))) × (l′ ≡ laidOver l (roomFor nw nn ((hatch documentCaps v) .read γ p)))
-  body-no {k} {c} {u} {l} {l′} h i j =
-      let t = front-stop ((front documentCaps v) .read γ p) e h in
-      let w : (hatch documentCaps v) .read γ p ≡ refused k (t .0) = hatch-front documentCaps v γ p ∙ ap (λ (x : Out Places Front). andThen x (whole documentCaps v γ)) (t .1) in (
-        i ∙ ap (λ (y : CodePlaces). asBits (refused k (placesOf y))) (t .2) ∙ ap (λ (x : Out Places Body). asBits (roomFor nw nn x)) (sym w),
-        j ∙ ap (λ (x : Out Places Body). laidOver l (roomFor nw nn x)) (sym w),
-      )
+  pub body-refused : {k : Refusal} {c : CodePlaces} (l : Lists) → x ≡ RefusedFront k c → CallIs (γ .main) (wholeRead caps handles v γ p nw nn) l l (RefusedBody k c)
+  body-refused {k} {c} l h =
+      let none = front-refused (γ .main) ((front caps v) .read γ p) e h in
+      let read : (hatch caps handles v) .read γ p ≡ refused k (placesOf c) =
+      hatch-front caps handles v γ p ∙ ap (λ (y : Out Places Front). andThen y (whole caps handles v γ)) none in
+      rw read (record { body = refl; readable = tt; lists = refl })
 
-  pub body-starts : {c : CodePlaces} → r .last ≡ DoneFront c → c .main ≤ 8 * length (γ .main)
-  body-starts h =
-      let t = front-done ((front documentCaps v) .read γ p) e h in
-      let b = front-within documentCaps v γ p (t .2) in
-      subst (λ (y : CodePlaces). y .main ≤ 8 * length (γ .main)) (sym (t .3)) b
+  pub body-starts : {f : CodeFront} {c : CodePlaces} → x ≡ DoneFront f c → c .main ≤ 8 * length (γ .main)
+  body-starts {f} {c} h =
+      let t = front-got (γ .main) ((front caps v) .read γ p) e h in
+      front-within caps v γ p (t .2)
 
 -- ---- the tests in front
-module _ (release : ℕ) (γ : Payloads) (p : Places) (nw nn : ℕ) where
-  pub unknown : versionOf release ≡ Unknown → opened release γ p nw nn ≡ refused UnknownRelease p
-  unfolding opened
+module _ (caps : Caps) (handles : Handles) (nw nn : ℕ) (γ : Payloads) (p : Places) (release : ℕ) where
+  abbrev call : Out Places Body
+  call = callOn caps handles nw nn γ p release
+
+  pub unknown : versionOf release ≡ Unknown → call ≡ refused UnknownRelease p
+  unfolding callOn
   unknown e = rw e
 
   module _ {v : Version} (e : versionOf release ≡ Known v) where
-    pub main-long : limit < length (γ .main) → opened release γ p nw nn ≡ refused PayloadTooLong p
-    unfolding opened
+    pub main-long : limit < length (γ .main) → call ≡ refused PayloadTooLong p
+    unfolding callOn
     main-long h = rw (e, lt-leb _ _ h)
 
-    pub string-long : length (γ .main) ≤ limit → limit < length (γ .string) → opened release γ p nw nn ≡ refused PayloadTooLong p
-    unfolding opened
+    pub string-long : length (γ .main) ≤ limit → limit < length (γ .string) → call ≡ refused PayloadTooLong p
+    unfolding callOn
     string-long g h = rw (e, le-leb _ _ g, lt-leb _ _ h)
 
     pub start-past : length (γ .main) ≤ limit → length (γ .string) ≤ limit → size (γ .string) < p .string
-        → opened release γ p nw nn ≡ refused TooFewBits (record { main = p .main; string = size (γ .string) })
-    unfolding opened
+        → call ≡ refused TooFewBits (record { main = p .main; string = size (γ .string) })
+    unfolding callOn
     start-past f g h = rw (e, le-leb _ _ f, le-leb _ _ g, lt-leb _ _ h)
 
     pub body-read : length (γ .main) ≤ limit → length (γ .string) ≤ limit → p .string ≤ size (γ .string)
-        → opened release γ p nw nn ≡ roomFor nw nn ((hatch documentCaps v) .read γ p)
-    unfolding opened
+        → call ≡ roomFor nw nn ((hatch caps handles v) .read γ p)
+    unfolding callOn
     body-read f g h = rw (e, le-leb _ _ f, le-leb _ _ g, le-leb _ _ h)
 
-pub call-as : {o o′ : Out Places Body} {u : HatchBitsAnswer} (l : Lists) {l′ : Lists} → o ≡ o′ → (u ≡ asBits o′) × (l′ ≡ laidOver l o′) → (u ≡ asBits o) × (l′ ≡ laidOver l o)
-call-as {o} {o′} {u} l {l′} e h = subst (λ (x : Out Places Body). (u ≡ asBits x) × (l′ ≡ laidOver l x)) (sym e) h
+-- a call that is refused before its fields
+pub refused-is : (xs : List ℕ) {o : Out Places Body} {k : Refusal} {p : CodePlaces} (l : Lists) → o ≡ refused k (placesOf p) → CallIs xs o l l (RefusedBody k p)
+refused-is xs l e = rw e (record { body = refl; readable = tt; lists = refl })
+
+pub call-as : (xs : List ℕ) {o o′ : Out Places Body} {u : BodyRead} (l : Lists) {l′ : Lists} → o ≡ o′ → CallIs xs o′ l l′ u → CallIs xs o l l′ u
+call-as xs {o} {o′} {u} l {l′} e h = subst (λ (x : Out Places Body). CallIs xs x l l′ u) (sym e) h

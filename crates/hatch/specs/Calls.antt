@@ -13,12 +13,15 @@ use Rattle.hatch_format.specs.Caps.{documentCaps}
 use Rattle.hatch_format.specs.Values.{Rest, Body}
 use Rattle.hatch_format.specs.Entries.{words, numbers}
 use Rattle.hatch_format.specs.Record.{recordOf, zeroRecord, asDoubles}
+use Rattle.hatch_format.specs.HandleRule.{in-payload}
 use Rattle.hatch_format.specs.Call.{Strings, Call, hatchCall}
 use Rattle.hatch_format.specs.declared.HatchBits.{HatchBits}
 use Rattle.hatch.specs.declared.Outcome.the-variants.{Read, Refused}
 use Rattle.hatch.specs.declared.HatchAnswer.{HatchAnswer}
 use Rattle.hatch.specs.declared.HatchBitsAnswer.{HatchBitsAnswer}
 use Rattle.hatch.specs.declared.Lengths.{Lengths}
+use Rattle.hatch.specs.declared.bodies.BodyRead.{BodyRead}
+use Rattle.hatch.specs.Parts.{BodyIs, Readable}
 use Rattle.hatch_points.specs.Lists.{Lists, lists, doublesOf, lay}
 use Rattle.hatch_rest.specs.Rests.{noSizes, restEntries}
 
@@ -58,23 +61,34 @@ ReadsBits o r bits bits′ words words′ = (r ≡ asBits o) × ((bits′ ≡ nu
 abbrev pub Reads : Out Places Body → HatchAnswer → (numbers numbers′ : List Float) (words words′ : List ℕ) → Type 0
 Reads o r numbers numbers′ words words′ = (r ≡ asData o) × ((numbers′ ≡ doublesAfter o numbers) × (words′ ≡ wordsAfter o words))
 
--- ---- the calls
+-- ---- the calls: document 01's caps, and boundary handles in the payload
 abbrev pub callOf : ℕ → List ℕ → ℕ → Strings → ℕ → ℕ → Out Places Body
 callOf release xs start strings nw nn =
-    hatchCall documentCaps (record { release = release; main = xs; start = start; strings = strings; words = nw; numbers = nn })
+    hatchCall
+    (record { release = release; main = xs; start = start; strings = strings; caps = documentCaps; handles = in-payload; words = nw; numbers = nn })
 
 -- inside, before a list's room is known: what the lists are then
 abbrev pub laidOver : Lists → Out Places Body → Lists
 laidOver l (got a q) = lay l noSizes (restEntries (a .rest))
 laidOver l (refused k q) = l
 
+-- ---- what the functions ensure that hand on a body's parts: the lists before and after, and, for one list of numbers, the same in these terms
+pub record CallIs (xs : List ℕ) (o : Out Places Body) (l l′ : Lists) (r : BodyRead) : Type 0 where
+  pub body : BodyIs xs o r
+  pub readable : Readable xs r
+  pub lists : l′ ≡ laidOver l o
+
+pub record ReadsParts {A : Type 0} (e : Rest → List A) (xs : List ℕ) (o : Out Places Body) (r : BodyRead) (numbers numbers′ : List A)
+    (words words′ : List ℕ) : Type 0 where
+  pub body : BodyIs xs o r
+  pub readable : Readable xs r
+  pub numbers-then : numbers′ ≡ filled e o numbers
+  pub words-then : words′ ≡ wordsAfter o words
+
 -- ---- the lengths that a readable hatch needs, whatever is lent
 abbrev pub asLengths : Out Places Body → Lengths
 asLengths (got a q) = record { outcome = Read; words = length (words (a .rest)); numbers = length (numbers (a .rest)); places = asPlaces q }
 asLengths (refused k q) = record { outcome = Refused k; words = 0; numbers = 0; places = asPlaces q }
-
-abbrev pub lengthsIn : HatchBitsAnswer → Lengths
-lengthsIn r = record { outcome = r .outcome; words = r .hatch .«words_used»; numbers = r .hatch .«numbers_used»; places = r .hatch .places }
 
 -- longer than any list is
 abbrev pub most : ℕ

@@ -1,6 +1,6 @@
-pub mod Rows
-pub mod Fronts
 pub mod Seeds
-pub mod Bodies
+pub mod Parts
 pub mod Calls
 pub mod Demands
+pub mod EntryBits
+pub mod Measuring

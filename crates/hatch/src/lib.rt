@@ -1,19 +1,18 @@
 // The hatch calls: src/entities/hatch.rs of dwg-rs; section 20.4.75 of the specification.
-// The walks of hatch_walks measure first and then fill, so that no list is written while a later field can still fail.
+// The walks measure first and then fill, so that no list is written while a later field can still fail.
 // specs/ promises of each call, on any input, its record, both places and every entry of both lists, as hatch_format defines them.
 ghost use mathlib.Core.Path.{_≡_};
 ghost use lib.ListN.{length};
 ghost use Rattle.hatch_format.specs.Call.{none, lent};
-ghost use Rattle.hatch.specs.Calls.{ReadsBits, Reads, asLengths, lengthsIn, callOf, most};
+ghost use Rattle.hatch.specs.Calls.{ReadsBits, Reads, asLengths, callOf, most};
 use bitcursor::Refusal;
 use hatch_format::Hatch;
 use hatch_format::HatchBits;
 use text::Places;
 
-mod bodies;
-mod fills;
-mod fronts;
-mod record;
+pub mod bodies;
+pub mod calls;
+pub mod record;
 pub mod seeds;
 
 pub enum Outcome {
@@ -51,26 +50,8 @@ pub fn decode_bits(
 ) -> HatchBitsAnswer
     ensures { λ r. ⌜ ReadsBits (callOf release (now (main .entry)) start none (length (now (words .entry))) (length (now (bits .entry)))) r (now (bits .entry)) (now (bits .exit)) (now (words .entry)) (now (words .exit)) ⌝ }
 {
-    let mut numbers = [0.0f64; 1];
-    let at = Places {
-        main: start,
-        string: 0,
-    };
-    let words_room = words.len();
-    let numbers_room = bits.len();
-    bodies::read_call(
-        main,
-        &main[..0],
-        at,
-        false,
-        0,
-        release,
-        words_room,
-        numbers_room,
-        &mut numbers[..0],
-        bits,
-        words,
-    )
+    let read = calls::read_bits(main, start, release, bits, words);
+    record::bits_answer(main, read)
 }
 
 // The same with doubles as f64.
@@ -83,32 +64,8 @@ pub fn decode(
 ) -> HatchAnswer
     ensures { λ r. ⌜ Reads (callOf release (now (main .entry)) start none (length (now (words .entry))) (length (now (numbers .entry)))) r (now (numbers .entry)) (now (numbers .exit)) (now (words .entry)) (now (words .exit)) ⌝ }
 {
-    let mut bits = [0u64; 1];
-    let at = Places {
-        main: start,
-        string: 0,
-    };
-    let words_room = words.len();
-    let numbers_room = numbers.len();
-    let answer = bodies::read_call(
-        main,
-        &main[..0],
-        at,
-        false,
-        0,
-        release,
-        words_room,
-        numbers_room,
-        numbers,
-        &mut bits[..0],
-        words,
-    );
-    let outcome = answer.outcome;
-    let hatch = answer.hatch;
-    HatchAnswer {
-        outcome: outcome,
-        hatch: record::as_doubles(hatch),
-    }
+    let read = calls::read(main, start, release, numbers, words);
+    record::doubles_answer(main, read)
 }
 
 // With a string reader over any bytes, from any start bit to any end bit.
@@ -124,26 +81,17 @@ pub fn decode_with_strings_bits(
 ) -> HatchBitsAnswer
     ensures { λ r. ⌜ ReadsBits (callOf release (now (main .entry)) start (lent (now (string .entry)) «string_start» «string_end») (length (now (words .entry))) (length (now (bits .entry)))) r (now (bits .entry)) (now (bits .exit)) (now (words .entry)) (now (words .exit)) ⌝ }
 {
-    let mut numbers = [0.0f64; 1];
-    let at = Places {
-        main: start,
-        string: string_start,
-    };
-    let words_room = words.len();
-    let numbers_room = bits.len();
-    bodies::read_call(
+    let read = calls::read_with_strings_bits(
         main,
+        start,
         string,
-        at,
-        true,
+        string_start,
         string_end,
         release,
-        words_room,
-        numbers_room,
-        &mut numbers[..0],
         bits,
         words,
-    )
+    );
+    record::bits_answer(main, read)
 }
 
 // The same with doubles as f64.
@@ -159,51 +107,21 @@ pub fn decode_with_strings(
 ) -> HatchAnswer
     ensures { λ r. ⌜ Reads (callOf release (now (main .entry)) start (lent (now (string .entry)) «string_start» «string_end») (length (now (words .entry))) (length (now (numbers .entry)))) r (now (numbers .entry)) (now (numbers .exit)) (now (words .entry)) (now (words .exit)) ⌝ }
 {
-    let mut bits = [0u64; 1];
-    let at = Places {
-        main: start,
-        string: string_start,
-    };
-    let words_room = words.len();
-    let numbers_room = numbers.len();
-    let answer = bodies::read_call(
+    let read = calls::read_with_strings(
         main,
+        start,
         string,
-        at,
-        true,
+        string_start,
         string_end,
         release,
-        words_room,
-        numbers_room,
         numbers,
-        &mut bits[..0],
         words,
     );
-    let outcome = answer.outcome;
-    let hatch = answer.hatch;
-    HatchAnswer {
-        outcome: outcome,
-        hatch: record::as_doubles(hatch),
-    }
+    record::doubles_answer(main, read)
 }
 
 // Longer than any list is: what a measuring call takes both lists to be.
 const MOST: usize = 0xffff_ffff_ffff_ffff;
-
-// The lengths of an answer.
-fn lengths_of(answer: HatchBitsAnswer) -> Lengths
-    ensures { λ r. ⌜ r ≡ lengthsIn answer ⌝ }
-{
-    let outcome = answer.outcome;
-    let hatch = answer.hatch;
-    let places = hatch.places;
-    Lengths {
-        outcome: outcome,
-        words: hatch.words_used,
-        numbers: hatch.numbers_used,
-        places: places,
-    }
-}
 
 // The lengths that the lists must have for a hatch without a reader, or its refusal: a host measures, lends so much and reads.
 pub fn measure(main: &[u8], start: usize, release: u64) -> Lengths
@@ -216,20 +134,21 @@ pub fn measure(main: &[u8], start: usize, release: u64) -> Lengths
         main: start,
         string: 0,
     };
-    let answer = bodies::read_call(
+    let read = bodies::read_call(
         main,
         &main[..0],
         at,
         false,
         0,
         release,
+        hatch_format::document_caps(),
         MOST,
         MOST,
         &mut numbers[..0],
         &mut bits[..0],
         &mut words[..0],
     );
-    lengths_of(answer)
+    record::lengths(read)
 }
 
 // The same with a string reader.
@@ -250,18 +169,19 @@ pub fn measure_with_strings(
         main: start,
         string: string_start,
     };
-    let answer = bodies::read_call(
+    let read = bodies::read_call(
         main,
         string,
         at,
         true,
         string_end,
         release,
+        hatch_format::document_caps(),
         MOST,
         MOST,
         &mut numbers[..0],
         &mut bits[..0],
         &mut words[..0],
     );
-    lengths_of(answer)
+    record::lengths(read)
 }

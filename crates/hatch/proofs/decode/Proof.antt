@@ -1,35 +1,22 @@
--- The call without a reader, with no list of 64 bits; the record's doubles are made of their bits.
-use mathlib.Core.Path.{_≡_, refl, sym, ap, _∙_}
-use mathlib.Core.List.{List, []}
+-- The record of the parts that the call read.
+use mathlib.Core.Path.{ap, _∙_}
 use denote.Ref.{now}
 use lib.ListN.{length}
-use Rattle.hatch_format.specs.Call.{Call, none, lent}
-use Rattle.hatch_points.specs.Lists.{lists}
-use Rattle.hatch_format.specs.declared.Hatch.{Hatch}
-use Rattle.hatch.specs.Calls.{doublesIn}
-use Rattle.hatch.proofs.Filled.{is-call, doubles-then, words-then}
+use Rattle.hatch_format.specs.Call.{none}
+use Rattle.hatch.specs.Calls.{callOf, doublesIn}
+use Rattle.hatch.proofs.Filled.{answer-is}
 use borrow.Author.Needs.{needs}
 use Rattle.hatch.proofs.decode.Statement.{statement}
 use Rattle.hatch.proofs.decode.Tie as tie
-use Rattle.hatch.proofs.decode.Reads as reads
-use Rattle.hatch.proofs.decode.Lts as lts
-use Rattle.hatch.proofs.bodies.read_call.Reads as read-call-reads
-use Rattle.hatch.proofs.record.as_doubles.Reads as as-doubles-reads
 
-slice-aggregate-read-call : tie.Need-slice-aggregate-read-call
-slice-aggregate-read-call c = search needs
+read-requires : tie.Need-read-requires
+read-requires c κs = search needs
 
-array-borrow-prefix-bits : tie.Need-array-borrow-prefix-bits
-array-borrow-prefix-bits c = search needs
-
-slice-aggregate-read-call-2 : tie.Need-slice-aggregate-read-call-2
-slice-aggregate-read-call-2 c = search needs
-
-read-call-requires : tie.Need-read-call-requires
-read-call-requires c κs = search needs
-
-as-doubles-requires : tie.Need-as-doubles-requires
-as-doubles-requires c κs = search needs
+doubles-answer-requires : tie.Need-doubles-answer-requires
+doubles-answer-requires c κs =
+    let s3 = c .before .before .before in
+    let at-read = s3 .before .read in
+    at-read .ensures .readable
 
 same-length : tie.Need-same-length
 same-length c = search needs
@@ -39,22 +26,22 @@ same-length-2 c = search needs
 
 returns : tie.Need-returns
 returns c =
-    let a = (c .before .before .before .before .before .before .before .before .before .before .before .before .before .before .before .args) in
-    let d : Call = record { release = a .release; main = now (a .main); start = a .start; strings = none; words = length (now (a .words)); numbers = length (now (a .numbers)) } in
-    let l = lists (now (a .numbers)) [] (now (a .words)) in
-    let h = (c .before .before .before .before .before .before .before .read-call) .ensures in
-    let u = (c .before .before .before .before .before .before .before .read-call) .result in
-    (ap (λ (x : Hatch). record { outcome = u .outcome; hatch = x }) ((c .as-doubles) .ensures) ∙ ap doublesIn (is-call d l h), (doubles-then d l h refl, words-then d l h refl))
+    let s3 = c .before .before .before in
+    let s6 = s3 .before .before .before in
+    let s9 = s6 .before .before .before in
+    let at-doubles-answer = c .doubles-answer in
+    let at-read = s3 .before .before .read in
+    let a = s9 .before .before .args in
+    let o = callOf (a .release) (now (a .main)) (a .start) none (length (now (a .words))) (length (now (a .numbers))) in
+    let read = at-read .ensures in
+    (at-doubles-answer .ensures ∙ ap doublesIn (answer-is (now (a .main)) o (at-read .result) (read .body)), (read .numbers-then, read .words-then))
 
 pub decode-spec : {M : Type 1} → statement M
 decode-spec =
     tie.close
     (tie.spec
-    slice-aggregate-read-call
-    array-borrow-prefix-bits
-    slice-aggregate-read-call-2
-    read-call-requires
-    as-doubles-requires
+    read-requires
+    doubles-answer-requires
     same-length
     same-length-2
     returns)

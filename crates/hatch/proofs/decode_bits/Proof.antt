@@ -1,29 +1,22 @@
--- The call without a reader, with no list of doubles.
-use mathlib.Core.Path.{_≡_, refl, sym, ap, _∙_}
-use mathlib.Core.List.{List, []}
+-- The record of the parts that the call read.
+use mathlib.Core.Path.{ap, _∙_}
 use denote.Ref.{now}
 use lib.ListN.{length}
-use Rattle.hatch_format.specs.Call.{Call, none, lent}
-use Rattle.hatch_points.specs.Lists.{lists}
-use Rattle.hatch.proofs.Filled.{is-call, bits-then, words-then}
+use Rattle.hatch_format.specs.Call.{none}
+use Rattle.hatch.specs.Calls.{callOf}
+use Rattle.hatch.proofs.Filled.{answer-is}
 use borrow.Author.Needs.{needs}
 use Rattle.hatch.proofs.decode_bits.Statement.{statement}
 use Rattle.hatch.proofs.decode_bits.Tie as tie
-use Rattle.hatch.proofs.decode_bits.Reads as reads
-use Rattle.hatch.proofs.decode_bits.Lts as lts
-use Rattle.hatch.proofs.bodies.read_call.Reads as read-call-reads
 
-slice-aggregate-read-call : tie.Need-slice-aggregate-read-call
-slice-aggregate-read-call c = search needs
+read-bits-requires : tie.Need-read-bits-requires
+read-bits-requires c κs = search needs
 
-array-borrow-prefix-numbers : tie.Need-array-borrow-prefix-numbers
-array-borrow-prefix-numbers c = search needs
-
-slice-aggregate-read-call-2 : tie.Need-slice-aggregate-read-call-2
-slice-aggregate-read-call-2 c = search needs
-
-read-call-requires : tie.Need-read-call-requires
-read-call-requires c κs = search needs
+bits-answer-requires : tie.Need-bits-answer-requires
+bits-answer-requires c κs =
+    let s3 = c .before .before .before in
+    let at-read-bits = s3 .before .read-bits in
+    at-read-bits .ensures .readable
 
 same-length : tie.Need-same-length
 same-length c = search needs
@@ -33,20 +26,22 @@ same-length-2 c = search needs
 
 returns : tie.Need-returns
 returns c =
-    let a = (c .before .before .before .before .before .before .before .before .before .before .before .before .before .args) in
-    let d : Call = record { release = a .release; main = now (a .main); start = a .start; strings = none; words = length (now (a .words)); numbers = length (now (a .bits)) } in
-    let l = lists [] (now (a .bits)) (now (a .words)) in
-    let h = (c .before .before .before .before .before .read-call) .ensures in
-    (is-call d l h, (bits-then d l h refl, words-then d l h refl))
+    let s3 = c .before .before .before in
+    let s6 = s3 .before .before .before in
+    let s9 = s6 .before .before .before in
+    let at-bits-answer = c .bits-answer in
+    let at-read-bits = s3 .before .before .read-bits in
+    let a = s9 .before .before .args in
+    let o = callOf (a .release) (now (a .main)) (a .start) none (length (now (a .words))) (length (now (a .bits))) in
+    let read = at-read-bits .ensures in
+    (at-bits-answer .ensures ∙ answer-is (now (a .main)) o (at-read-bits .result) (read .body), (read .numbers-then, read .words-then))
 
 pub decode-bits-spec : {M : Type 1} → statement M
 decode-bits-spec =
     tie.close
     (tie.spec
-    slice-aggregate-read-call
-    array-borrow-prefix-numbers
-    slice-aggregate-read-call-2
-    read-call-requires
+    read-bits-requires
+    bits-answer-requires
     same-length
     same-length-2
     returns)

@@ -1,22 +1,21 @@
 -- The same call over no lists, taken to be long enough.
-use mathlib.Core.Path.{_≡_, refl, sym, ap, _∙_}
-use mathlib.Core.List.{List, []}
+use mathlib.Core.Path.{sym, subst, _∙_}
 use denote.Ref.{now}
-use Rattle.hatch_format.specs.Call.{Call, none, lent, hatchCall}
-use Rattle.hatch_format.specs.Caps.{documentCaps}
-use Rattle.hatch_points.specs.Lists.{lists}
-use Rattle.hatch.specs.Calls.{lengthsIn, most}
-use Rattle.hatch.proofs.Filled.{is-call, lengths-are}
+use Rattle.hatch_format.specs.declared.Caps.{Caps}
+use Rattle.hatch_format.specs.Caps.{documentCaps, NowhereAbove, above-itself}
+use Rattle.hatch_format.specs.HandleRule.{in-payload}
+use Rattle.hatch_format.specs.Call.{Call, none, payloadsOf, startsOf, hatchCall}
+use Rattle.hatch.specs.Calls.{most}
+use Rattle.hatch.proofs.Filled.{call-by, lengths-are}
 use borrow.Author.Needs.{needs}
 use Rattle.hatch.proofs.measure.Statement.{statement}
 use Rattle.hatch.proofs.measure.Tie as tie
-use Rattle.hatch.proofs.measure.Reads as reads
-use Rattle.hatch.proofs.measure.Lts as lts
-use Rattle.hatch.proofs.bodies.read_call.Reads as read-call-reads
-use Rattle.hatch.proofs.lengths_of.Reads as lengths-of-reads
 
 slice-aggregate-read-call : tie.Need-slice-aggregate-read-call
 slice-aggregate-read-call c = search needs
+
+document-caps-requires : tie.Need-document-caps-requires
+document-caps-requires c κs = search needs
 
 array-borrow-prefix-numbers : tie.Need-array-borrow-prefix-numbers
 array-borrow-prefix-numbers c = search needs
@@ -37,22 +36,33 @@ slice-aggregate-read-call-4 : tie.Need-slice-aggregate-read-call-4
 slice-aggregate-read-call-4 c = search needs
 
 read-call-requires : tie.Need-read-call-requires
-read-call-requires c κs = search needs
+read-call-requires c κs =
+    let at-document-caps = c .before .before .before .document-caps in
+    subst (λ (x : Caps). NowhereAbove x documentCaps) (sym (at-document-caps .ensures)) (above-itself documentCaps)
 
-lengths-of-requires : tie.Need-lengths-of-requires
-lengths-of-requires c κs = search needs
+lengths-requires : tie.Need-lengths-requires
+lengths-requires c κs = search needs
 
 returns : tie.Need-returns
 returns c =
-    let a = (c .before .before .before .before .before .before .before .before .before .before .args) in
-    let d : Call = record { release = a .release; main = now (a .main); start = a .start; strings = none; words = most; numbers = most } in
-    (c .lengths-of) .ensures ∙ ap lengthsIn (is-call d (lists [] [] []) ((c .before .before .before .before .read-call) .ensures)) ∙ lengths-are (hatchCall documentCaps d)
+    let s3 = c .before .before .before in
+    let s6 = s3 .before .before .before in
+    let s9 = s6 .before .before .before in
+    let at-lengths = c .lengths in
+    let at-read-call = s3 .before .read-call in
+    let at-document-caps = s6 .before .before .document-caps in
+    let a = s9 .before .before .args in
+    let xs = now (a .main) in
+    let d : Call = record { release = a .release; main = xs; start = a .start; strings = none; caps = documentCaps; handles = in-payload; words = most; numbers = most } in
+    let h = call-by (at-document-caps .ensures) xs most most (payloadsOf d) (startsOf d) (a .release) (at-read-call .ensures) in
+    at-lengths .ensures ∙ lengths-are xs (hatchCall d) (at-read-call .result) (h .body)
 
 pub measure-spec : {M : Type 1} → statement M
 measure-spec =
     tie.close
     (tie.spec
     slice-aggregate-read-call
+    document-caps-requires
     array-borrow-prefix-numbers
     slice-aggregate-read-call-2
     array-borrow-prefix-bits
@@ -60,5 +70,5 @@ measure-spec =
     array-borrow-prefix-words
     slice-aggregate-read-call-4
     read-call-requires
-    lengths-of-requires
+    lengths-requires
     returns)

@@ -1,6 +1,7 @@
 -- Empty lists stay as they are whatever is laid over them; others are walked.
 use mathlib.Core.Path.{sym, _∙_}
 use denote.Ref.{now}
+use Rattle.hatch_format.specs.HandleRule.{in-payload}
 use Rattle.hatch_format.specs.Patterns.{rest}
 use Rattle.hatch.proofs.BodyLaws.{none-laid}
 use borrow.Author.Needs.{needs}
@@ -17,7 +18,7 @@ none-lent-requires c κs = search needs
 returns : tie.Need-returns
 returns c =
     let a = (c .before .before .before .before .before .before .args) in
-    none-laid ((rest (a .caps) (a .v)) .read (now (a .s)) (a .at)) (now (a .numbers)) (now (a .bits)) (now (a .words)) (sym ((c .before .none-lent) .ensures) ∙ (c .if1) .taken)
+    none-laid ((rest (a .caps) in-payload (a .v)) .read (now (a .s)) (a .at)) (now (a .numbers)) (now (a .bits)) (now (a .words)) (sym ((c .before .none-lent) .ensures) ∙ (c .if1) .taken)
 
 walk-rest-requires : tie.Need-walk-rest-requires
 walk-rest-requires c κs = search needs

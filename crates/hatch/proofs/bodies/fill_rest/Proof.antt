@@ -1,34 +1,22 @@
 -- It is filled only where the measured lengths fit, and then what was measured is what is read again.
-use mathlib.Core.Path.{sym, subst, _∙_}
-use Prim.Native.Nat.{_^_, _<_}
+use mathlib.Core.Path.{sym, _∙_}
 use denote.Ref.{now}
-use Rattle.hatch_format.specs.Caps.{documentCaps}
+use Rattle.hatch_format.specs.HandleRule.{in-payload}
 use Rattle.hatch_format.specs.Patterns.{rest}
-use Rattle.hatch_rest.specs.declared.rests.Rest.{Rest}
-use Rattle.hatch_points.specs.Heads.{Modest}
-use Rattle.hatch.proofs.BodyLaws.{modest, rest-done, rest-range, short-words, short-numbers, room, closed-short, closed-full, closed-no, walk-as, laid-as}
+use Rattle.hatch.proofs.BodyLaws.{short-words, short-numbers, long-enough, rest-short, rest-full, rest-refused, laid-from}
 use borrow.Author.Needs.{needs}
 use Rattle.hatch.proofs.bodies.fill_rest.Statement.{statement}
 use Rattle.hatch.proofs.bodies.fill_rest.Tie as tie
-use Rattle.hatch.proofs.bodies.fill_rest.Reads as reads
-use Rattle.hatch.proofs.bodies.fill_rest.Lts as lts
-use Rattle.hatch.proofs.bodies.fill_lists.Reads as fill-lists-reads
-use Rattle.hatch.proofs.bodies.made.Reads as made-reads
-use Rattle.hatch.proofs.bodies.refused.Reads as refused-reads
-use Rattle.hatch.proofs.bodies.walk_rest.Reads as walk-rest-reads
-use Rattle.hatch_format.proofs.document_caps.Reads as document-caps-reads
-
-document-caps-requires : tie.Need-document-caps-requires
-document-caps-requires c κs = search needs
 
 walk-rest-requires : tie.Need-walk-rest-requires
-walk-rest-requires c κs = ((c .before .before .before .before .before .before .before .before .pre) .0, ((c .before .before .before .before .before .before .before .before .pre) .1, subst Modest (sym ((c .before .before .before .document-caps) .ensures)) modest))
+walk-rest-requires c κs =
+    let s3 = c .before .before .before in
+    let s6 = s3 .before .before .before in
+    let pre = s6 .before .pre in
+    pre
 
 enum-known-rest : tie.Need-enum-known-rest
 enum-known-rest c = search needs
-
-refused-requires : tie.Need-refused-requires
-refused-requires c κs = search needs
 
 same-length : tie.Need-same-length
 same-length c = search needs
@@ -41,12 +29,21 @@ same-length-3 c = search needs
 
 returns : tie.Need-returns
 returns c =
-    let a = (c .before .before .before .before .before .before .before .before .before .before .before .before .before .before .before .before .before .before .before .before .before .args) in
-    closed-short (a .front) (a .words-room) (a .numbers-room) (a .p) ((rest documentCaps (a .v)) .read (now (a .main)) (a .p .main)) (walk-as ((c .before .before .before .before .before .before .before .before .before .before .before .before .before .before .before .before .document-caps) .ensures) (a .v) (now (a .main)) (a .p .main) ((c .before .before .before .before .rest) .given .1) ((c .before .before .before .before .before .before .before .before .before .before .before .before .walk-rest) .ensures .0))
-    (short-words (a .words-room) (a .numbers-room) ((c .before .before .before .before .rest) .given .0 .1 .1 .0) ((c .before .if1) .taken)) ((c .refused) .ensures) ((c .before .before .before .before .before .before .before .before .before .before .before .before .walk-rest) .ensures .1)
-
-refused-requires-2 : tie.Need-refused-requires-2
-refused-requires-2 c κs = search needs
+    let s3 = c .before .before .before in
+    let s6 = s3 .before .before .before in
+    let s9 = s6 .before .before .before in
+    let s12 = s9 .before .before .before in
+    let s15 = s12 .before .before .before in
+    let s18 = s15 .before .before .before in
+    let at-if1 = c .if1 in
+    let at-rest = c .before .before .before .rest in
+    let at-walk-rest = s9 .before .before .walk-rest in
+    let a = s18 .before .args in
+    let o = (rest (a .caps) in-payload (a .v)) .read (now (a .main)) (a .p .main) in
+    let nw = a .words-room in
+    let nn = a .numbers-room in
+    let is = sym (at-rest .given .1) ∙ at-walk-rest .ensures .0 in
+    rest-short (a .front) nw nn (a .p) o is (short-words nw nn (at-rest .given .0 .1 .1 .0) (at-if1 .taken)) (at-walk-rest .ensures .1)
 
 same-length-4 : tie.Need-same-length-4
 same-length-4 c = search needs
@@ -59,41 +56,73 @@ same-length-6 c = search needs
 
 returns-2 : tie.Need-returns-2
 returns-2 c =
-    let a = (c .before .before .before .before .before .before .before .before .before .before .before .before .before .before .before .before .before .before .before .before .before .before .before .args) in
-    closed-short (a .front) (a .words-room) (a .numbers-room) (a .p) ((rest documentCaps (a .v)) .read (now (a .main)) (a .p .main)) (walk-as ((c .before .before .before .before .before .before .before .before .before .before .before .before .before .before .before .before .before .before .document-caps) .ensures) (a .v) (now (a .main)) (a .p .main) ((c .before .before .before .before .before .before .rest) .given .1) ((c .before .before .before .before .before .before .before .before .before .before .before .before .before .before .walk-rest) .ensures .0))
-    (short-numbers (a .words-room) (a .numbers-room) ((c .before .before .before .before .before .before .rest) .given .0 .1 .1 .0) ((c .before .before .before .if1) .left) ((c .before .if2) .taken)) ((c .refused2) .ensures) ((c .before .before .before .before .before .before .before .before .before .before .before .before .before .before .walk-rest) .ensures .1)
+    let s3 = c .before .before .before in
+    let s6 = s3 .before .before .before in
+    let s9 = s6 .before .before .before in
+    let s12 = s9 .before .before .before in
+    let s15 = s12 .before .before .before in
+    let s18 = s15 .before .before .before in
+    let at-if2 = c .if2 in
+    let at-if1 = c .before .before .if1 in
+    let at-rest = s3 .before .before .rest in
+    let at-walk-rest = s12 .before .walk-rest in
+    let a = s18 .before .before .before .args in
+    let o = (rest (a .caps) in-payload (a .v)) .read (now (a .main)) (a .p .main) in
+    let nw = a .words-room in
+    let nn = a .numbers-room in
+    let is = sym (at-rest .given .1) ∙ at-walk-rest .ensures .0 in
+    let short = short-numbers nw nn (at-rest .given .0 .1 .1 .0) (at-if1 .left) (at-if2 .taken) in
+    rest-short (a .front) nw nn (a .p) o is short (at-walk-rest .ensures .1)
 
 fill-lists-requires : tie.Need-fill-lists-requires
-fill-lists-requires c κs = ((c .before .before .before .before .before .before .before .before .before .before .before .before .before .before .before .before .before .before .before .before .before .before .before .before .before .pre) .0, ((c .before .before .before .before .before .before .before .before .before .before .before .before .before .before .before .before .before .before .before .before .before .before .before .before .before .pre) .1, subst Modest (sym ((c .before .before .before .before .before .before .before .before .before .before .before .before .before .before .before .before .before .before .before .before .document-caps) .ensures)) modest))
-
-made-requires : tie.Need-made-requires
-made-requires c κs =
-    let a = (c .before .before .before .before .before .before .before .before .before .before .before .before .before .before .before .before .before .before .before .before .before .before .before .before .before .before .before .before .before .before .before .before .args) in
-    let t = rest-done ((rest documentCaps (a .v)) .read (now (a .main)) (a .p .main)) (walk-as ((c .before .before .before .before .before .before .before .before .before .before .before .before .before .before .before .before .before .before .before .before .before .before .before .before .before .before .before .document-caps) .ensures) (a .v) (now (a .main)) (a .p .main) ((c .before .before .before .before .before .before .before .before .before .before .before .before .before .before .before .rest) .given .1) ((c .before .before .before .before .before .before .before .before .before .before .before .before .before .before .before .before .before .before .before .before .before .before .before .walk-rest) .ensures .0)) in
-    let r = rest-range documentCaps (a .v) (now (a .main)) (a .p .main) (t .1) in
-    subst (λ (x : Rest). (x .tail .style < 2 ^ 16) × (x .tail .kind < 2 ^ 16)) (sym (t .2)) r
+fill-lists-requires c κs =
+    let s3 = c .before .before .before in
+    let s6 = s3 .before .before .before in
+    let s9 = s6 .before .before .before in
+    let s12 = s9 .before .before .before in
+    let s15 = s12 .before .before .before in
+    let s18 = s15 .before .before .before in
+    let s21 = s18 .before .before .before in
+    let pre = s21 .before .before .before .pre in
+    pre
 
 enum-known-k : tie.Need-enum-known-k
 enum-known-k c = search needs
 
-refused-requires-3 : tie.Need-refused-requires-3
-refused-requires-3 c κs = search needs
-
 same-length-7 : tie.Need-same-length-7
-same-length-7 c = ((c .before .before .before .before .before .before .before .fill-lists)) .kept .1 .1 .1 .1 .0 ∙ ((c .before .before .before .before .before .before .before .before .before .before .before .before .before .before .before .before .before .before .before .before .before .before .before .before .walk-rest)) .kept .1 .1 .1 .1 .1 .0
+same-length-7 c = search needs
 
 same-length-8 : tie.Need-same-length-8
-same-length-8 c = ((c .before .before .before .before .before .before .before .fill-lists)) .kept .1 .1 .1 .1 .1 .0 ∙ ((c .before .before .before .before .before .before .before .before .before .before .before .before .before .before .before .before .before .before .before .before .before .before .before .before .walk-rest)) .kept .1 .1 .1 .1 .1 .1 .0
+same-length-8 c = search needs
 
 same-length-9 : tie.Need-same-length-9
-same-length-9 c = ((c .before .before .before .before .before .before .before .fill-lists)) .kept .1 .1 .1 .1 .1 .1 .0 ∙ ((c .before .before .before .before .before .before .before .before .before .before .before .before .before .before .before .before .before .before .before .before .before .before .before .before .walk-rest)) .kept .1 .1 .1 .1 .1 .1 .1 .0
+same-length-9 c = search needs
 
 returns-3 : tie.Need-returns-3
 returns-3 c =
-    let a = (c .before .before .before .before .before .before .before .before .before .before .before .before .before .before .before .before .before .before .before .before .before .before .before .before .before .before .before .before .before .before .before .before .before .args) in
-    closed-full (a .front) (a .words-room) (a .numbers-room) (a .p) ((rest documentCaps (a .v)) .read (now (a .main)) (a .p .main)) (walk-as ((c .before .before .before .before .before .before .before .before .before .before .before .before .before .before .before .before .before .before .before .before .before .before .before .before .before .before .before .before .document-caps) .ensures) (a .v) (now (a .main)) (a .p .main) ((c .before .before .before .before .before .before .before .before .before .before .before .before .before .before .before .before .rest) .given .1) ((c .before .before .before .before .before .before .before .before .before .before .before .before .before .before .before .before .before .before .before .before .before .before .before .before .walk-rest) .ensures .0)) _ _
-    (room (a .words-room) (a .numbers-room) ((c .before .before .before .before .before .before .before .before .before .before .before .before .before .before .before .before .rest) .given .0 .1 .1 .0) ((c .before .before .before .before .before .before .before .before .before .before .before .before .before .if1) .left) ((c .before .before .before .before .before .before .before .before .before .before .before .if2) .left)) ((c .made) .ensures)
-    (laid-as ((c .before .before .before .before .before .before .before .before .before .before .before .before .before .before .before .before .before .before .before .before .before .before .before .before .before .before .before .before .document-caps) .ensures) (a .v) (now (a .main)) (a .p .main) _ ((c .before .before .before .before .before .before .before .before .before .before .before .before .before .before .before .before .before .before .before .before .before .before .before .before .walk-rest) .ensures .1) ((c .before .before .before .before .before .before .before .fill-lists) .ensures))
+    let s3 = c .before .before .before in
+    let s6 = s3 .before .before .before in
+    let s9 = s6 .before .before .before in
+    let s12 = s9 .before .before .before in
+    let s15 = s12 .before .before .before in
+    let s18 = s15 .before .before .before in
+    let s21 = s18 .before .before .before in
+    let s24 = s21 .before .before .before in
+    let s27 = s24 .before .before .before in
+    let s30 = s27 .before .before .before in
+    let at-fill-lists = s3 .before .before .before .fill-lists in
+    let at-if2 = s9 .before .if2 in
+    let at-if1 = s9 .before .before .before .if1 in
+    let at-rest = s12 .before .before .before .rest in
+    let at-walk-rest = s21 .before .before .walk-rest in
+    let a = s30 .before .args in
+    let o = (rest (a .caps) in-payload (a .v)) .read (now (a .main)) (a .p .main) in
+    let nw = a .words-room in
+    let nn = a .numbers-room in
+    let is = sym (at-rest .given .1) ∙ at-walk-rest .ensures .0 in
+    let long = long-enough nw nn (at-rest .given .0 .1 .1 .0) (at-if1 .left) (at-if2 .left) in
+    let laid = laid-from o _ (at-walk-rest .ensures .1) (at-fill-lists .ensures) in
+    rest-full (a .front) nw nn (a .p) o is _ _ long laid
 
 same-length-10 : tie.Need-same-length-10
 same-length-10 c = search needs
@@ -106,30 +135,35 @@ same-length-12 c = search needs
 
 returns-4 : tie.Need-returns-4
 returns-4 c =
-    let a = (c .before .before .before .before .before .before .before .before .before .before .before .before .before .before .before .before .before .before .before .args) in
-    closed-no (a .front) (a .words-room) (a .numbers-room) (a .p) ((rest documentCaps (a .v)) .read (now (a .main)) (a .p .main)) (walk-as ((c .before .before .before .before .before .before .before .before .before .before .before .before .before .before .document-caps) .ensures) (a .v) (now (a .main)) (a .p .main) ((c .before .before .k) .given .1) ((c .before .before .before .before .before .before .before .before .before .before .walk-rest) .ensures .0)) ((c .refused3) .ensures) ((c .before .before .before .before .before .before .before .before .before .before .walk-rest) .ensures .1)
+    let s3 = c .before .before .before in
+    let s6 = s3 .before .before .before in
+    let s9 = s6 .before .before .before in
+    let s12 = s9 .before .before .before in
+    let s15 = s12 .before .before .before in
+    let at-k = c .before .k in
+    let at-walk-rest = s6 .before .before .before .walk-rest in
+    let a = s15 .before .before .args in
+    let o = (rest (a .caps) in-payload (a .v)) .read (now (a .main)) (a .p .main) in
+    let nw = a .words-room in
+    let nn = a .numbers-room in
+    rest-refused (a .front) nw nn (a .p) o (sym (at-k .given .1) ∙ at-walk-rest .ensures .0) (at-walk-rest .ensures .1)
 
 pub fill-rest-spec : {M : Type 1} → statement M
 fill-rest-spec =
     tie.close
     (tie.spec
-    document-caps-requires
     walk-rest-requires
     enum-known-rest
-    refused-requires
     same-length
     same-length-2
     same-length-3
     returns
-    refused-requires-2
     same-length-4
     same-length-5
     same-length-6
     returns-2
     fill-lists-requires
-    made-requires
     enum-known-k
-    refused-requires-3
     same-length-7
     same-length-8
     same-length-9

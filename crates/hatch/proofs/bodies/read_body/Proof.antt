@@ -1,45 +1,39 @@
--- A body is its front, and the rest of the main payload behind it.
-use mathlib.Core.Path.{_≡_, refl, sym, ap, subst, _∙_}
-use mathlib.Core.List.{List}
-use Prim.Native.Nat.{ℕ, _*_, _^_, _≤_, _<_}
-use native.Mathlib.Omega.{arith}
+-- The front, and the rest behind it; either refuses for the whole.
+use mathlib.Core.Path.{refl, sym, ap, _∙_}
 use denote.Ref.{now}
 use Rattle.text.specs.Answers.{payloads, placesOf}
-use Rattle.hatch_format.specs.declared.Caps.{Caps}
-use Rattle.hatch_format.specs.Caps.{documentCaps}
+use Rattle.hatch_format.specs.HandleRule.{in-payload}
 use Rattle.hatch_points.specs.Lists.{lists}
-use Rattle.hatch.specs.Fronts.{front, frontOf}
-use Rattle.hatch.proofs.CallLaws.{body-done, body-no, body-starts}
+use Rattle.hatch.proofs.CallLaws.{body-done, body-refused, body-starts}
 use borrow.Author.Needs.{needs}
 use Rattle.hatch.proofs.bodies.read_body.Statement.{statement}
 use Rattle.hatch.proofs.bodies.read_body.Tie as tie
-use Rattle.hatch.proofs.bodies.read_body.Reads as reads
-use Rattle.hatch.proofs.bodies.read_body.Lts as lts
-use Rattle.hatch.proofs.bodies.fill_rest.Reads as fill-rest-reads
-use Rattle.hatch.proofs.bodies.refused.Reads as refused-reads
-use Rattle.hatch.proofs.fronts.read_front.Reads as read-front-reads
-use Rattle.hatch_format.proofs.document_caps.Reads as document-caps-reads
-
-document-caps-requires : tie.Need-document-caps-requires
-document-caps-requires c κs = search needs
 
 read-front-requires : tie.Need-read-front-requires
-read-front-requires c κs = ((c .before .before .before .before .before .before .pre) .0, ((c .before .before .before .before .before .before .pre) .1, subst (λ (x : Caps). x .colors ≤ 16) (sym ((c .document-caps) .ensures)) (omega arith)))
+read-front-requires c κs =
+    let s3 = c .before .before .before in
+    let pre = s3 .before .before .pre in
+    (pre .0, (pre .1 .0, pre .1 .1 .colors))
 
-enum-known-last : tie.Need-enum-known-last
-enum-known-last c = search needs
+enum-known-front : tie.Need-enum-known-front
+enum-known-front c = search needs
 
 fill-rest-requires : tie.Need-fill-rest-requires
 fill-rest-requires c κs =
-    let a = (c .before .before .before .before .before .before .before .before .before .before .before .before .before .args) in
+    let s3 = c .before .before .before in
+    let s6 = s3 .before .before .before in
+    let s9 = s6 .before .before .before in
+    let at-front = s3 .before .front in
+    let at-read-front = s3 .before .before .before .read-front in
+    let a = s9 .before .before .before .args in
+    let pre = s9 .before .before .before .pre in
     let γ = payloads (now (a .main)) (now (a .string)) (a .reader) (a .end) in
-    ((c .before .before .before .before .before .before .before .before .before .before .before .before .before .pre) .0, body-starts (a .v) γ (placesOf (a .at)) (a .words-room) (a .numbers-room) ((c .before .before .before .before .before .before .read-front) .ensures ∙ ap (λ (x : Caps). frontOf ((front x (a .v)) .read γ (placesOf (a .at)))) ((c .before .before .before .before .before .before .before .document-caps) .ensures)) ((c .before .before .before .before .last) .given .1))
+    let p = placesOf (a .at) in
+    let starts = body-starts (a .caps) in-payload (a .v) γ p (a .words-room) (a .numbers-room) (at-read-front .result) (at-read-front .ensures) (at-front .given .1) in
+    (pre .0, (starts, pre .1 .1))
 
-enum-known-last-2 : tie.Need-enum-known-last-2
-enum-known-last-2 c = search needs
-
-refused-requires : tie.Need-refused-requires
-refused-requires c κs = search needs
+enum-known-k : tie.Need-enum-known-k
+enum-known-k c = search needs
 
 same-length : tie.Need-same-length
 same-length c = search needs
@@ -52,26 +46,43 @@ same-length-3 c = search needs
 
 returns : tie.Need-returns
 returns c =
-    let a = (c .before .before .before .before .before .before .before .before .before .before .before .before .before .before .before .before .before .before .before .before .args) in
+    let s3 = c .before .before .before in
+    let s6 = s3 .before .before .before in
+    let s9 = s6 .before .before .before in
+    let s12 = s9 .before .before .before in
+    let s15 = s12 .before .before .before in
+    let s18 = s15 .before .before .before in
+    let at-fill-rest = s3 .before .before .before .fill-rest in
+    let at-front = s9 .before .before .front in
+    let at-read-front = s12 .before .read-front in
+    let a = s18 .before .args in
+    let pre = s18 .before .pre in
     let γ = payloads (now (a .main)) (now (a .string)) (a .reader) (a .end) in
-    body-done (a .v) γ (placesOf (a .at)) (a .words-room) (a .numbers-room) ((c .before .before .before .before .before .before .before .before .before .before .before .before .before .read-front) .ensures ∙ ap (λ (x : Caps). frontOf ((front x (a .v)) .read γ (placesOf (a .at)))) ((c .before .before .before .before .before .before .before .before .before .before .before .before .before .before .document-caps) .ensures)) (lists (now ((c .before .before .before .before .before .before .before .before .before .before .before .before .before .before .before .before .before .before .before .before .args) .numbers)) (now ((c .before .before .before .before .before .before .before .before .before .before .before .before .before .before .before .before .before .before .before .before .args) .bits)) (now ((c .before .before .before .before .before .before .before .before .before .before .before .before .before .before .before .before .before .before .before .before .args) .words))) ((c .before .before .before .before .before .before .before .before .before .before .before .last) .given .1) ((c .before .before .before .before .before .before .fill-rest) .ensures)
+    let p = placesOf (a .at) in
+    let l = lists (now (a .numbers)) (now (a .bits)) (now (a .words)) in
+    body-done (a .caps) in-payload (a .v) γ p (a .words-room) (a .numbers-room) (at-read-front .result) (at-read-front .ensures) l (pre .0)
+    (at-front .given .1) (at-fill-rest .ensures)
 
 returns-2 : tie.Need-returns-2
 returns-2 c =
-    let a = (c .before .before .before .before .before .before .before .before .before .before .before .args) in
+    let s3 = c .before .before .before in
+    let s6 = s3 .before .before .before in
+    let at-k = c .before .k in
+    let at-read-front = c .before .before .before .read-front in
+    let a = s6 .before .before .before .args in
     let γ = payloads (now (a .main)) (now (a .string)) (a .reader) (a .end) in
-    body-no (a .v) γ (placesOf (a .at)) (a .words-room) (a .numbers-room) ((c .before .before .before .before .read-front) .ensures ∙ ap (λ (x : Caps). frontOf ((front x (a .v)) .read γ (placesOf (a .at)))) ((c .before .before .before .before .before .document-caps) .ensures)) ((c .before .before .last2) .given .1) ((c .refused) .ensures) refl
+    let p = placesOf (a .at) in
+    let l = lists (now (a .numbers)) (now (a .bits)) (now (a .words)) in
+    body-refused (a .caps) in-payload (a .v) γ p (a .words-room) (a .numbers-room) (at-read-front .result) (at-read-front .ensures) l (at-k .given .1)
 
 pub read-body-spec : {M : Type 1} → statement M
 read-body-spec =
     tie.close
     (tie.spec
-    document-caps-requires
     read-front-requires
-    enum-known-last
+    enum-known-front
     fill-rest-requires
-    enum-known-last-2
-    refused-requires
+    enum-known-k
     same-length
     same-length-2
     same-length-3

@@ -1,6 +1,7 @@
 -- One of two walks: the one that fills the lists, or the one over no lists, which leaves them.
 use mathlib.Core.Path.{refl}
 use denote.Ref.{now}
+use Rattle.hatch_format.specs.HandleRule.{in-payload}
 use Rattle.hatch_format.specs.Patterns.{rest}
 use Rattle.hatch_points.specs.Lists.{lists}
 use Rattle.hatch.proofs.BodyLaws.{filled, measured}
@@ -27,7 +28,7 @@ same-length-3 c = search needs
 returns : tie.Need-returns
 returns c =
     let a = (c .before .before .before .before .before .before .before .before .before .before .before .before .before .before .before .args) in
-    ((c .before .before .before .before .before .before .decode-rest) .ensures .0, filled (now (a .s)) ((rest (a .caps) (a .v)) .read (now (a .s)) (a .at)) (lists (now (a .numbers)) (now (a .bits)) (now (a .words))) _ ((c .before .before .before .before .before .before .before .before .before .before .if1) .taken) ((c .before .before .before .before .before .before .decode-rest) .ensures .1))
+    ((c .before .before .before .before .before .before .decode-rest) .ensures .0, filled (now (a .s)) ((rest (a .caps) in-payload (a .v)) .read (now (a .s)) (a .at)) (lists (now (a .numbers)) (now (a .bits)) (now (a .words))) _ ((c .before .before .before .before .before .before .before .before .before .before .if1) .taken) ((c .before .before .before .before .before .before .decode-rest) .ensures .1))
 
 measure-rest-requires : tie.Need-measure-rest-requires
 measure-rest-requires c κs = search needs
@@ -35,7 +36,7 @@ measure-rest-requires c κs = search needs
 returns-2 : tie.Need-returns-2
 returns-2 c =
     let a = (c .before .before .before .before .before .before .args) in
-    ((c .measure-rest) .ensures, measured (now (a .s)) ((rest (a .caps) (a .v)) .read (now (a .s)) (a .at)) (lists (now (a .numbers)) (now (a .bits)) (now (a .words))) (lists (now (a .numbers)) (now (a .bits)) (now (a .words))) ((c .before .if1) .left) refl)
+    ((c .measure-rest) .ensures, measured (now (a .s)) ((rest (a .caps) in-payload (a .v)) .read (now (a .s)) (a .at)) (lists (now (a .numbers)) (now (a .bits)) (now (a .words))) (lists (now (a .numbers)) (now (a .bits)) (now (a .words))) ((c .before .if1) .left) refl)
 
 pub walk-rest-spec : {M : Type 1} → statement M
 walk-rest-spec =

@@ -1,0 +1,3 @@
+pub mod ColorLaws
+pub mod FrontLaws
+pub mod FrontJoins
