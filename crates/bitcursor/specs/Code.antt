@@ -16,7 +16,8 @@ use Rattle.bitcursor.specs.Bits.{size, window, number, digits, Stands, A
 use Rattle.bitcursor.specs.BitLaws.{length-digits, number-digits, digits-number, number-lt, window-whole}
 use Rattle.bitcursor.specs.BitLaws.{stands-fits, stands-window, stands-none, stands-join, stands-left, stands-right}
 use Rattle.bitcursor.specs.BitLaws.{alike-down, alike-window, begins-size, begins-window}
-use Rattle.bitcursor.specs.Reading.{Out, got, refused, place, andThen, never, missing, Lacking, shortThen, then-why, then-longer, lacking-on}
+use Rattle.bitcursor.specs.Refusals.{OfFields}
+use Rattle.bitcursor.specs.Reading.{Out, got, refused, place, andThen, never, missing, Lacking, shortThen, then-why, then-longer, lacking-on, Fielded, then-fielded}
 
 -- from p to q the payload is not gone back in, and is not left by a place that is in it
 pub record Moves (xs : List ℕ) (p q : ℕ) : Type 0 where
@@ -47,6 +48,8 @@ pub record Code (A : Type 0) : Type 1 where
   pub short : List ℕ → ℕ → Bool
   pub why : (xs : List ℕ) (p : ℕ) → short xs p ≡ true → Lacking (read xs p)
   pub longer : (xs ys : List ℕ) (p : ℕ) → Begins xs ys → short xs p ≡ false → read ys p ≡ read xs p
+  -- a refusal is one that fields give
+  pub fielded : (xs : List ℕ) (p : ℕ) → Fielded (read xs p)
 
 -- false is not true
 pub never-true : {X : Type 0} → false ≡ true → X
@@ -73,11 +76,12 @@ module _ {A : Type 0} where
         short = λ xs p. false;
         why = λ xs p e. never-true e;
         longer = λ xs ys p h e. refl;
+        fielded = λ xs p. tt;
       }
 
   -- no value: a refusal at the place
-  unfoldable pub refuse : Refusal → Code A
-  refuse r =
+  unfoldable pub refuse : (r : Refusal) → OfFields r → Code A
+  refuse r of-fields =
       record {
         read = λ xs p. refused r p;
         codes = λ b cs. ⊥;
@@ -88,6 +92,7 @@ module _ {A : Type 0} where
         short = λ xs p. false;
         why = λ xs p e. never-true e;
         longer = λ xs ys p h e. refl;
+        fielded = λ xs p. of-fields;
       }
 
 -- a code, and then the code that its value picks
@@ -146,6 +151,7 @@ module _ {A B : Type 0} where
         longer = λ xs ys p h e.
             then-longer (f .short xs p) (λ a r. (g a) .short xs r) (λ a r. (g a) .read xs r) (f .read xs p) (f .read ys p)
             (λ a r. (g a) .read ys r) (f .why xs p) (f .longer xs ys p h) (λ a r. (g a) .longer xs ys r h) e;
+        fielded = λ xs p. then-fielded (f .read xs p) (λ a r. (g a) .read xs r) (f .fielded xs p) (λ a r. (g a) .fielded xs r);
       }
 
 module _ {A : Type 0} where
@@ -167,6 +173,7 @@ module _ {A : Type 0} where
         short = λ xs p. f .short xs p;
         why = λ xs p e. f .why xs p e;
         longer = λ xs ys p h e. f .longer xs ys p h e;
+        fielded = λ xs p. f .fielded xs p;
       }
 
 -- the same bits, their value said in another way
@@ -229,6 +236,7 @@ module _ {A : Type 0} (c : Code A) where
         short = λ xs p. c .short xs p;
         why = λ xs p e. lacking-on (λ a q. got (q - p, a) q) (c .read xs p) (c .why xs p e);
         longer = λ xs ys p h e. ap (measured-out p) (c .longer xs ys p h e);
+        fielded = λ xs p. then-fielded (c .read xs p) (λ a q. got (q - p, a) q) (c .fielded xs p) (λ a q. tt);
       }
 
 -- ---- n raw bits, the number that they spell
@@ -280,6 +288,10 @@ module _ (n : ℕ) where
       let more = begins-size h in
       rw (e, le-leb n (size ys - p) (omega arith), begins-window p n h fits)
 
+  pub raw-fielded : (xs : List ℕ) (p : ℕ) (b : Bool) → Fielded (raw-out b xs p)
+  raw-fielded xs p true = tt
+  raw-fielded xs p false = tt
+
   unfoldable pub raw : Code ℕ
   raw =
       record {
@@ -293,4 +305,5 @@ module _ (n : ℕ) where
         short = λ xs p. not (leb n (size xs - p));
         why = λ xs p e. raw-why xs p (leb n (size xs - p)) e;
         longer = λ xs ys p h e. raw-longer xs ys p h (not-false _ e);
+        fielded = λ xs p. raw-fielded xs p (leb n (size xs - p));
       }

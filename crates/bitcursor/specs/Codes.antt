@@ -144,13 +144,13 @@ pub data BL-codes : ℕ → List Bool → Type 0 where
   BL-10 : BL-codes 0 (I ∷ O ∷ [])
 
 unfoldable pub BL-read : Code ℕ
-BL-read = tagged (lowFirst 4) (lowFirst 1) (give 0) (refuse ReservedTag)
+BL-read = tagged (lowFirst 4) (lowFirst 1) (give 0) (refuse ReservedTag tt)
 
 pub BL-to : (v : ℕ) (cs : List Bool) → BL-read .codes v cs → BL-codes v cs
 unfolding BL-read lowFirst tabled give refuse
 BL-to v cs l = go cs (tagged-to _ _ _ _ v cs l)
   where
-    go : (cs : List Bool) → Tagged (lowFirst 4) (lowFirst 1) (give 0) (refuse ReservedTag) v cs → BL-codes v cs
+    go : (cs : List Bool) → Tagged (lowFirst 4) (lowFirst 1) (give 0) (refuse ReservedTag tt) v cs → BL-codes v cs
     go cs (at-00 m) = rw (m .1) (BL-00 (m .0))
     go cs (at-01 m) = rw (m .1) (BL-01 (m .0))
     go cs (at-10 m) = rw (m .0, m .1) BL-10

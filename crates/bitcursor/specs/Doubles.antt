@@ -21,13 +21,13 @@ pub data BD-codes : ℕ → List Bool → Type 0 where
   BD-10 : BD-codes 0 (I ∷ O ∷ [])
 
 unfoldable pub BD-read : Code ℕ
-BD-read = tagged (lowFirst 8) (give one-pattern) (give 0) (refuse ReservedTag)
+BD-read = tagged (lowFirst 8) (give one-pattern) (give 0) (refuse ReservedTag tt)
 
 pub BD-to : (v : ℕ) (cs : List Bool) → BD-read .codes v cs → BD-codes v cs
 unfolding BD-read lowFirst tabled give refuse
 BD-to v cs l = go cs (tagged-to _ _ _ _ v cs l)
   where
-    go : (cs : List Bool) → Tagged (lowFirst 8) (give one-pattern) (give 0) (refuse ReservedTag) v cs → BD-codes v cs
+    go : (cs : List Bool) → Tagged (lowFirst 8) (give one-pattern) (give 0) (refuse ReservedTag tt) v cs → BD-codes v cs
     go cs (at-00 m) = rw (m .1) (BD-00 (m .0))
     go cs (at-01 m) = rw (m .0, m .1) BD-01
     go cs (at-10 m) = rw (m .0, m .1) BD-10

@@ -10,7 +10,7 @@ use borrow.Author.Tests.{le-leb, lt-leb, leb-true, not-false}
 use Rattle.bitcursor.specs.declared.Refusal.the-variants.{CountTooLarge}
 use Rattle.bitcursor.specs.Bits.{size, Alike, Begins}
 use Rattle.bitcursor.specs.BitLaws.{begins-size}
-use Rattle.bitcursor.specs.Reading.{Out, got, refused, place, never, count, Lacking}
+use Rattle.bitcursor.specs.Reading.{Out, got, refused, place, never, count, Lacking, Fielded}
 use Rattle.bitcursor.specs.Code.{Code, Laid, Moves, stay, never-true}
 use Rattle.bitcursor.specs.Format.{Format}
 use Rattle.bitcursor.specs.Inputs.{one, both, Places, Payloads, Onward, Agree, Longer}
@@ -28,6 +28,7 @@ coded c =
       short = λ xs p. c .short xs p;
       why = λ xs p e. c .why xs p e;
       longer = λ xs ys p h e. c .longer xs ys p h e;
+      fielded = λ xs p. c .fielded xs p;
     }
 
 -- n bits at least are left of the payload, with no move; else the refusal of a count that is above them
@@ -54,6 +55,10 @@ module _ (n : ℕ) where
       let more = begins-size h in
       rw (e, le-leb n (size ys - p) (omega arith))
 
+  pub asked-fielded : (b : Bool) (p : ℕ) → Fielded (asked b p)
+  asked-fielded true p = tt
+  asked-fielded false p = tt
+
   unfoldable pub at-least : Format one (Unit {0})
   at-least =
       record {
@@ -66,6 +71,7 @@ module _ (n : ℕ) where
         short = λ xs p. not (leb n (size xs - p));
         why = λ xs p e. asked-why p (leb n (size xs - p)) e;
         longer = λ xs ys p h e. asked-longer xs ys p h (not-false _ e);
+        fielded = λ xs p. asked-fielded (leb n (size xs - p)) p;
       }
 
   pub at-least-there : (xs : List ℕ) (p : ℕ) → n ≤ size xs - p → at-least .read xs p ≡ got tt p
@@ -138,6 +144,10 @@ module _ {A : Type 0} (w : Payload) (f : Format one A) where
   within-frame γ δ p (got a n) o′ fr h = rw (fr (agree-in w p n h))
   within-frame γ δ p (refused r n) o′ fr h = rw (fr (agree-in w p n h))
 
+  pub within-fielded : (p : Places) (o : Out ℕ A) → Fielded o → Fielded (lifted w p o)
+  within-fielded p (got a n) h = tt
+  within-fielded p (refused r n) h = h
+
   unfoldable pub within : Format both A
   within =
       record {
@@ -153,6 +163,7 @@ module _ {A : Type 0} (w : Payload) (f : Format one A) where
         short = λ γ p. f .short (bytesIn w γ) (placeIn w p);
         why = λ γ p e. lacking-in w p (f .read (bytesIn w γ) (placeIn w p)) (f .why (bytesIn w γ) (placeIn w p) e);
         longer = λ γ δ p h e. ap (lifted w p) (f .longer (bytesIn w γ) (bytesIn w δ) (placeIn w p) (longer-in w h) e);
+        fielded = λ γ p. within-fielded p (f .read (bytesIn w γ) (placeIn w p)) (f .fielded (bytesIn w γ) (placeIn w p));
       }
 
   -- what a function that read the one payload knows

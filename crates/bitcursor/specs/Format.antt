@@ -5,7 +5,8 @@
 use mathlib.Core.Path.{_≡_, refl, sym, ap, ap₂, subst, _∙_}
 use mathlib.Core.Bool.{Bool, true, false}
 use Rattle.bitcursor.specs.declared.Refusal.{Refusal}
-use Rattle.bitcursor.specs.Reading.{Out, got, refused, place, andThen, never, Lacking, shortThen, then-why, then-longer}
+use Rattle.bitcursor.specs.Refusals.{OfFields}
+use Rattle.bitcursor.specs.Reading.{Out, got, refused, place, andThen, never, Lacking, shortThen, then-why, then-longer, Fielded, then-fielded}
 use Rattle.bitcursor.specs.Code.{never-true}
 
 -- what a format reads from, and the places in it: `Onward γ p q`, no payload is gone back in from p to q, nor left by a place that is in
@@ -37,6 +38,8 @@ pub record Format (M : Input) (A : Type 0) : Type 1 where
   pub short : M .Bytes → M .Place → Bool
   pub why : (γ : M .Bytes) (p : M .Place) → short γ p ≡ true → Lacking (read γ p)
   pub longer : (γ δ : M .Bytes) (p : M .Place) → M .Longer γ δ → short γ p ≡ false → read δ p ≡ read γ p
+  -- a refusal is one that fields give
+  pub fielded : (γ : M .Bytes) (p : M .Place) → Fielded (read γ p)
 
 module _ {M : Input} {A : Type 0} where
   -- a value with no field
@@ -52,11 +55,12 @@ module _ {M : Input} {A : Type 0} where
         short = λ γ p. false;
         why = λ γ p e. never-true e;
         longer = λ γ δ p h e. refl;
+        fielded = λ γ p. tt;
       }
 
   -- no layout: a refusal at the places
-  unfoldable pub refuse : Refusal → Format M A
-  refuse n =
+  unfoldable pub refuse : (n : Refusal) → OfFields n → Format M A
+  refuse n of-fields =
       record {
         read = λ γ p. refused n p;
         lays = λ γ b p q. ⊥;
@@ -67,6 +71,7 @@ module _ {M : Input} {A : Type 0} where
         short = λ γ p. false;
         why = λ γ p e. never-true e;
         longer = λ γ δ p h e. refl;
+        fielded = λ γ p. of-fields;
       }
 
 -- one format and then the one that its value picks: back to back, some place in between
@@ -104,6 +109,7 @@ module _ {M : Input} {A B : Type 0} where
         longer = λ γ δ p h e.
             then-longer (f .short γ p) (λ a r. (g a) .short γ r) (λ a r. (g a) .read γ r) (f .read γ p) (f .read δ p)
             (λ a r. (g a) .read δ r) (f .why γ p) (f .longer γ δ p h) (λ a r. (g a) .longer γ δ r h) e;
+        fielded = λ γ p. then-fielded (f .read γ p) (λ a r. (g a) .read γ r) (f .fielded γ p) (λ a r. (g a) .fielded γ r);
       }
 
   -- the step lemmas, by which a function's proof goes through a format
@@ -131,6 +137,7 @@ module _ (M : Input) where
         short = λ γ p. false;
         why = λ γ p e. never-true e;
         longer = λ γ δ p h e. ap (λ (k : M .Known). got (t k p) p) (M .longer-known γ δ h);
+        fielded = λ γ p. tt;
       }
 
 module _ {M : Input} {A : Type 0} where
@@ -149,6 +156,7 @@ module _ {M : Input} {A : Type 0} where
         short = λ γ p. f .short γ p;
         why = λ γ p e. f .why γ p e;
         longer = λ γ δ p h e. f .longer γ δ p h e;
+        fielded = λ γ p. f .fielded γ p;
       }
 
   -- the first where the test holds, else the second

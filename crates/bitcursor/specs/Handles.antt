@@ -44,7 +44,7 @@ handle code counter value = record { code = code; counter = counter; value = val
 
 -- what follows the two nibbles
 unfoldable pub HANDLE-value : ℕ → ℕ → Code Handle
-HANDLE-value code counter = checked (leb counter 8) (mapped (handle code counter) (highFirst counter)) (refuse HandleCounter)
+HANDLE-value code counter = checked (leb counter 8) (mapped (handle code counter) (highFirst counter)) (refuse HandleCounter tt)
 
 unfoldable pub HANDLE-read : Code Handle
 HANDLE-read = do
@@ -57,7 +57,7 @@ unfolding HANDLE-read HANDLE-value raw _>>=_ highFirst tabled mapped checked ref
 HANDLE-to v cs l = go (leb (l .4 .0) 8) refl (l .4 .4)
   where
     go : (b : Bool) → leb (l .4 .0) 8 ≡ b
-        → (checked b (mapped (handle (l .0) (l .4 .0)) (highFirst (l .4 .0))) (refuse HandleCounter)) .codes v (l .4 .2) → HANDLE-codes v cs
+        → (checked b (mapped (handle (l .0) (l .4 .0)) (highFirst (l .4 .0))) (refuse HandleCounter tt)) .codes v (l .4 .2) → HANDLE-codes v cs
     go true e m =
         let h : l .4 .0 ≤ 8 = leb→le _ _ (rw e tt) in
         rw (l .5, l .3 .1, l .4 .5, l .4 .3 .1, m .1 .1, m .2) (HANDLE-of (l .3 .0) h (m .1 .0))

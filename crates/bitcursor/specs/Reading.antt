@@ -6,6 +6,7 @@ use Prim.Native.Nat.{ℕ}
 use native.Mathlib.Omega.{arith}
 use Rattle.bitcursor.specs.declared.Refusal.{Refusal}
 use Rattle.bitcursor.specs.declared.Refusal.the-variants.{TooFewBits, CountTooLarge}
+use Rattle.bitcursor.specs.Refusals.{OfFields}
 
 pub data Out (P A : Type 0) : Type 0 where
   got : A → P → Out P A
@@ -34,6 +35,15 @@ module _ {P : Type 0} where
       F : Out P A → Type 0
       F (got a q) = X
       F (refused n q) = Unit {0}
+
+  -- ---- a refusal that fields give, if it is one
+  abbrev pub Fielded : {A : Type 0} → Out P A → Type 0
+  Fielded (got a q) = Unit {0}
+  Fielded (refused n q) = OfFields n
+
+  pub then-fielded : {A B : Type 0} (o : Out P A) (k : A → P → Out P B) → Fielded o → ((a : A) (q : P) → Fielded (k a q)) → Fielded (andThen o k)
+  then-fielded (got a q) k first second = second a q
+  then-fielded (refused n q) k first second = first
 
   -- ---- refused for want of bits
   abbrev pub Lacking : {A : Type 0} → Out P A → Type 0

@@ -13,6 +13,7 @@ use Rattle.bitcursor.specs.declared.Refusal.the-variants.{TooFewBits, Re
 use Rattle.bitcursor.specs.declared.Handle.{Handle}
 use Rattle.bitcursor.specs.Bits.{bitsOf, size, window, number, digits}
 use Rattle.bitcursor.specs.BitLaws.{digits-number, window-whole, window-add}
+use Rattle.bitcursor.specs.Refusals.{OfFields}
 use Rattle.bitcursor.specs.Reading.{Out, got, refused, place, andThen, never}
 use Rattle.bitcursor.specs.Code.{Code, Moves, give, refuse, raw, _>>=_, tabled, mapped}
 use Rattle.bitcursor.specs.Bytes.{lowNumber, bytes, bytesAt, lowFirst, highFirst, skip, raw-there, raw-short, bytes-there, bytes-short, le-or-lt}
@@ -120,9 +121,9 @@ pub stops-give : {A : Type 0} (a : A) (S : Stop) → Stops (give a) S
 unfolding give
 stops-give a S xs p r q e = never (sym e)
 
-pub stops-refuse : {A : Type 0} (n : Refusal) → Stops (refuse {A = A} n) (AtPlace n)
+pub stops-refuse : {A : Type 0} (n : Refusal) (of-fields : OfFields n) → Stops (refuse {A = A} n of-fields) (AtPlace n)
 unfolding refuse
-stops-refuse n xs p r q e = (cc, cc)
+stops-refuse n of-fields xs p r q e = (cc, cc)
 
 pub stops-mapped : {A B : Type 0} (f : A → B) (c : Code A) (S : Stop) → Stops c S → Stops (mapped f c) S
 unfolding mapped tabled _>>=_ give
@@ -201,17 +202,17 @@ pub BL-stops : Stops BL (Behind 2 Reserved)
 unfolding BL tabled BL-read tagged
 BL-stops =
     stops-behind 2 _ Reserved
-    (stops-tag (lowFirst 4) (lowFirst 1) (give 0) (refuse ReservedTag) Reserved
+    (stops-tag (lowFirst 4) (lowFirst 1) (give 0) (refuse ReservedTag tt) Reserved
     (stops-left (lowFirst 4) AfterBytes (AtPlace ReservedTag) (stops-low 4)) (stops-left (lowFirst 1) AfterBytes (AtPlace ReservedTag) (stops-low 1))
-    (stops-give 0 Reserved) (stops-right (refuse ReservedTag) AfterBytes (AtPlace ReservedTag) (stops-refuse ReservedTag)))
+    (stops-give 0 Reserved) (stops-right (refuse ReservedTag tt) AfterBytes (AtPlace ReservedTag) (stops-refuse ReservedTag tt)))
 
 pub BD-stops : Stops BD (Behind 2 Reserved)
 unfolding BD tabled BD-read tagged
 BD-stops =
     stops-behind 2 _ Reserved
-    (stops-tag (lowFirst 8) (give one-pattern) (give 0) (refuse ReservedTag) Reserved
+    (stops-tag (lowFirst 8) (give one-pattern) (give 0) (refuse ReservedTag tt) Reserved
     (stops-left (lowFirst 8) AfterBytes (AtPlace ReservedTag) (stops-low 8)) (stops-give one-pattern Reserved)
-    (stops-give 0 Reserved) (stops-right (refuse ReservedTag) AfterBytes (AtPlace ReservedTag) (stops-refuse ReservedTag)))
+    (stops-give 0 Reserved) (stops-right (refuse ReservedTag tt) AfterBytes (AtPlace ReservedTag) (stops-refuse ReservedTag tt)))
 
 pub DD-stops : (d : ℕ) → Stops (DD d) (Behind 2 AfterBytes)
 unfolding DD tabled DD-read tagged four
@@ -236,10 +237,10 @@ stops-checked false c d S sc sd = sd
 HANDLE-value-stops : (code counter : ℕ) → Stops (HANDLE-value code counter) Counted
 unfolding HANDLE-value
 HANDLE-value-stops code counter =
-    stops-checked (leb counter 8) (mapped (handle code counter) (highFirst counter)) (refuse HandleCounter) Counted
+    stops-checked (leb counter 8) (mapped (handle code counter) (highFirst counter)) (refuse HandleCounter tt) Counted
     (stops-left (mapped (handle code counter) (highFirst counter)) AfterBytes (AtPlace HandleCounter)
     (stops-mapped (handle code counter) (highFirst counter) AfterBytes (stops-high counter)))
-    (stops-right (refuse HandleCounter) AfterBytes (AtPlace HandleCounter) (stops-refuse HandleCounter))
+    (stops-right (refuse HandleCounter tt) AfterBytes (AtPlace HandleCounter) (stops-refuse HandleCounter tt))
 
 pub HANDLE-stops : Stops HANDLE (Behind 4 (Behind 4 Counted))
 unfolding HANDLE tabled HANDLE-read

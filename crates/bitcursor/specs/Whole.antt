@@ -3,7 +3,8 @@ use mathlib.Core.Path.{_≡_, refl, sym, ap, subst, _∙_}
 use mathlib.Core.Bool.{Bool, true, false}
 use mathlib.Core.Logic.{_↔_}
 use Rattle.bitcursor.specs.declared.Refusal.{Refusal}
-use Rattle.bitcursor.specs.Reading.{Out, got, refused, place, never, ForBits, Lacking, got-enough}
+use Rattle.bitcursor.specs.Refusals.{OfFields}
+use Rattle.bitcursor.specs.Reading.{Out, got, refused, place, never, ForBits, Lacking, got-enough, Fielded}
 use Rattle.bitcursor.specs.Format.{Input, Format}
 
 module _ {M : Input} {A : Type 0} (f : Format M A) (γ : M .Bytes) where
@@ -33,6 +34,10 @@ module _ {M : Input} {A : Type 0} (f : Format M A) (γ : M .Bytes) where
       go : (o : Out (M .Place) A) → f .read γ p ≡ o → Outcome p
       go (got a q) e = laid a q (f .sound γ a p q e) e
       go (refused n q) e = none n q e (refused-none p n q e)
+
+  -- a refusal is one that fields give, 1 to 8
+  pub refused-by-fields : (p : M .Place) (n : Refusal) (q : M .Place) → f .read γ p ≡ refused n q → OfFields n
+  refused-by-fields p n q e = subst Fielded e (f .fielded γ p)
 
   -- final places never lie before the start, nor past a payload that the start is in
   pub laid-onward : (p : M .Place) (a : A) (q : M .Place) → f .lays γ a p q → M .Onward γ p q

@@ -27,7 +27,7 @@ BIT = raw 1
 -- XDATA: BS size; if nonzero, a handle and that many RC, and again. `chain n had`: n nonzero blocks may follow, and `had` says whether
 -- one came before; where none may follow, no size is read
 unfoldable pub chain : ℕ → ℕ → Code ℕ
-chain zero had = refuse TooManyXdataBlocks
+chain zero had = refuse TooManyXdataBlocks tt
 chain (suc n) had = do
   size ← BS
   checked (eqb size 0) (give had) (do

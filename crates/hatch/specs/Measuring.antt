@@ -11,9 +11,10 @@ use borrow.Author.Tests.{le-leb, lt-leb, leb-false}
 use Rattle.bitcursor.specs.declared.Refusal.{Refusal}
 use Rattle.bitcursor.specs.declared.Refusal.the-variants.{TooFewBits, UnknownRelease, PayloadTooLong, ListTooShort}
 use Rattle.bitcursor.specs.Bits.{size}
-use Rattle.bitcursor.specs.Reading.{Out, got, refused, place}
+use Rattle.bitcursor.specs.Reading.{Out, got, refused, place, never}
 use Rattle.bitcursor.specs.Answers.{limit}
 use Rattle.bitcursor.specs.Format.{relay}
+use Rattle.bitcursor.specs.Whole.{refused-by-fields}
 use Rattle.bitcursor.specs.Inputs.{Places, Payloads, Onward}
 use Rattle.text.specs.declared.version.Version.{Version}
 use Rattle.text.specs.declared.version.MaybeVersion.{MaybeVersion}
@@ -49,6 +50,7 @@ record LooksLast (c : Call) : Type 0 where
   fields : Out Places Body
   last : (nw nn : ℕ) → hatchCall (lending c nw nn) ≡ roomFor nw nn fields
   few : (a : Body) (q : Places) → fields ≡ got a q → length (words (a .rest)) + length (numbers (a .rest)) ≤ 8 * limit
+  not-short : (q : Places) → fields ≡ refused ListTooShort q → ⊥
 
 body-few : (c : Call) (v : Version) (a : Body) (q : Places) → length (c .main) ≤ limit
     → (hatch (c .caps) (c .handles) v) .read (payloadsOf c) (startsOf c) ≡ got a q → length (words (a .rest)) + length (numbers (a .rest)) ≤ 8 * limit
@@ -68,20 +70,28 @@ looks-last : (c : Call) → LooksLast c
 unfolding callOn
 looks-last c = go (versionOf (c .release)) (leb (length (c .main)) limit) (leb (length (payloadsOf c .string)) limit) (leb (startsOf c .string) (size (payloadsOf c .string))) refl refl refl refl
   where
-    none : (k : Refusal) (p : Places) → ((nw nn : ℕ) → hatchCall (lending c nw nn) ≡ refused k p) → LooksLast c
-    none k p h = record { fields = refused k p; last = h; few = λ a q e. let z : _≡_ {A = ℕ} 0 1 = cc in absurd (omega arith) }
+    none : (k : Refusal) (p : Places) → (k ≡ ListTooShort → ⊥) → ((nw nn : ℕ) → hatchCall (lending c nw nn) ≡ refused k p) → LooksLast c
+    none k p n h =
+        record {
+          fields = refused k p;
+          last = h;
+          few = λ a q e. never e;
+          not-short = λ q e. n (cc);
+        }
 
     go : (m : MaybeVersion) (s t u : Bool) → versionOf (c .release) ≡ m → leb (length (c .main)) limit ≡ s → leb (length (payloadsOf c .string)) limit ≡ t
         → leb (startsOf c .string) (size (payloadsOf c .string)) ≡ u → LooksLast c
-    go Unknown s t u e f g h = none UnknownRelease (startsOf c) (λ nw nn. rw e)
-    go (Known v) false t u e f g h = none PayloadTooLong (startsOf c) (λ nw nn. rw (e, f))
-    go (Known v) true false u e f g h = none PayloadTooLong (startsOf c) (λ nw nn. rw (e, f, g))
-    go (Known v) true true false e f g h = none TooFewBits (record { main = c .start; string = size (payloadsOf c .string) }) (λ nw nn. rw (e, f, g, h))
+    go Unknown s t u e f g h = none UnknownRelease (startsOf c) (λ i. let z : _≡_ {A = ℕ} 0 1 = cc in omega arith) (λ nw nn. rw e)
+    go (Known v) false t u e f g h = none PayloadTooLong (startsOf c) (λ i. let z : _≡_ {A = ℕ} 0 1 = cc in omega arith) (λ nw nn. rw (e, f))
+    go (Known v) true false u e f g h = none PayloadTooLong (startsOf c) (λ i. let z : _≡_ {A = ℕ} 0 1 = cc in omega arith) (λ nw nn. rw (e, f, g))
+    go (Known v) true true false e f g h = none TooFewBits (record { main = c .start; string = size (payloadsOf c .string) })
+        (λ i. let z : _≡_ {A = ℕ} 0 1 = cc in omega arith) (λ nw nn. rw (e, f, g, h))
     go (Known v) true true true e f g h =
         record {
           fields = (hatch (c .caps) (c .handles) v) .read (payloadsOf c) (startsOf c);
           last = λ nw nn. rw (e, f, g, h);
           few = λ a q i. body-few c v a q (leb→le (length (c .main)) limit (rw f tt)) i;
+          not-short = λ q i. refused-by-fields (hatch (c .caps) (c .handles) v) (payloadsOf c) (startsOf c) ListTooShort q i;
         }
 
 module _ (nw nn : ℕ) (a : Body) (q : Places) where
@@ -97,13 +107,15 @@ module _ (nw nn : ℕ) (a : Body) (q : Places) where
       go false e = rw (e, roomFor)
 
 -- ---- the theorem: where a measuring call reads, the call with lists that are long enough reads the same body with the same final places, and
--- with a shorter list it is refused with 11 at these places; where it is refused, every such call is, with the same refusal and places
+-- with a shorter list it is refused with 11 at these places; where it is refused, it is not with 11, and every such call is refused with the same
+-- number and places
 pub data Measures (c : Call) : Type 0 where
   readable : (a : Body) (q : Places) → hatchCall (measuring c) ≡ got a q
       → ((nw nn : ℕ) → length (words (a .rest)) ≤ nw → length (numbers (a .rest)) ≤ nn → hatchCall (lending c nw nn) ≡ got a q)
       → ((nw nn : ℕ) → (nw < length (words (a .rest))) ⊎ (nn < length (numbers (a .rest))) → hatchCall (lending c nw nn) ≡ refused ListTooShort q)
       → Measures c
-  unreadable : (k : Refusal) (q : Places) → hatchCall (measuring c) ≡ refused k q → ((nw nn : ℕ) → hatchCall (lending c nw nn) ≡ refused k q) → Measures c
+  unreadable : (k : Refusal) (q : Places) → hatchCall (measuring c) ≡ refused k q → (k ≡ ListTooShort → ⊥)
+      → ((nw nn : ℕ) → hatchCall (lending c nw nn) ≡ refused k q) → Measures c
 
 pub measures : (c : Call) → Measures c
 measures c = go (l .fields) refl
@@ -115,7 +127,8 @@ measures c = go (l .fields) refl
     lent-as e nw nn = l .last nw nn ∙ ap (roomFor nw nn) e
 
     go : (o : Out Places Body) → l .fields ≡ o → Measures c
-    go (refused k q) e = unreadable k q (lent-as e most most) (lent-as e)
+    go (refused k q) e =
+        unreadable k q (lent-as e most most) (λ i. l .not-short q (e ∙ ap (λ (r : Refusal). refused r q) i)) (lent-as e)
     go (got a q) e =
         let few = l .few a q e in
         readable a q (lent-as e most most ∙ room-enough most most a q (omega (arith, few)) (omega (arith, few)))
@@ -126,7 +139,7 @@ pub read-measured : (c : Call) (nw nn : ℕ) (a : Body) (q : Places) → hatchCa
 read-measured c nw nn a q h = go (measures c)
   where
     go : Measures c → hatchCall (measuring c) ≡ got a q
-    go (unreadable k r e all) = let x = sym (all nw nn) ∙ h in let z : _≡_ {A = ℕ} 0 1 = cc in absurd (omega arith)
+    go (unreadable k r e not-short all) = let x = sym (all nw nn) ∙ h in let z : _≡_ {A = ℕ} 0 1 = cc in absurd (omega arith)
     go (readable b r e enough short) = pick (leb (length (words (b .rest))) nw) (leb (length (numbers (b .rest))) nn) refl refl
       where
         refusal : hatchCall (lending c nw nn) ≡ refused ListTooShort r → hatchCall (measuring c) ≡ got a q
@@ -139,3 +152,11 @@ read-measured c nw nn a q h = go (measures c)
             e ∙ sym (enough nw nn g k) ∙ h
         pick true false i j = refusal (short nw nn (inr (leb-false (length (numbers (b .rest))) nn j)))
         pick false t i j = refusal (short nw nn (inl (leb-false (length (words (b .rest))) nw i)))
+
+-- a measuring call never answers 11
+pub never-short : (c : Call) (q : Places) → hatchCall (measuring c) ≡ refused ListTooShort q → ⊥
+never-short c q h = go (measures c)
+  where
+    go : Measures c → ⊥
+    go (readable a r e enough short) = never (sym h ∙ e)
+    go (unreadable k r e not-short all) = not-short (cc)

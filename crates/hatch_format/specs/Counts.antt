@@ -103,13 +103,13 @@ module _ (cap : ℕ) (c : Code ℕ) where
   unfoldable pub capped-read : Format one ℕ
   capped-read = do
     n ← coded c
-    either (leb n cap) (pure n) (refuse CountTooLarge)
+    either (leb n cap) (pure n) (refuse CountTooLarge tt)
 
   pub capped-to : (xs : List ℕ) (n p q : ℕ) → capped-read .lays xs n p q → Count xs cap c n p q
   unfolding capped-read _>>=_ either pure refuse
   capped-to xs n p q l = go (leb (l .0) cap) refl (l .3)
     where
-      go : (s : Bool) → leb (l .0) cap ≡ s → (either {M = one} s (pure (l .0)) (refuse CountTooLarge)) .lays xs n (l .1) q → Count xs cap c n p q
+      go : (s : Bool) → leb (l .0) cap ≡ s → (either {M = one} s (pure (l .0)) (refuse CountTooLarge tt)) .lays xs n (l .1) q → Count xs cap c n p q
       go true e m = rw (m .0, m .1) (l .2, leb→le (l .0) cap (rw e tt))
       go false e m = absurd m
 

@@ -19,7 +19,7 @@ use Rattle.hatch_format.specs.Splines.{spline-edge}
 module _ (caps : Caps) (v : Version) where
   -- what follows each kind
   unfoldable pub edge-of : ℕ → Format one Edge
-  edge-of zero = refuse EdgeKind
+  edge-of zero = refuse EdgeKind tt
   edge-of (suc zero) = do
     start ← point
     end ← point
@@ -33,7 +33,7 @@ module _ (caps : Caps) (v : Version) where
   edge-of (suc (suc (suc (suc zero)))) = do
     a ← spline-edge caps v
     pure (spline a)
-  edge-of (suc (suc (suc (suc (suc n))))) = refuse EdgeKind
+  edge-of (suc (suc (suc (suc (suc n))))) = refuse EdgeKind tt
 
   unfoldable pub edge-read : Format one Edge
   edge-read = do

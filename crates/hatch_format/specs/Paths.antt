@@ -29,7 +29,7 @@ module _ (cap : ℕ) where
   handle-count-read in-payload sum = bounded cap BL
   handle-count-read (in-stream number) sum = do
     n ← capped cap BL
-    either (leb (sum + n) number) (pure n) (refuse CountTooLarge)
+    either (leb (sum + n) number) (pure n) (refuse CountTooLarge tt)
 
   pub handle-count-to : (handles : Handles) (sum : ℕ) (xs : List ℕ) (n p q : ℕ)
       → (handle-count-read handles sum) .lays xs n p q → HandlesLaid xs cap handles sum n p q
@@ -37,7 +37,7 @@ module _ (cap : ℕ) where
   handle-count-to in-payload sum xs n p q l = l
   handle-count-to (in-stream number) sum xs n p q l = go (leb (sum + l .0) number) refl (l .3)
     where
-      go : (s : Bool) → leb (sum + l .0) number ≡ s → (either {M = one} s (pure (l .0)) (refuse CountTooLarge)) .lays xs n (l .1) q
+      go : (s : Bool) → leb (sum + l .0) number ≡ s → (either {M = one} s (pure (l .0)) (refuse CountTooLarge tt)) .lays xs n (l .1) q
           → HandlesLaid xs cap (in-stream number) sum n p q
       go true e m = rw (m .0, m .1) (l .2, leb→le (sum + l .0) number (rw e tt))
       go false e m = absurd m

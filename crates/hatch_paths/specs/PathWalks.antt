@@ -76,12 +76,12 @@ module _ (caps : Caps) (has-fits : Bool) where
     pure (plus (words (degree ∷ (bit rational ∷ (bit periodic ∷ (knots ∷ (controls ∷ [])))))) lists)
 
   unfoldable pub edge-of-walk : ℕ → Format one Entries
-  edge-of-walk zero = refuse EdgeKind
+  edge-of-walk zero = refuse EdgeKind tt
   edge-of-walk (suc zero) = raw-run 4
   edge-of-walk (suc (suc zero)) = curve-walk 2
   edge-of-walk (suc (suc (suc zero))) = curve-walk 4
   edge-of-walk (suc (suc (suc (suc zero)))) = spline-walk
-  edge-of-walk (suc (suc (suc (suc (suc n))))) = refuse EdgeKind
+  edge-of-walk (suc (suc (suc (suc (suc n))))) = refuse EdgeKind tt
 
   unfoldable pub edge-walk : Format one Entries
   edge-walk = do

@@ -39,13 +39,13 @@ bounds-bounded cap c xs p = go (c .read xs p)
 
     cap-test : (n q : ℕ) (s : Bool)
         → elim s [ true ↦ elim (leb n (size xs - q)) [ true ↦ Value n q | false ↦ Refused CountTooLarge q ] | false ↦ Refused CountTooLarge q ]
-        ≡ asRead (andThen ((either {M = one} s (pure n) (refuse CountTooLarge)) .read xs q) (λ m r. andThen ((at-least m) .read xs r) (λ u t. got m t)))
+        ≡ asRead (andThen ((either {M = one} s (pure n) (refuse CountTooLarge tt)) .read xs q) (λ m r. andThen ((at-least m) .read xs r) (λ u t. got m t)))
     cap-test n q true = left-test n q (leb n (size xs - q))
     cap-test n q false = refl
 
     go : (o : Out ℕ ℕ)
         → boundsOf xs cap (asRead o)
-        ≡ asRead (andThen (andThen o (λ n q. (either {M = one} (leb n cap) (pure n) (refuse CountTooLarge)) .read xs q))
+        ≡ asRead (andThen (andThen o (λ n q. (either {M = one} (leb n cap) (pure n) (refuse CountTooLarge tt)) .read xs q))
         (λ m r. andThen ((at-least m) .read xs r) (λ u t. got m t)))
     go (refused k q) = refl
     go (got n q) = cap-test n q (leb n cap)

@@ -62,14 +62,14 @@ module _ (γ : Payloads) (p : Places) where
         | false ↦ refused TextPastEnd q
       ]
 
-  room-reads : (m : ℕ × ℕ) (q : ℕ) (b : Bool) → (either b (units-of m) (refuse TextPastEnd)) .read γ (movedIn string p q) ≡ lifted string p (after m q b)
+  room-reads : (m : ℕ × ℕ) (q : ℕ) (b : Bool) → (either b (units-of m) (refuse TextPastEnd tt)) .read γ (movedIn string p q) ≡ lifted string p (after m q b)
   unfolding either refuse
   room-reads m q true = rest-reads m q
   room-reads m q false = refl
 
   -- the length code and what follows it
   unfoldable measured-text : Format both Text
-  measured-text = field string (measured BS) >>= λ m. room-for (m .1) >>= λ room. either room (units-of m) (refuse TextPastEnd)
+  measured-text = field string (measured BS) >>= λ m. room-for (m .1) >>= λ room. either room (units-of m) (refuse TextPastEnd tt)
 
   length-reads : measured-text .read γ p
       ≡ lifted string p (andThen ((measured BS) .read (γ .string) (p .string)) (λ m q. after m q (eqb (m .1) 0 || leb (q + 16 * m .1) (γ .end))))
@@ -77,7 +77,7 @@ module _ (γ : Payloads) (p : Places) where
   length-reads = go ((measured BS) .read (γ .string) (p .string))
     where
       go : (o : Out ℕ (ℕ × ℕ))
-          → andThen (lifted string p o) (λ m s. (either (eqb (m .1) 0 || leb (s .string + 16 * m .1) (γ .end)) (units-of m) (refuse TextPastEnd)) .read γ s)
+          → andThen (lifted string p o) (λ m s. (either (eqb (m .1) 0 || leb (s .string + 16 * m .1) (γ .end)) (units-of m) (refuse TextPastEnd tt)) .read γ s)
           ≡ lifted string p (andThen o (λ m q. after m q (eqb (m .1) 0 || leb (q + 16 * m .1) (γ .end))))
       go (got m q) = room-reads m q (eqb (m .1) 0 || leb (q + 16 * m .1) (γ .end))
       go (refused r q) = refl

@@ -63,4 +63,4 @@ from-reader = do
     either room (do
       laid ← field string (units 2 (m .1))
       t ← field string (judged wide (m .0) laid)
-      pure (textOf String wide at t)) (refuse TextPastEnd))
+      pure (textOf String wide at t)) (refuse TextPastEnd tt))

@@ -47,7 +47,7 @@ module _ (xs : List ℕ) (p : ℕ) where
   parts u s e = from-length (BS .read xs p) refl e
     where
       judge : (n r : ℕ) (l : List ℕ) (t : ℕ) → BS .read xs p ≡ got n r → (units 2 n) .read xs r ≡ got l t → (b : Bool) → valid wide (unclosed l) ≡ b
-          → (checked b (give (written (r - p) (unclosed l))) (refuse NotUtf16)) .read xs t ≡ got u s → Parts xs p u s
+          → (checked b (give (written (r - p) (unclosed l))) (refuse NotUtf16 tt)) .read xs t ≡ got u s → Parts xs p u s
       judge n r l t f g true h k =
           let eu : u ≡ written (r - p) (unclosed l) = cc in
           let es : t ≡ s = cc in
@@ -80,7 +80,7 @@ module _ (xs : List ℕ) (p : ℕ) where
   unfolding judged checked give
   judged-got k l t e = go (valid wide (unclosed l)) e
     where
-      go : (b : Bool) → b ≡ true → (checked b (give (written k (unclosed l))) (refuse NotUtf16)) .read xs t ≡ got (written k (unclosed l)) t
+      go : (b : Bool) → b ≡ true → (checked b (give (written k (unclosed l))) (refuse NotUtf16 tt)) .read xs t ≡ got (written k (unclosed l)) t
       go true e = refl
       go false e = let z : _≡_ {A = ℕ} 0 1 = cc in absurd (omega arith)
 

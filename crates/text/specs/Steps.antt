@@ -29,7 +29,7 @@ module _ (source : Source) (w : UnitWidth) (xs : List ℕ) (at p : ℕ) (on : at
       e : at + (p - at) ≡ p
       e = omega arith
 
-      go : (b : Bool) → placed source w at ((checked b (give (written (p - at) (unclosed laid))) (refuse NotUtf16)) .read xs q)
+      go : (b : Bool) → placed source w at ((checked b (give (written (p - at) (unclosed laid))) (refuse NotUtf16 tt)) .read xs q)
           ≡ elim b [ true ↦ got (textAt source w p (length (unclosed laid))) q | false ↦ refused NotUtf16 q ]
       go true = ap (λ (m : ℕ). got (textAt source w m (length (unclosed laid))) q) e
       go false = refl

@@ -100,7 +100,7 @@ pub data TV-codes (w : UnitWidth) : Written → List Bool → Type 0 where
 
 -- what is made of the units: refusal 7 after all of them
 unfoldable pub judged : UnitWidth → ℕ → List ℕ → Code Written
-judged w lead laid = checked (valid w (unclosed laid)) (give (written lead (unclosed laid))) (refuse NotUtf16)
+judged w lead laid = checked (valid w (unclosed laid)) (give (written lead (unclosed laid))) (refuse NotUtf16 tt)
 
 unfoldable pub TV-read : UnitWidth → Code Written
 TV-read w = do
@@ -116,7 +116,7 @@ TV-to w t cs l = go (valid w (unclosed laid)) refl (l .4 .4)
     laid = l .4 .0
 
     go : (b : Bool) → valid w (unclosed laid) ≡ b
-        → (checked b (give (written (l .0 .0) (unclosed laid))) (refuse NotUtf16)) .codes t (l .4 .2) → TV-codes w t cs
+        → (checked b (give (written (l .0 .0) (unclosed laid))) (refuse NotUtf16 tt)) .codes t (l .4 .2) → TV-codes w t cs
     go true e m =
         let h : BS-codes (length laid) (l .1) = subst⁻¹ (λ (n : ℕ). BS-codes n (l .1)) (l .4 .3 .0) (l .3 .0) in
         let bs = unitBits (unitBytes w) laid in

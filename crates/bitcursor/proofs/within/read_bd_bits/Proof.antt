@@ -31,7 +31,7 @@ returns c =
     let after-read-bits = after-tag .before .before in
     let entry = after-read-bits .before .before in
     let a = entry .args in
-    c .read-low .ensures ∙ sym (ap asRead (tag-00 (lowFirst 8) (give one-pattern) (give 0) (refuse ReservedTag) (now (a .s)) (a .at)
+    c .read-low .ensures ∙ sym (ap asRead (tag-00 (lowFirst 8) (give one-pattern) (give 0) (refuse ReservedTag tt) (now (a .s)) (a .at)
     (after-read-bits .read-bits .ensures) (after-tag .tag .given .1) (at-match2-keys1 .match2 .keys1)))
 
 returns-2 : tie.Need-returns-2
@@ -41,7 +41,7 @@ returns-2 c =
     let after-read-bits = after-tag .before .before in
     let entry = after-read-bits .before .before in
     let a = entry .args in
-    sym (ap asRead (tag-01 (lowFirst 8) (give one-pattern) (give 0) (refuse ReservedTag) (now (a .s)) (a .at) (after-read-bits .read-bits .ensures)
+    sym (ap asRead (tag-01 (lowFirst 8) (give one-pattern) (give 0) (refuse ReservedTag tt) (now (a .s)) (a .at) (after-read-bits .read-bits .ensures)
     (after-tag .tag .given .1) (c .match2 .keys2)))
 
 returns-3 : tie.Need-returns-3
@@ -51,7 +51,7 @@ returns-3 c =
     let after-read-bits = after-tag .before .before in
     let entry = after-read-bits .before .before in
     let a = entry .args in
-    sym (ap asRead (tag-10 (lowFirst 8) (give one-pattern) (give 0) (refuse ReservedTag) (now (a .s)) (a .at) (after-read-bits .read-bits .ensures)
+    sym (ap asRead (tag-10 (lowFirst 8) (give one-pattern) (give 0) (refuse ReservedTag tt) (now (a .s)) (a .at) (after-read-bits .read-bits .ensures)
     (after-tag .tag .given .1) (c .match2 .keys3)))
 
 returns-4 : tie.Need-returns-4
@@ -61,7 +61,7 @@ returns-4 c =
     let after-read-bits = after-tag .before .before in
     let entry = after-read-bits .before .before in
     let a = entry .args in
-    sym (ap asRead (tag-11 (lowFirst 8) (give one-pattern) (give 0) (refuse ReservedTag) (now (a .s)) (a .at) (after-read-bits .read-bits .ensures)
+    sym (ap asRead (tag-11 (lowFirst 8) (give one-pattern) (give 0) (refuse ReservedTag tt) (now (a .s)) (a .at) (after-read-bits .read-bits .ensures)
     (after-tag .tag .given .1) (c .match2 .rest .0 .0 .1) (c .match2 .rest .0 .1) (c .match2 .rest .1)))
 
 returns-5 : tie.Need-returns-5
@@ -71,7 +71,7 @@ returns-5 c =
     let after-read-bits = after-k .before .before in
     let entry = after-read-bits .before .before in
     let a = entry .args in
-    sym (ap asRead (tag-none (lowFirst 8) (give one-pattern) (give 0) (refuse ReservedTag) (now (a .s)) (a .at) (after-read-bits .read-bits .ensures)
+    sym (ap asRead (tag-none (lowFirst 8) (give one-pattern) (give 0) (refuse ReservedTag tt) (now (a .s)) (a .at) (after-read-bits .read-bits .ensures)
     (after-k .k .given .1)))
 
 pub read-bd-bits-spec : {M : Type 1} → statement M

@@ -28,20 +28,20 @@ module _ (s : List ℕ) (at x : ℕ) (fits : at / 8 + 10 ≤ length s) (e : x �
   unfolding BD tabled BD-read
   full z =
       let p : at + 2 + 8 * 8 ≡ at + 66 = omega arith in
-      tag-00 (lowFirst 8) (give one-pattern) (give 0) (refuse ReservedTag) s at tag-read refl z
+      tag-00 (lowFirst 8) (give one-pattern) (give 0) (refuse ReservedTag tt) s at tag-read refl z
       ∙ low-there 8 s (at + 2) (omega arith) ∙ ap (got (lowNumber (bytesAt s (at + 2) 8))) p
 
   one : x / 2 ^ 62 ≡ 1 → BD .read s at ≡ got one-pattern (at + 2)
   unfolding BD tabled BD-read give
-  one z = tag-01 (lowFirst 8) (give one-pattern) (give 0) (refuse ReservedTag) s at tag-read refl z
+  one z = tag-01 (lowFirst 8) (give one-pattern) (give 0) (refuse ReservedTag tt) s at tag-read refl z
 
   none : x / 2 ^ 62 ≡ 2 → BD .read s at ≡ got 0 (at + 2)
   unfolding BD tabled BD-read give
-  none z = tag-10 (lowFirst 8) (give one-pattern) (give 0) (refuse ReservedTag) s at tag-read refl z
+  none z = tag-10 (lowFirst 8) (give one-pattern) (give 0) (refuse ReservedTag tt) s at tag-read refl z
 
   reserved : (x / 2 ^ 62 ≡ 0 → ⊥) → (x / 2 ^ 62 ≡ 1 → ⊥) → (x / 2 ^ 62 ≡ 2 → ⊥) → BD .read s at ≡ refused ReservedTag (at + 2)
   unfolding BD tabled BD-read refuse
-  reserved h₀ h₁ h₂ = tag-11 (lowFirst 8) (give one-pattern) (give 0) (refuse ReservedTag) s at tag-read refl h₀ h₁ h₂
+  reserved h₀ h₁ h₂ = tag-11 (lowFirst 8) (give one-pattern) (give 0) (refuse ReservedTag tt) s at tag-read refl h₀ h₁ h₂
 
 top-at-requires : tie.Need-top-at-requires
 top-at-requires c κs = search needs

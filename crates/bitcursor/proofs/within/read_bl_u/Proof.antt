@@ -34,7 +34,7 @@ returns c =
     let after-read-bits = after-tag .before .before in
     let entry = after-read-bits .before .before in
     let a = entry .args in
-    c .read-low .ensures ∙ sym (ap asRead (tag-00 (lowFirst 4) (lowFirst 1) (give 0) (refuse ReservedTag) (now (a .s)) (a .at)
+    c .read-low .ensures ∙ sym (ap asRead (tag-00 (lowFirst 4) (lowFirst 1) (give 0) (refuse ReservedTag tt) (now (a .s)) (a .at)
     (after-read-bits .read-bits .ensures) (after-tag .tag .given .1) (at-match2-keys1 .match2 .keys1)))
 
 returns-2 : tie.Need-returns-2
@@ -45,7 +45,7 @@ returns-2 c =
     let after-read-bits = after-tag .before .before in
     let entry = after-read-bits .before .before in
     let a = entry .args in
-    c .read-low2 .ensures ∙ sym (ap asRead (tag-01 (lowFirst 4) (lowFirst 1) (give 0) (refuse ReservedTag) (now (a .s)) (a .at)
+    c .read-low2 .ensures ∙ sym (ap asRead (tag-01 (lowFirst 4) (lowFirst 1) (give 0) (refuse ReservedTag tt) (now (a .s)) (a .at)
     (after-read-bits .read-bits .ensures) (after-tag .tag .given .1) (at-match2-keys2 .match2 .keys2)))
 
 returns-3 : tie.Need-returns-3
@@ -55,7 +55,7 @@ returns-3 c =
     let after-read-bits = after-tag .before .before in
     let entry = after-read-bits .before .before in
     let a = entry .args in
-    sym (ap asRead (tag-10 (lowFirst 4) (lowFirst 1) (give 0) (refuse ReservedTag) (now (a .s)) (a .at) (after-read-bits .read-bits .ensures)
+    sym (ap asRead (tag-10 (lowFirst 4) (lowFirst 1) (give 0) (refuse ReservedTag tt) (now (a .s)) (a .at) (after-read-bits .read-bits .ensures)
     (after-tag .tag .given .1) (c .match2 .keys3)))
 
 returns-4 : tie.Need-returns-4
@@ -65,7 +65,7 @@ returns-4 c =
     let after-read-bits = after-tag .before .before in
     let entry = after-read-bits .before .before in
     let a = entry .args in
-    sym (ap asRead (tag-11 (lowFirst 4) (lowFirst 1) (give 0) (refuse ReservedTag) (now (a .s)) (a .at) (after-read-bits .read-bits .ensures)
+    sym (ap asRead (tag-11 (lowFirst 4) (lowFirst 1) (give 0) (refuse ReservedTag tt) (now (a .s)) (a .at) (after-read-bits .read-bits .ensures)
     (after-tag .tag .given .1) (c .match2 .rest .0 .0 .1) (c .match2 .rest .0 .1) (c .match2 .rest .1)))
 
 returns-5 : tie.Need-returns-5
@@ -75,7 +75,7 @@ returns-5 c =
     let after-read-bits = after-k .before .before in
     let entry = after-read-bits .before .before in
     let a = entry .args in
-    sym (ap asRead (tag-none (lowFirst 4) (lowFirst 1) (give 0) (refuse ReservedTag) (now (a .s)) (a .at) (after-read-bits .read-bits .ensures)
+    sym (ap asRead (tag-none (lowFirst 4) (lowFirst 1) (give 0) (refuse ReservedTag tt) (now (a .s)) (a .at) (after-read-bits .read-bits .ensures)
     (after-k .k .given .1)))
 
 pub read-bl-u-spec : {M : Type 1} → statement M
