@@ -12,7 +12,6 @@ use Rattle.bitcursor.specs.Format.{Format, pure, _>>=_}
 use Rattle.bitcursor.specs.Inputs.{one}
 use lib.ListN.{length, length-append}
 use lib.Ieee.{Float}
-use lib.Seq.{length-sets}
 use Rattle.hatch_points.specs.declared.lists.Sizes.{Sizes}
 use Rattle.hatch_points.specs.Gathered.{Entries, none, word, numbers, plus, repeated}
 use Rattle.bitcursor.specs.Doubles.{BD}
@@ -21,7 +20,7 @@ use Rattle.hatch_points.specs.declared.lists.Walk.{Walk}
 use Rattle.hatch_points.specs.declared.lists.Walk.the-variants.{Done, Refused}
 use Rattle.hatch_points.specs.Stores.{passedBy}
 use Rattle.hatch_points.specs.Lists.{Lists, lists, doublesOf, store, Kept, Ready, Walks}
-use Rattle.hatch_points.proofs.Laws.{Step, no-step, _⊕_, plus-none, plus-again, kept-then, walk-finished, walk-ready, walk-refused, walk-kept}
+use Rattle.hatch_points.proofs.Laws.{Step, no-step, _⊕_, plus-none, plus-again, kept-step, kept-then, walk-finished, walk-ready, walk-refused, walk-kept}
 use Rattle.hatch_points.proofs.Laws.{walks-as, walks-unstored, refuses, ends, behind, sets-out}
 
 -- the entries a, and then what the rest has
@@ -191,15 +190,9 @@ module _ (d : Format one Entries) (xs : List ℕ) where
       pub walk-refuses : {k : Refusal} {q : ℕ} → r ≡ Refused k q → Walks xs ((repeated n d) .read xs p₀) l₀ z₀ l′ (Refused k q)
       walk-refuses e = loop-refuses lt (walk-refused w e) (walk-kept w e)
 
-    -- the lists are as long as they were
-    pub long-doubles : length (l .doubles) ≡ length (l₀ .doubles)
-    long-doubles = ap (λ (x : Lists). length (x .doubles)) (h .step .lists) ∙ length-sets (l₀ .doubles) (z₀ .numbers) (doublesOf (h .gathered .numbers))
-
-    pub long-bits : length (l .bits) ≡ length (l₀ .bits)
-    long-bits = ap (λ (x : Lists). length (x .bits)) (h .step .lists) ∙ length-sets (l₀ .bits) (z₀ .numbers) (h .gathered .numbers)
-
-    pub long-words : length (l .words) ≡ length (l₀ .words)
-    long-words = ap (λ (x : Lists). length (x .words)) (h .step .lists) ∙ length-sets (l₀ .words) (z₀ .words) (h .gathered .words)
+    -- what the lists keep, their lengths among it
+    pub along-kept : Kept l₀ z₀ l
+    along-kept = kept-step (h .step)
 
 -- a walk that was lent no lists, said of lists of numbers that have no room for what it gathers
 module _ (d : Format one Entries) (xs : List ℕ) (n p : ℕ) {z : Sizes} {r : Walk} (a : List Float) (b : List ℕ) where

@@ -5,7 +5,7 @@ use Prim.Native.Nat.{ℕ, suc, _+_, _-_, _*_, _^_, _≤_, _<_}
 use native.Mathlib.Omega.{arith}
 use denote.Ref.{now}
 use Rattle.hatch_points.specs.Lists.{lists}
-use Rattle.hatch_points.proofs.Loops.{Along, start, walk-next, walk-refuses, loop-ends, long-doubles, long-bits, long-words}
+use Rattle.hatch_points.proofs.Loops.{Along, start, walk-next, walk-refuses, loop-ends, along-kept}
 use Rattle.hatch_paths.specs.PathWalks.{edge-walk}
 use borrow.Author.Needs.{needs}
 use Rattle.hatch_paths.proofs.edges.decode_edges.Statement.{statement}
@@ -69,7 +69,8 @@ same-length c =
     let at-loop = in-loop .before in
     let entry = entry-from-at-loop at-loop in
     let args = entry .args in
-    after-decode-edge .decode-edge .kept .1 .1 .1 .1 .0 ∙ long-doubles (edge-walk (args .caps) (args .fits)) (now (args .s)) (at-loop .loop .inv)
+    after-decode-edge .decode-edge .kept .1 .1 .1 .1 .0
+    ∙ (along-kept (edge-walk (args .caps) (args .fits)) (now (args .s)) (at-loop .loop .inv)) .doubles .long
 
 same-length-2 : tie.Need-same-length-2 Inv-loop μ-loop
 same-length-2 c =
@@ -79,7 +80,8 @@ same-length-2 c =
     let at-loop = in-loop .before in
     let entry = entry-from-at-loop at-loop in
     let args = entry .args in
-    after-decode-edge .decode-edge .kept .1 .1 .1 .1 .1 .0 ∙ long-bits (edge-walk (args .caps) (args .fits)) (now (args .s)) (at-loop .loop .inv)
+    after-decode-edge .decode-edge .kept .1 .1 .1 .1 .1 .0
+    ∙ (along-kept (edge-walk (args .caps) (args .fits)) (now (args .s)) (at-loop .loop .inv)) .bits .long
 
 same-length-3 : tie.Need-same-length-3 Inv-loop μ-loop
 same-length-3 c =
@@ -89,7 +91,8 @@ same-length-3 c =
     let at-loop = in-loop .before in
     let entry = entry-from-at-loop at-loop in
     let args = entry .args in
-    after-decode-edge .decode-edge .kept .1 .1 .1 .1 .1 .1 .0 ∙ long-words (edge-walk (args .caps) (args .fits)) (now (args .s)) (at-loop .loop .inv)
+    after-decode-edge .decode-edge .kept .1 .1 .1 .1 .1 .1 .0
+    ∙ (along-kept (edge-walk (args .caps) (args .fits)) (now (args .s)) (at-loop .loop .inv)) .words .long
 
 returns : tie.Need-returns Inv-loop μ-loop
 returns c =
@@ -126,21 +129,21 @@ same-length-4 c =
     let at-loop = c .before in
     let entry = entry-from-at-loop at-loop in
     let args = entry .args in
-    long-doubles (edge-walk (args .caps) (args .fits)) (now (args .s)) (at-loop .loop .inv)
+    (along-kept (edge-walk (args .caps) (args .fits)) (now (args .s)) (at-loop .loop .inv)) .doubles .long
 
 same-length-5 : tie.Need-same-length-5 Inv-loop μ-loop
 same-length-5 c =
     let at-loop = c .before in
     let entry = entry-from-at-loop at-loop in
     let args = entry .args in
-    long-bits (edge-walk (args .caps) (args .fits)) (now (args .s)) (at-loop .loop .inv)
+    (along-kept (edge-walk (args .caps) (args .fits)) (now (args .s)) (at-loop .loop .inv)) .bits .long
 
 same-length-6 : tie.Need-same-length-6 Inv-loop μ-loop
 same-length-6 c =
     let at-loop = c .before in
     let entry = entry-from-at-loop at-loop in
     let args = entry .args in
-    long-words (edge-walk (args .caps) (args .fits)) (now (args .s)) (at-loop .loop .inv)
+    (along-kept (edge-walk (args .caps) (args .fits)) (now (args .s)) (at-loop .loop .inv)) .words .long
 
 returns-2 : tie.Need-returns-2 Inv-loop μ-loop
 returns-2 c =

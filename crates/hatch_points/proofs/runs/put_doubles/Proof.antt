@@ -14,7 +14,7 @@ use Rattle.hatch_points.specs.Gathered.{numbers}
 use Rattle.hatch_points.specs.Walks.{single-walk}
 use Rattle.hatch_points.specs.Lists.{lists, Ready}
 use Rattle.hatch_points.proofs.Laws.{more-numbers, kept-same, onward}
-use Rattle.hatch_points.proofs.Loops.{Along, start, next, loop-refuses, loop-ends, long-doubles, long-bits, single-read, single-refused}
+use Rattle.hatch_points.proofs.Loops.{Along, start, next, loop-refuses, loop-ends, along-kept, single-read, single-refused}
 use borrow.Author.Needs.{needs}
 use Rattle.hatch_points.proofs.runs.put_doubles.Statement.{statement}
 use Rattle.hatch_points.proofs.runs.put_doubles.Tie as tie
@@ -77,14 +77,14 @@ same-length c =
     let after-read-knot = c .before .before .before in
     let at-loop = after-read-knot .before .before in
     let entry = entry-from-at-loop at-loop in
-    long-doubles single-walk (now (entry .args .s)) (at-loop .loop .inv)
+    (along-kept single-walk (now (entry .args .s)) (at-loop .loop .inv)) .doubles .long
 
 same-length-2 : tie.Need-same-length-2 Inv-loop μ-loop
 same-length-2 c =
     let after-read-knot = c .before .before .before in
     let at-loop = after-read-knot .before .before in
     let entry = entry-from-at-loop at-loop in
-    long-bits single-walk (now (entry .args .s)) (at-loop .loop .inv)
+    (along-kept single-walk (now (entry .args .s)) (at-loop .loop .inv)) .bits .long
 
 returns : tie.Need-returns Inv-loop μ-loop
 returns c =
@@ -129,13 +129,13 @@ same-length-3 : tie.Need-same-length-3 Inv-loop μ-loop
 same-length-3 c =
     let at-loop = c .before in
     let entry = entry-from-at-loop at-loop in
-    long-doubles single-walk (now (entry .args .s)) (at-loop .loop .inv)
+    (along-kept single-walk (now (entry .args .s)) (at-loop .loop .inv)) .doubles .long
 
 same-length-4 : tie.Need-same-length-4 Inv-loop μ-loop
 same-length-4 c =
     let at-loop = c .before in
     let entry = entry-from-at-loop at-loop in
-    long-bits single-walk (now (entry .args .s)) (at-loop .loop .inv)
+    (along-kept single-walk (now (entry .args .s)) (at-loop .loop .inv)) .bits .long
 
 returns-2 : tie.Need-returns-2 Inv-loop μ-loop
 returns-2 c =

@@ -11,7 +11,7 @@ use Rattle.hatch_points.specs.Walks.{vertex-walk}
 use Rattle.hatch_points.specs.Lists.{lists, Ready}
 use Rattle.hatch_points.specs.Vertices.{vertexAt, Extra}
 use Rattle.hatch_points.proofs.Laws.{more-numbers, kept-same}
-use Rattle.hatch_points.proofs.Loops.{Along, start, next, loop-refuses, loop-ends, long-doubles, long-bits}
+use Rattle.hatch_points.proofs.Loops.{Along, start, next, loop-refuses, loop-ends, along-kept}
 use borrow.Author.Needs.{needs}
 use Rattle.hatch_points.proofs.vertices.put_vertices.Statement.{statement}
 use Rattle.hatch_points.proofs.vertices.put_vertices.Tie as tie
@@ -82,14 +82,14 @@ same-length c =
     let after-read-extra = c .before .before .before in
     let at-loop = after-read-extra .before .before in
     let entry = entry-from-at-loop at-loop in
-    long-doubles vertex-walk (now (entry .args .s)) (at-loop .loop .inv)
+    (along-kept vertex-walk (now (entry .args .s)) (at-loop .loop .inv)) .doubles .long
 
 same-length-2 : tie.Need-same-length-2 Inv-loop μ-loop
 same-length-2 c =
     let after-read-extra = c .before .before .before in
     let at-loop = after-read-extra .before .before in
     let entry = entry-from-at-loop at-loop in
-    long-bits vertex-walk (now (entry .args .s)) (at-loop .loop .inv)
+    (along-kept vertex-walk (now (entry .args .s)) (at-loop .loop .inv)) .bits .long
 
 returns : tie.Need-returns Inv-loop μ-loop
 returns c =
@@ -133,13 +133,13 @@ same-length-3 : tie.Need-same-length-3 Inv-loop μ-loop
 same-length-3 c =
     let at-loop = c .before in
     let entry = entry-from-at-loop at-loop in
-    long-doubles vertex-walk (now (entry .args .s)) (at-loop .loop .inv)
+    (along-kept vertex-walk (now (entry .args .s)) (at-loop .loop .inv)) .doubles .long
 
 same-length-4 : tie.Need-same-length-4 Inv-loop μ-loop
 same-length-4 c =
     let at-loop = c .before in
     let entry = entry-from-at-loop at-loop in
-    long-bits vertex-walk (now (entry .args .s)) (at-loop .loop .inv)
+    (along-kept vertex-walk (now (entry .args .s)) (at-loop .loop .inv)) .bits .long
 
 returns-2 : tie.Need-returns-2 Inv-loop μ-loop
 returns-2 c =

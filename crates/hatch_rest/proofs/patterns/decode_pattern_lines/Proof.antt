@@ -5,7 +5,7 @@ use denote.Ref.{now}
 use borrow.Author.Needs.{needs}
 use Rattle.hatch_rest.specs.LineGathers.{line-walk}
 use Rattle.hatch_points.specs.Lists.{lists}
-use Rattle.hatch_points.proofs.Loops.{Along, start, walk-next, walk-refuses, loop-ends, long-doubles, long-bits, long-words}
+use Rattle.hatch_points.proofs.Loops.{Along, start, walk-next, walk-refuses, loop-ends, along-kept}
 use Rattle.hatch_rest.proofs.patterns.decode_pattern_lines.Statement.{statement}
 use Rattle.hatch_rest.proofs.patterns.decode_pattern_lines.Tie as tie
 use Rattle.hatch_rest.proofs.patterns.decode_pattern_lines.Reads as reads
@@ -66,7 +66,7 @@ same-length c =
     let at-loop = in-loop .before in
     let entry = entry-from-at-loop at-loop in
     let args = entry .args in
-    search (needs, long-doubles (line-walk (args .cap)) (now (args .s)) (at-loop .loop .inv))
+    search (needs, (along-kept (line-walk (args .cap)) (now (args .s)) (at-loop .loop .inv)) .doubles .long)
 
 same-length-2 : tie.Need-same-length-2 Inv-loop μ-loop
 same-length-2 c =
@@ -76,7 +76,7 @@ same-length-2 c =
     let at-loop = in-loop .before in
     let entry = entry-from-at-loop at-loop in
     let args = entry .args in
-    search (needs, long-bits (line-walk (args .cap)) (now (args .s)) (at-loop .loop .inv))
+    search (needs, (along-kept (line-walk (args .cap)) (now (args .s)) (at-loop .loop .inv)) .bits .long)
 
 same-length-3 : tie.Need-same-length-3 Inv-loop μ-loop
 same-length-3 c =
@@ -86,7 +86,7 @@ same-length-3 c =
     let at-loop = in-loop .before in
     let entry = entry-from-at-loop at-loop in
     let args = entry .args in
-    search (needs, long-words (line-walk (args .cap)) (now (args .s)) (at-loop .loop .inv))
+    search (needs, (along-kept (line-walk (args .cap)) (now (args .s)) (at-loop .loop .inv)) .words .long)
 
 returns : tie.Need-returns Inv-loop μ-loop
 returns c =
@@ -123,21 +123,21 @@ same-length-4 c =
     let at-loop = c .before in
     let entry = entry-from-at-loop at-loop in
     let args = entry .args in
-    long-doubles (line-walk (args .cap)) (now (args .s)) (at-loop .loop .inv)
+    (along-kept (line-walk (args .cap)) (now (args .s)) (at-loop .loop .inv)) .doubles .long
 
 same-length-5 : tie.Need-same-length-5 Inv-loop μ-loop
 same-length-5 c =
     let at-loop = c .before in
     let entry = entry-from-at-loop at-loop in
     let args = entry .args in
-    long-bits (line-walk (args .cap)) (now (args .s)) (at-loop .loop .inv)
+    (along-kept (line-walk (args .cap)) (now (args .s)) (at-loop .loop .inv)) .bits .long
 
 same-length-6 : tie.Need-same-length-6 Inv-loop μ-loop
 same-length-6 c =
     let at-loop = c .before in
     let entry = entry-from-at-loop at-loop in
     let args = entry .args in
-    long-words (line-walk (args .cap)) (now (args .s)) (at-loop .loop .inv)
+    (along-kept (line-walk (args .cap)) (now (args .s)) (at-loop .loop .inv)) .words .long
 
 returns-2 : tie.Need-returns-2 Inv-loop μ-loop
 returns-2 c =
