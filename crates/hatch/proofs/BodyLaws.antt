@@ -25,7 +25,7 @@ use Rattle.hatch_format.specs.Patterns.{rest}
 use Rattle.hatch_points.specs.declared.lists.Sizes.{Sizes}
 use Rattle.hatch_points.specs.Gathered.{Entries, gathered}
 use Rattle.hatch_points.specs.Gathers.{all-both}
-use Rattle.hatch_points.specs.Lists.{Lists, lists, doublesOf, lay, grow, Laid}
+use Rattle.hatch_points.specs.Lists.{Lists, lists, doublesOf, store, grow, Stored, Kept}
 use Rattle.hatch_paths.specs.PathGathers.{all-paths}
 use Rattle.hatch_rest.specs.declared.rests.Rest.{Rest}
 use Rattle.hatch_rest.specs.declared.rests.RestWalk.{RestWalk}
@@ -101,12 +101,12 @@ module _ (f : Front) (nw nn : ℕ) (p : Places) (o : Out ℕ RestValue) {t : Res
       subst (Answered (RefusedBody ListTooShort (placed p q)) l l′) (sym (read .1))
       (ap (λ (c : Bool). partsIf c f (read .0) (placed p q)) (sym b), j ∙ ap (λ (c : Bool). laidIf c l (read .0)) (sym b))
 
-  pub rest-full : (l l′ : Lists) → longEnough nw nn z ≡ true → Laid (gathered restEntries o) l noSizes l′
+  pub rest-full : (l l′ : Lists) → longEnough nw nn z ≡ true → Stored (gathered restEntries o) l noSizes l′
       → Answered (DoneBody (record { front = f; rest = t; used = z; places = placed p q })) l l′ o
   rest-full l l′ s g =
       let a = read .0 in
       let b = same-room s in
-      let laid : l′ ≡ lay l noSizes (restEntries a) = subst (λ (x : Out ℕ RestValue). Laid (gathered restEntries x) l noSizes l′) (read .1) g in
+      let laid : l′ ≡ store l noSizes (restEntries a) = subst (λ (x : Out ℕ RestValue). Stored (gathered restEntries x) l noSizes l′) (read .1) g in
       let same = ap₂ (λ (u : Rest) (y : Sizes). DoneBody (record { front = f; rest = u; used = y; places = placed p q })) (read .2) (read .3) in
       subst (Answered (DoneBody (record { front = f; rest = t; used = z; places = placed p q })) l l′) (sym (read .1))
       (same ∙ ap (λ (c : Bool). partsIf c f a (placed p q)) (sym b), laid ∙ ap (λ (c : Bool). laidIf c l a) (sym b))
@@ -125,8 +125,8 @@ module _ (xs : List ℕ) (o : Out ℕ RestValue) (l l′ : Lists) {fill : Bool} 
   measured e i = subst (λ (b : Bool). Walked b xs o l l′) (sym e) i
 
 -- what was laid, from lists that are known as others
-pub laid-from : (o : Out ℕ RestValue) {l m : Lists} (l′ : Lists) → m ≡ l → Laid (gathered restEntries o) m noSizes l′ → Laid (gathered restEntries o) l noSizes l′
-laid-from o l′ i h = subst (λ (x : Lists). Laid (gathered restEntries o) x noSizes l′) i h
+pub laid-from : (o : Out ℕ RestValue) {l m : Lists} (l′ : Lists) → m ≡ l → Stored (gathered restEntries o) m noSizes l′ → Stored (gathered restEntries o) l noSizes l′
+laid-from o l′ i h = subst (λ (x : Lists). Stored (gathered restEntries o) x noSizes l′) i h
 
 -- ---- empty lists take nothing
 sets-none : {A : Type 0} (l : List A) (i : ℕ) (vs : List A) → length l ≡ 0 → l ≡ sets l i vs
@@ -147,7 +147,7 @@ none-all a b c h = go (leb a 0) (leb b 0) (leb c 0) refl refl refl h
     go true false u e f g h = let x : _≡_ {A = ℕ} 0 1 = cc in absurd (omega arith)
     go false t u e f g h = let x : _≡_ {A = ℕ} 0 1 = cc in absurd (omega arith)
 
-pub none-laid : (o : Out ℕ RestValue) (a : List Float) (b c : List ℕ) → noneLent (length a) (length b) (length c) ≡ true → Laid (gathered restEntries o) (lists a b c) noSizes (lists a b c)
+pub none-laid : (o : Out ℕ RestValue) (a : List Float) (b c : List ℕ) → noneLent (length a) (length b) (length c) ≡ true → Stored (gathered restEntries o) (lists a b c) noSizes (lists a b c)
 none-laid (refused k q) a b c h =
     record { doubles = record { long = refl; front = refl }; bits = record { long = refl; front = refl }; words = record { long = refl; front = refl } }
 none-laid (got v q) a b c h =

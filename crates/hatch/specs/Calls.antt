@@ -22,7 +22,7 @@ use Rattle.hatch.specs.declared.HatchBitsAnswer.{HatchBitsAnswer}
 use Rattle.hatch.specs.declared.Lengths.{Lengths}
 use Rattle.hatch.specs.declared.bodies.BodyRead.{BodyRead}
 use Rattle.hatch.specs.Parts.{BodyIs, Readable}
-use Rattle.hatch_points.specs.Lists.{Lists, lists, doublesOf, lay}
+use Rattle.hatch_points.specs.Lists.{Lists, lists, doublesOf, store}
 use Rattle.hatch_rest.specs.Rests.{noSizes, restEntries}
 
 -- ---- the record beside the outcome: zero but for the places on a refusal
@@ -69,7 +69,7 @@ callOf release xs start strings nw nn =
 
 -- inside, before a list's room is known: what the lists are then
 abbrev pub laidOver : Lists → Out Places Body → Lists
-laidOver l (got a q) = lay l noSizes (restEntries (a .rest))
+laidOver l (got a q) = store l noSizes (restEntries (a .rest))
 laidOver l (refused k q) = l
 
 -- ---- what the functions ensure that hand on a body's parts: the lists before and after, and, for one list of numbers, the same in these terms

@@ -21,7 +21,7 @@ use Rattle.hatch_format.specs.Counts.{times}
 use Rattle.hatch_format.specs.Gradients.{color}
 use Rattle.hatch_format.specs.Record.{double}
 use Rattle.hatch_points.specs.declared.lists.Sizes.{Sizes}
-use Rattle.hatch_points.specs.Lists.{Lists, lay, grow}
+use Rattle.hatch_points.specs.Lists.{Lists, store, grow}
 use Rattle.hatch_rest.specs.Tails.{Gives}
 use Rattle.hatch_rest.specs.Rests.{noSizes, restOf, restEntries}
 use Rattle.hatch_front.specs.declared.Front.{Front}
@@ -194,7 +194,7 @@ restRead f nw nn p (got a q) = partsIf (longEnough nw nn (grow noSizes (restEntr
 restRead f nw nn p (refused k q) = RefusedBody k (placed p q)
 
 abbrev pub laidIf : Bool → Lists → RestValue → Lists
-laidIf true l a = lay l noSizes (restEntries a)
+laidIf true l a = store l noSizes (restEntries a)
 laidIf false l a = l
 
 abbrev pub restLists : Lists → ℕ → ℕ → Out ℕ RestValue → Lists

@@ -10,7 +10,7 @@ ghost use Rattle.hatch_format.specs.Patterns.{rest};
 ghost use Rattle.hatch_format.specs.Hatch.{hatch};
 ghost use Rattle.hatch_format.specs.Call.{roomFor, callOn};
 ghost use Rattle.hatch_points.specs.Gathered.{gathered};
-ghost use Rattle.hatch_points.specs.Lists.{lists, Laid};
+ghost use Rattle.hatch_points.specs.Lists.{lists, Stored};
 ghost use Rattle.hatch_rest.specs.Rests.{noSizes, restEntries, restWalk};
 ghost use Rattle.hatch.specs.Calls.{laidOver, CallIs};
 ghost use Rattle.hatch.specs.Parts.{noneLent, Walked, restRead, restLists};
@@ -106,7 +106,7 @@ fn fill_lists(
     words: &mut [u32],
 )
     requires { ⌜ (length (now s) ≤ limit) × ((at ≤ 8 * length (now s)) × NowhereAbove caps documentCaps) ⌝ }
-    ensures { λ _. ⌜ Laid (gathered restEntries ((rest caps in-payload v) .read (now (s .entry)) at)) (lists (now (numbers .entry)) (now (bits .entry)) (now (words .entry))) noSizes (lists (now (numbers .exit)) (now (bits .exit)) (now (words .exit))) ⌝ }
+    ensures { λ _. ⌜ Stored (gathered restEntries ((rest caps in-payload v) .read (now (s .entry)) at)) (lists (now (numbers .entry)) (now (bits .entry)) (now (words .entry))) noSizes (lists (now (numbers .exit)) (now (bits .exit)) (now (words .exit))) ⌝ }
 {
     if none_lent(numbers.len(), bits.len(), words.len()) {
         return;

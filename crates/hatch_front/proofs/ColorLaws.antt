@@ -13,7 +13,7 @@ use Rattle.hatch_format.specs.declared.GradientColorBits.{GradientColorBits}
 use Rattle.hatch_format.specs.Counts.{times-read, times}
 use Rattle.hatch_format.specs.Gradients.{color}
 use Rattle.hatch_format.specs.Record.{zeroColor, sixteen, colorAsDoubles, colorsAsDoubles}
-use Rattle.hatch_points.specs.Runs.{times-length, times-add, rest}
+use Rattle.hatch_points.specs.Runs.{times-length, times-add, then-items}
 use Rattle.hatch_front.specs.declared.colors.ColorRead.{ColorRead}
 use Rattle.hatch_front.specs.declared.colors.ColorRead.the-variants.{Done as DoneColor, Refused as RefusedColor}
 use Rattle.hatch_front.specs.Answers.{colorOf}
@@ -48,7 +48,7 @@ module _ {xs : List ℕ} {at i p : ℕ} (h : ReadTo xs at i p) where
   one-read {c} {q} e =
       record {
         items = h .items ++ (c ∷ []);
-        are = times-add color xs i 1 at ∙ ap (λ (o : Out ℕ (List GradientColorBits)). andThen o (rest color xs 1)) (h .are) ∙ rw e;
+        are = times-add color xs i 1 at ∙ ap (λ (o : Out ℕ (List GradientColorBits)). andThen o (then-items color xs 1)) (h .are) ∙ rw e;
       }
 
   pub one-refused : {n q : ℕ} {k : Refusal} → i < n → color .read xs p ≡ refused k q → (times n color) .read xs at ≡ refused k q
@@ -56,7 +56,7 @@ module _ {xs : List ℕ} {at i p : ℕ} (h : ReadTo xs at i p) where
   one-refused {n} lt e =
       let g : n ≡ i + suc (n - (i + 1)) = omega arith in
       ap (λ (m : ℕ). (times m color) .read xs at) g ∙ times-add color xs i (suc (n - (i + 1))) at
-      ∙ ap (λ (o : Out ℕ (List GradientColorBits)). andThen o (rest color xs (suc (n - (i + 1))))) (h .are) ∙ rw e
+      ∙ ap (λ (o : Out ℕ (List GradientColorBits)). andThen o (then-items color xs (suc (n - (i + 1))))) (h .are) ∙ rw e
 
   pub all-read : {n : ℕ} → i ≡ n → (times n color) .read xs at ≡ got (h .items) p
   all-read e = ap (λ (m : ℕ). (times m color) .read xs at) (sym e) ∙ h .are

@@ -175,7 +175,7 @@ module _ (xs : List ℕ) where
 
     -- ---- edges
     none-such : (k p : ℕ)
-        → gathered edgeEntries ((refuse {M = one} EdgeKind) .read xs p) ≡ (refuse {M = one} EdgeKind >>= λ e. pure (plus (word k) e)) .read xs p
+        → gathered edgeEntries ((refuse {M = one} EdgeKind tt) .read xs p) ≡ (refuse {M = one} EdgeKind tt >>= λ e. pure (plus (word k) e)) .read xs p
     unfolding refuse _>>=_
     none-such k p = refl
 
