@@ -38,19 +38,37 @@ enum-known-z-2 c = search needs
 
 returns : tie.Need-returns
 returns c =
-    let a = c .before .before .before .before .before .before .before .before .before .before .before .args in
+    let s3 = c .before .before .before in
+    let s6 = s3 .before .before .before in
+    let s9 = s6 .before .before .before in
+    let at-value-of3 = c .value-of3 in
+    let at-value-of2 = c .before .value-of2 in
+    let at-value-of = c .before .before .value-of in
+    let at-z = s3 .before .z in
+    let at-then-bd-bits3 = s3 .before .before .before .then-bd-bits3 in
+    let at-then-bd-bits2 = s6 .before .then-bd-bits2 in
+    let at-then-bd-bits = s6 .before .before .then-bd-bits in
+    let at-read-bd-bits = s6 .before .before .before .read-bd-bits in
+    let a = s9 .before .before .args in
     let s = now (a .s) in
     let e =
-    plane-row s (a .at) (c .before .before .before .before .before .before .before .before .before .read-bd-bits .ensures) (c .before .before .before .before .before .before .before .before .then-bd-bits .ensures) (c .before .before .before .before .before .before .before .then-bd-bits2 .ensures) (c .before .before .before .before .before .before .then-bd-bits3 .ensures)
-    ∙ row-done s (planeWith (valueOf (c .before .before .before .before .before .before .before .before .before .read-bd-bits .result)) (valueOf (c .before .before .before .before .before .before .before .before .then-bd-bits .result)) (valueOf (c .before .before .before .before .before .before .before .then-bd-bits2 .result))) (c .before .before .before .before .z .given .1) in
-    rw (c .value-of3 .ensures, c .before .value-of2 .ensures, c .before .before .value-of .ensures) (sym (ap planeOf e))
+    plane-row s (a .at) (at-read-bd-bits .ensures) (at-then-bd-bits .ensures) (at-then-bd-bits2 .ensures) (at-then-bd-bits3 .ensures)
+    ∙ row-done s (planeWith (valueOf (at-read-bd-bits .result)) (valueOf (at-then-bd-bits .result)) (valueOf (at-then-bd-bits2 .result))) (at-z .given .1) in
+    rw (at-value-of3 .ensures, at-value-of2 .ensures, at-value-of .ensures) (sym (ap planeOf e))
 
 returns-2 : tie.Need-returns-2
 returns-2 c =
-    let a = c .before .before .before .before .before .before .before .before .args in
+    let s3 = c .before .before .before in
+    let s6 = s3 .before .before .before in
+    let at-z2 = c .before .z2 in
+    let at-then-bd-bits3 = c .before .before .before .then-bd-bits3 in
+    let at-then-bd-bits2 = s3 .before .then-bd-bits2 in
+    let at-then-bd-bits = s3 .before .before .then-bd-bits in
+    let at-read-bd-bits = s3 .before .before .before .read-bd-bits in
+    let a = s6 .before .before .args in
     let s = now (a .s) in
-    sym (ap planeOf (plane-row s (a .at) (c .before .before .before .before .before .before .read-bd-bits .ensures) (c .before .before .before .before .before .then-bd-bits .ensures) (c .before .before .before .before .then-bd-bits2 .ensures) (c .before .before .before .then-bd-bits3 .ensures)
-    ∙ row-refused s (λ n. pure (planeWith (valueOf (c .before .before .before .before .before .before .read-bd-bits .result)) (valueOf (c .before .before .before .before .before .then-bd-bits .result)) (valueOf (c .before .before .before .before .then-bd-bits2 .result)) n)) (c .before .z2 .given .1)))
+    sym (ap planeOf (plane-row s (a .at) (at-read-bd-bits .ensures) (at-then-bd-bits .ensures) (at-then-bd-bits2 .ensures) (at-then-bd-bits3 .ensures)
+    ∙ row-refused s (λ n. pure (planeWith (valueOf (at-read-bd-bits .result)) (valueOf (at-then-bd-bits .result)) (valueOf (at-then-bd-bits2 .result)) n)) (at-z2 .given .1)))
 
 pub read-plane-spec : {M : Type 1} → statement M
 read-plane-spec =

@@ -17,8 +17,11 @@ none-lent-requires c κs = search needs
 
 returns : tie.Need-returns
 returns c =
-    let a = (c .before .before .before .before .before .before .args) in
-    none-laid ((rest (a .caps) in-payload (a .v)) .read (now (a .s)) (a .at)) (now (a .numbers)) (now (a .bits)) (now (a .words)) (sym ((c .before .none-lent) .ensures) ∙ (c .if1) .taken)
+    let s3 = c .before .before .before in
+    let at-if1 = c .if1 in
+    let at-none-lent = c .before .none-lent in
+    let a = s3 .before .before .before .args in
+    none-laid ((rest (a .caps) in-payload (a .v)) .read (now (a .s)) (a .at)) (now (a .numbers)) (now (a .bits)) (now (a .words)) (sym (at-none-lent .ensures) ∙ at-if1 .taken)
 
 walk-rest-requires : tie.Need-walk-rest-requires
 walk-rest-requires c κs = search needs

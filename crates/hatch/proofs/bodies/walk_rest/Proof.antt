@@ -27,16 +27,25 @@ same-length-3 c = search needs
 
 returns : tie.Need-returns
 returns c =
-    let a = (c .before .before .before .before .before .before .before .before .before .before .before .before .before .before .before .args) in
-    ((c .before .before .before .before .before .before .decode-rest) .ensures .0, filled (now (a .s)) ((rest (a .caps) in-payload (a .v)) .read (now (a .s)) (a .at)) (lists (now (a .numbers)) (now (a .bits)) (now (a .words))) _ ((c .before .before .before .before .before .before .before .before .before .before .if1) .taken) ((c .before .before .before .before .before .before .decode-rest) .ensures .1))
+    let s3 = c .before .before .before in
+    let s6 = s3 .before .before .before in
+    let s9 = s6 .before .before .before in
+    let s12 = s9 .before .before .before in
+    let at-decode-rest = s3 .before .before .before .decode-rest in
+    let at-if1 = s9 .before .if1 in
+    let a = s12 .before .before .before .args in
+    (at-decode-rest .ensures .0, filled (now (a .s)) ((rest (a .caps) in-payload (a .v)) .read (now (a .s)) (a .at)) (lists (now (a .numbers)) (now (a .bits)) (now (a .words))) _ (at-if1 .taken) (at-decode-rest .ensures .1))
 
 measure-rest-requires : tie.Need-measure-rest-requires
 measure-rest-requires c κs = search needs
 
 returns-2 : tie.Need-returns-2
 returns-2 c =
-    let a = (c .before .before .before .before .before .before .args) in
-    ((c .measure-rest) .ensures, measured (now (a .s)) ((rest (a .caps) in-payload (a .v)) .read (now (a .s)) (a .at)) (lists (now (a .numbers)) (now (a .bits)) (now (a .words))) (lists (now (a .numbers)) (now (a .bits)) (now (a .words))) ((c .before .if1) .left) refl)
+    let s3 = c .before .before .before in
+    let at-measure-rest = c .measure-rest in
+    let at-if1 = c .before .if1 in
+    let a = s3 .before .before .before .args in
+    (at-measure-rest .ensures, measured (now (a .s)) ((rest (a .caps) in-payload (a .v)) .read (now (a .s)) (a .at)) (lists (now (a .numbers)) (now (a .bits)) (now (a .words))) (lists (now (a .numbers)) (now (a .bits)) (now (a .words))) (at-if1 .left) refl)
 
 pub walk-rest-spec : {M : Type 1} → statement M
 walk-rest-spec =

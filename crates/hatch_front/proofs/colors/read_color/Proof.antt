@@ -40,16 +40,40 @@ value-of-requires-2 : tie.Need-value-of-requires-2
 value-of-requires-2 c κs = search needs
 
 short-of-requires : tie.Need-short-of-requires
-short-of-requires c κs = subst (λ (n : ℕ). n < 2 ^ 16) (sym (c .value-of2 .ensures)) (step-below (2 ^ 16) BS (omega arith) BS-below (now (c .before .before .before .before .before .before .before .before .before .before .args .s)) (c .before .before .before .before .before .before .before .before .read-bd-bits .result) (c .before .before .before .before .before .before .before .then-bs .ensures))
+short-of-requires c κs =
+    let s3 = c .before .before .before in
+    let s6 = s3 .before .before .before in
+    let s9 = s6 .before .before .before in
+    let at-value-of2 = c .value-of2 in
+    let at-then-bs = s6 .before .then-bs in
+    let at-read-bd-bits = s6 .before .before .read-bd-bits in
+    let a = s9 .before .args in
+    subst (λ (n : ℕ). n < 2 ^ 16) (sym (at-value-of2 .ensures)) (step-below (2 ^ 16) BS (omega arith) BS-below (now (a .s)) (at-read-bd-bits .result) (at-then-bs .ensures))
 
 value-of-requires-3 : tie.Need-value-of-requires-3
 value-of-requires-3 c κs = search needs
 
 cast-t16 : tie.Need-cast-t16
-cast-t16 c = record { fits = subst (λ (n : ℕ). n < 2 ^ 32) (sym (c .value-of3 .ensures)) (step-below (2 ^ 32) (held true BL 0) (omega arith) (held-below (2 ^ 32) true BL 0 (omega arith) BL-below) (now (c .before .before .before .before .before .before .before .before .before .before .before .before .args .s)) (c .before .before .before .before .before .before .before .before .before .then-bs .result) (c .before .before .before .before .before .before .before .before .then-bl .ensures)) }
+cast-t16 c =
+    let s3 = c .before .before .before in
+    let s6 = s3 .before .before .before in
+    let s9 = s6 .before .before .before in
+    let at-value-of3 = c .value-of3 in
+    let at-then-bl = s6 .before .before .then-bl in
+    let at-then-bs = s6 .before .before .before .then-bs in
+    let a = s9 .before .before .before .args in
+    record { fits = subst (λ (n : ℕ). n < 2 ^ 32) (sym (at-value-of3 .ensures)) (step-below (2 ^ 32) (held true BL 0) (omega arith) (held-below (2 ^ 32) true BL 0 (omega arith) BL-below) (now (a .s)) (at-then-bs .result) (at-then-bl .ensures)) }
 
 cast-t17 : tie.Need-cast-t17
-cast-t17 c = record { fits = subst (λ (x : Read). valueOf x < 256) (c .before .before .before .before .before .byte .given .1) (step-below 256 (held true (lowFirst 1) 0) (omega arith) (held-below 256 true (lowFirst 1) 0 (omega arith) (low-below 1)) (now (c .before .before .before .before .before .before .before .before .before .before .before .before .args .s)) (c .before .before .before .before .before .before .before .before .then-bl .result) (c .before .before .before .before .before .before .before .then-low .ensures)) }
+cast-t17 c =
+    let s3 = c .before .before .before in
+    let s6 = s3 .before .before .before in
+    let s9 = s6 .before .before .before in
+    let at-byte = s3 .before .before .byte in
+    let at-then-low = s6 .before .then-low in
+    let at-then-bl = s6 .before .before .then-bl in
+    let a = s9 .before .before .before .args in
+    record { fits = subst (λ (x : Read). valueOf x < 256) (at-byte .given .1) (step-below 256 (held true (lowFirst 1) 0) (omega arith) (held-below 256 true (lowFirst 1) 0 (omega arith) (low-below 1)) (now (a .s)) (at-then-bl .result) (at-then-low .ensures)) }
 
 enum-known-byte-2 : tie.Need-enum-known-byte-2
 enum-known-byte-2 c = search needs
@@ -57,21 +81,40 @@ enum-known-byte-2 c = search needs
 returns : tie.Need-returns
 unfolding held RC
 returns c =
-    let a = c .before .before .before .before .before .before .before .before .before .before .before .before .args in
+    let s3 = c .before .before .before in
+    let s6 = s3 .before .before .before in
+    let s9 = s6 .before .before .before in
+    let at-value-of3 = c .value-of3 in
+    let at-short-of = c .before .short-of in
+    let at-value-of2 = c .before .before .value-of2 in
+    let at-value-of = c .before .before .before .value-of in
+    let at-byte = s3 .before .before .byte in
+    let at-then-low = s6 .before .then-low in
+    let at-then-bl = s6 .before .before .then-bl in
+    let at-then-bs = s6 .before .before .before .then-bs in
+    let at-read-bd-bits = s9 .before .read-bd-bits in
+    let a = s9 .before .before .before .args in
     let s = now (a .s) in
     let e =
-    color-row s (a .at) (c .before .before .before .before .before .before .before .before .before .before .read-bd-bits .ensures) (c .before .before .before .before .before .before .before .before .before .then-bs .ensures) (c .before .before .before .before .before .before .before .before .then-bl .ensures) (c .before .before .before .before .before .before .before .then-low .ensures)
-    ∙ row-done s (colorWith (valueOf (c .before .before .before .before .before .before .before .before .before .before .read-bd-bits .result)) (signed 16 (valueOf (c .before .before .before .before .before .before .before .before .before .then-bs .result))) (valueOf (c .before .before .before .before .before .before .before .before .then-bl .result))) (c .before .before .before .before .before .byte .given .1) in
-    rw (toZ-ofZ w16 (c .before .short-of .result) (record { sfits = c .before .short-of .ok }), c .before .short-of .ensures, c .value-of3 .ensures, c .before .before .value-of2 .ensures, c .before .before .before .value-of .ensures)
+    color-row s (a .at) (at-read-bd-bits .ensures) (at-then-bs .ensures) (at-then-bl .ensures) (at-then-low .ensures)
+    ∙ row-done s (colorWith (valueOf (at-read-bd-bits .result)) (signed 16 (valueOf (at-then-bs .result))) (valueOf (at-then-bl .result))) (at-byte .given .1) in
+    rw (toZ-ofZ w16 (at-short-of .result) (record { sfits = at-short-of .ok }), at-short-of .ensures, at-value-of3 .ensures, at-value-of2 .ensures, at-value-of .ensures)
     (sym (ap colorOf e))
 
 returns-2 : tie.Need-returns-2
 unfolding held RC
 returns-2 c =
-    let a = c .before .before .before .before .before .before .before .before .args in
+    let s3 = c .before .before .before in
+    let s6 = s3 .before .before .before in
+    let at-byte2 = c .before .byte2 in
+    let at-then-low = c .before .before .before .then-low in
+    let at-then-bl = s3 .before .then-bl in
+    let at-then-bs = s3 .before .before .then-bs in
+    let at-read-bd-bits = s3 .before .before .before .read-bd-bits in
+    let a = s6 .before .before .args in
     let s = now (a .s) in
-    sym (ap colorOf (color-row s (a .at) (c .before .before .before .before .before .before .read-bd-bits .ensures) (c .before .before .before .before .before .then-bs .ensures) (c .before .before .before .before .then-bl .ensures) (c .before .before .before .then-low .ensures)
-    ∙ row-refused s (λ n. pure (colorWith (valueOf (c .before .before .before .before .before .before .read-bd-bits .result)) (signed 16 (valueOf (c .before .before .before .before .before .then-bs .result))) (valueOf (c .before .before .before .before .then-bl .result)) n)) (c .before .byte2 .given .1)))
+    sym (ap colorOf (color-row s (a .at) (at-read-bd-bits .ensures) (at-then-bs .ensures) (at-then-bl .ensures) (at-then-low .ensures)
+    ∙ row-refused s (λ n. pure (colorWith (valueOf (at-read-bd-bits .result)) (signed 16 (valueOf (at-then-bs .result))) (valueOf (at-then-bl .result)) n)) (at-byte2 .given .1)))
 
 pub read-color-spec : {M : Type 1} → statement M
 read-color-spec =

@@ -43,7 +43,23 @@ value-of-requires-5 c κs = search needs
 
 returns : tie.Need-returns
 unfolding blockHead held
-returns c = rw (c .value-of5 .ensures, c .before .value-of4 .ensures, c .before .before .value-of3 .ensures, c .before .before .before .value-of2 .ensures, c .before .before .before .before .value-of .ensures, c .before .before .before .before .before .then-count .ensures, c .before .before .before .before .before .before .then-bd-bits3 .ensures, c .before .before .before .before .before .before .before .then-bl2 .ensures, c .before .before .before .before .before .before .before .before .then-bd-bits2 .ensures, c .before .before .before .before .before .before .before .before .before .then-bd-bits .ensures, c .before .before .before .before .before .before .before .before .before .before .then-bl .ensures, c .before .before .before .before .before .before .before .before .before .before .before .read-bl-u .ensures)
+returns c =
+    let s3 = c .before .before .before in
+    let s6 = s3 .before .before .before in
+    let s9 = s6 .before .before .before in
+    let at-value-of5 = c .value-of5 in
+    let at-value-of4 = c .before .value-of4 in
+    let at-value-of3 = c .before .before .value-of3 in
+    let at-value-of2 = c .before .before .before .value-of2 in
+    let at-value-of = s3 .before .value-of in
+    let at-then-count = s3 .before .before .then-count in
+    let at-then-bd-bits3 = s3 .before .before .before .then-bd-bits3 in
+    let at-then-bl2 = s6 .before .then-bl2 in
+    let at-then-bd-bits2 = s6 .before .before .then-bd-bits2 in
+    let at-then-bd-bits = s6 .before .before .before .then-bd-bits in
+    let at-then-bl = s9 .before .then-bl in
+    let at-read-bl-u = s9 .before .before .read-bl-u in
+    rw (at-value-of5 .ensures, at-value-of4 .ensures, at-value-of3 .ensures, at-value-of2 .ensures, at-value-of .ensures, at-then-count .ensures, at-then-bd-bits3 .ensures, at-then-bl2 .ensures, at-then-bd-bits2 .ensures, at-then-bd-bits .ensures, at-then-bl .ensures, at-read-bl-u .ensures)
 
 pub read-block-head-spec : {M : Type 1} → statement M
 read-block-head-spec =
