@@ -17,7 +17,8 @@ use Rattle.bitcursor.specs.BitLaws.{length-digits, number-digits, digits
 use Rattle.bitcursor.specs.BitLaws.{stands-fits, stands-window, stands-none, stands-join, stands-left, stands-right}
 use Rattle.bitcursor.specs.BitLaws.{alike-down, alike-window, begins-size, begins-window}
 use Rattle.bitcursor.specs.Refusals.{OfFields}
-use Rattle.bitcursor.specs.Reading.{Out, got, refused, place, andThen, never, missing, Lacking, shortThen, then-why, then-longer, lacking-on, Fielded, then-fielded}
+use Rattle.bitcursor.specs.Reading.{Out, got, refused, place, andThen, never, missing, Lacking, shortThen, then-why, then-longer, lacking-on, Fielded}
+use Rattle.bitcursor.specs.Reading.{then-fielded}
 
 -- from p to q the payload is not gone back in, and is not left by a place that is in it
 pub record Moves (xs : List ℕ) (p q : ℕ) : Type 0 where

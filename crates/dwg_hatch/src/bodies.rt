@@ -115,7 +115,8 @@ pub extern "C" fn dwg_hatch_decode(
     numbers: &mut [f64],
     words: &mut [u32],
 ) -> BodyAnswer
-    ensures { λ r. ⌜ Decodes (callOf release (now (main .entry)) start none (length (now (words .entry))) (length (now (numbers .entry)))) r (now (numbers .entry)) (now (numbers .exit)) (now (words .entry)) (now (words .exit)) ⌝ }
+    ensures { λ r. ⌜ Decodes (callOf release (now (main .entry)) start none (length (now (words .entry))) (length (now (numbers .entry)))) r
+        (now (numbers .entry)) (now (numbers .exit)) (now (words .entry)) (now (words .exit)) ⌝ }
 {
     let read = calls::read(main, start, release, numbers, words);
     if 0 < record::num_colors(read) {
@@ -133,7 +134,8 @@ pub extern "C" fn dwg_hatch_decode_bits(
     bits: &mut [u64],
     words: &mut [u32],
 ) -> BodyBitsAnswer
-    ensures { λ r. ⌜ DecodesBits (callOf release (now (main .entry)) start none (length (now (words .entry))) (length (now (bits .entry)))) r (now (bits .entry)) (now (bits .exit)) (now (words .entry)) (now (words .exit)) ⌝ }
+    ensures { λ r. ⌜ DecodesBits (callOf release (now (main .entry)) start none (length (now (words .entry))) (length (now (bits .entry)))) r
+        (now (bits .entry)) (now (bits .exit)) (now (words .entry)) (now (words .exit)) ⌝ }
 {
     let read = calls::read_bits(main, start, release, bits, words);
     if 0 < record::num_colors(read) {
@@ -154,7 +156,8 @@ pub extern "C" fn dwg_hatch_decode_with_strings(
     numbers: &mut [f64],
     words: &mut [u32],
 ) -> BodyAnswer
-    ensures { λ r. ⌜ Decodes (callOf release (now (main .entry)) start (lent (now (string .entry)) «string_start» «string_end») (length (now (words .entry))) (length (now (numbers .entry)))) r (now (numbers .entry)) (now (numbers .exit)) (now (words .entry)) (now (words .exit)) ⌝ }
+    ensures { λ r. ⌜ Decodes (callOf release (now (main .entry)) start (lent (now (string .entry)) «string_start» «string_end») (length (now (words .entry)))
+        (length (now (numbers .entry)))) r (now (numbers .entry)) (now (numbers .exit)) (now (words .entry)) (now (words .exit)) ⌝ }
 {
     let read = calls::read_with_strings(
         main,
@@ -184,7 +187,8 @@ pub extern "C" fn dwg_hatch_decode_with_strings_bits(
     bits: &mut [u64],
     words: &mut [u32],
 ) -> BodyBitsAnswer
-    ensures { λ r. ⌜ DecodesBits (callOf release (now (main .entry)) start (lent (now (string .entry)) «string_start» «string_end») (length (now (words .entry))) (length (now (bits .entry)))) r (now (bits .entry)) (now (bits .exit)) (now (words .entry)) (now (words .exit)) ⌝ }
+    ensures { λ r. ⌜ DecodesBits (callOf release (now (main .entry)) start (lent (now (string .entry)) «string_start» «string_end»)
+        (length (now (words .entry))) (length (now (bits .entry)))) r (now (bits .entry)) (now (bits .exit)) (now (words .entry)) (now (words .exit)) ⌝ }
 {
     let read = calls::read_with_strings_bits(
         main,
@@ -220,7 +224,8 @@ pub extern "C" fn dwg_hatch_measure_with_strings(
     string_end: usize,
     release: u64,
 ) -> LengthsAnswer
-    ensures { λ r. ⌜ r ≡ lengthsAnswer (asLengths (callOf release (now (main .entry)) start (lent (now (string .entry)) «string_start» «string_end») most most)) ⌝ }
+    ensures { λ r. ⌜ r ≡ lengthsAnswer (asLengths (callOf release (now (main .entry)) start
+        (lent (now (string .entry)) «string_start» «string_end») most most)) ⌝ }
 {
     hatches::of_lengths(hatch::measure_with_strings(
         main,

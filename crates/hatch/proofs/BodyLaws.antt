@@ -65,7 +65,8 @@ laid-words a =
 
 pub laid-numbers : (a : RestValue) → restEntries a .numbers ≡ numbers a
 laid-numbers a =
-    ap₂ (λ (m n : List ℕ). m ++ (n ++ every pointNumbers (a .tail .ending .seed-points))) (ap (λ (e : Entries). e .numbers) (all-paths (a .paths))) (ap (λ (e : Entries). e .numbers) (all-both lineWords lineNumbers (a .tail .pattern .lines)))
+    ap₂ (λ (m n : List ℕ). m ++ (n ++ every pointNumbers (a .tail .ending .seed-points))) (ap (λ (e : Entries). e .numbers) (all-paths (a .paths)))
+    (ap (λ (e : Entries). e .numbers) (all-both lineWords lineNumbers (a .tail .pattern .lines)))
 
 pub used-words : (a : RestValue) → grow noSizes (restEntries a) .words ≡ length (words a)
 used-words a = zero-add (length (restEntries a .words)) ∙ ap length (laid-words a)
@@ -125,7 +126,8 @@ module _ (xs : List ℕ) (o : Out ℕ RestValue) (l l′ : Lists) {fill : Bool} 
   measured e i = subst (λ (b : Bool). Walked b xs o l l′) (sym e) i
 
 -- what was laid, from lists that are known as others
-pub laid-from : (o : Out ℕ RestValue) {l m : Lists} (l′ : Lists) → m ≡ l → Stored (gathered restEntries o) m noSizes l′ → Stored (gathered restEntries o) l noSizes l′
+pub laid-from : (o : Out ℕ RestValue) {l m : Lists} (l′ : Lists) → m ≡ l → Stored (gathered restEntries o) m noSizes l′
+    → Stored (gathered restEntries o) l noSizes l′
 laid-from o l′ i h = subst (λ (x : Lists). Stored (gathered restEntries o) x noSizes l′) i h
 
 -- ---- empty lists take nothing
@@ -147,7 +149,8 @@ none-all a b c h = go (leb a 0) (leb b 0) (leb c 0) refl refl refl h
     go true false u e f g h = let x : _≡_ {A = ℕ} 0 1 = cc in absurd (omega arith)
     go false t u e f g h = let x : _≡_ {A = ℕ} 0 1 = cc in absurd (omega arith)
 
-pub none-laid : (o : Out ℕ RestValue) (a : List Float) (b c : List ℕ) → noneLent (length a) (length b) (length c) ≡ true → Stored (gathered restEntries o) (lists a b c) noSizes (lists a b c)
+pub none-laid : (o : Out ℕ RestValue) (a : List Float) (b c : List ℕ) → noneLent (length a) (length b) (length c) ≡ true
+    → Stored (gathered restEntries o) (lists a b c) noSizes (lists a b c)
 none-laid (refused k q) a b c h =
     record { doubles = record { long = refl; front = refl }; bits = record { long = refl; front = refl }; words = record { long = refl; front = refl } }
 none-laid (got v q) a b c h =

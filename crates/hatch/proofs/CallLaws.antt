@@ -70,7 +70,8 @@ front-refused xs (refused j q) {x} {k} {p} e h =
     ap₂ refused ek (ap placesOf ep)
 
 -- the rest starts within the main payload: the front's first field is a code of two bits at least
-pub front-within : (caps : Caps) (v : Version) (γ : Payloads) (p : Places) {f : Front} {q : Places} → (front caps v) .read γ p ≡ got f q → q .main ≤ size (γ .main)
+pub front-within : (caps : Caps) (v : Version) (γ : Payloads) (p : Places) {f : Front} {q : Places} → (front caps v) .read γ p ≡ got f q
+    → q .main ≤ size (γ .main)
 unfolding front named gradient plane within relay _>>=_ pure
 front-within caps v γ p {f} {q} e =
     let l = (front caps v) .sound γ f p q e in
@@ -129,10 +130,12 @@ module _ (caps : Caps) (handles : Handles) (v : Version) (γ : Payloads) (p : Pl
       let read : (hatch caps handles v) .read γ p ≡ whole caps handles v γ a (placesOf c) =
       hatch-front caps handles v γ p ∙ ap (λ (y : Out Places Front). andThen y (whole caps handles v γ)) (t .2) in
       let is = behind-is caps handles v γ a (t .1) (placesOf c) nw nn within (t .4) l (c .main) (restAt caps handles v γ (c .main)) refl in
-      let same : u ≡ restRead (frontOf (t .1) a) nw nn c (restAt caps handles v γ (c .main)) = k .0 ∙ ap (λ (y : CodeFront). restRead y nw nn c (restAt caps handles v γ (c .main))) (t .3) in
+      let same : u ≡ restRead (frontOf (t .1) a) nw nn c (restAt caps handles v γ (c .main)) = k .0
+      ∙ ap (λ (y : CodeFront). restRead y nw nn c (restAt caps handles v γ (c .main))) (t .3) in
       rw (read, same, k .1) is
 
-  pub body-refused : {k : Refusal} {c : CodePlaces} (l : Lists) → x ≡ RefusedFront k c → CallIs (γ .main) (wholeRead caps handles v γ p nw nn) l l (RefusedBody k c)
+  pub body-refused : {k : Refusal} {c : CodePlaces} (l : Lists) → x ≡ RefusedFront k c
+      → CallIs (γ .main) (wholeRead caps handles v γ p nw nn) l l (RefusedBody k c)
   body-refused {k} {c} l h =
       let none = front-refused (γ .main) ((front caps v) .read γ p) e h in
       let read : (hatch caps handles v) .read γ p ≡ refused k (placesOf c) =

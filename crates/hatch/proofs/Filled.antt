@@ -1,4 +1,5 @@
--- A call's answer from the parts that were handed on, and its lists: where it read, its entries fit, so what was laid over them is their front. Assumes nothing.
+-- A call's answer from the parts that were handed on, and its lists: where it read, its entries fit, so what was laid over them is their front. Assumes
+-- nothing.
 use mathlib.Core.Path.{_≡_, refl, sym, ap, ap₂, subst, _∙_}
 use mathlib.Core.List.{List, [], _++_}
 use Prim.Native.Nat.{ℕ, _+_, _≤_, _<_}
@@ -44,7 +45,15 @@ answer-is xs (got a q) r e =
     let used : z ≡ record { numbers = length (numbers (a .rest)); words = length (words (a .rest)); derived = z .derived } =
     λ i. record { numbers = used-numbers (a .rest) i; words = used-words (a .rest) i; derived = z .derived } in
     ap (answerIn xs) (e .1)
-    ∙ ap₂ (λ (cs : List GradientColorBits) (y : Sizes). record { outcome = Read; hatch = recordWith cs (record { front = partsOf at a q .front; rest = partsOf at a q .rest; used = y; places = partsOf at a q .places }) }) colors used
+    ∙ ap₂ (λ (cs : List GradientColorBits) (y : Sizes). record {
+      outcome = Read;
+      hatch = recordWith cs (record {
+        front = partsOf at a q .front;
+        rest = partsOf at a q .rest;
+        used = y;
+        places = partsOf at a q .places;
+      });
+    }) colors used
 
 pub lengths-are : (xs : List ℕ) (o : Out Places Body) (r : BodyRead) → BodyIs xs o r → lengthsOf r ≡ asLengths o
 lengths-are xs (refused k q) r e = ap lengthsOf e
@@ -115,4 +124,9 @@ module _ (c : Call) where
 
     pub reads-doubles : length (l .doubles) ≡ c .numbers → ReadsParts doubles xs (hatchCall c) r (l .doubles) (l′ .doubles) (l .words) (l′ .words)
     reads-doubles n =
-        record { body = h .body; readable = h .readable; numbers-then = ap (λ (x : Lists). x .doubles) (h .lists) ∙ filled-doubles l n; words-then = words-laid }
+        record {
+          body = h .body;
+          readable = h .readable;
+          numbers-then = ap (λ (x : Lists). x .doubles) (h .lists) ∙ filled-doubles l n;
+          words-then = words-laid;
+        }

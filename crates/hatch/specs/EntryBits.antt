@@ -14,9 +14,13 @@ use Rattle.text.specs.declared.version.Version.{Version}
 use Rattle.text.specs.Releases.{releaseNumber}
 use Rattle.hatch_format.specs.declared.Caps.{Caps}
 use Rattle.hatch_format.specs.HandleRule.{Handles, in-payload, in-stream}
-use Rattle.hatch_format.specs.Values.{Point, Vertex, Arc, Ellipse, Fits, unfitted, fitted, Spline, Edge, line, arc, ellipse, spline, Segments, polyline, edges, Path, polylined, derived, PatternLine, Pattern, no-pattern, Ending, Tail, Rest, addHandles}
-use Rattle.hatch_format.specs.Entries.{every, edgeWords, segmentWords, pathWords, lineWords, words, pointNumbers, vertexNumbers, fitNumbers, edgeNumbers, segmentNumbers, pathNumbers, lineNumbers, numbers}
-use Rattle.hatch_format.specs.Layouts.{_⨾_, Nothing, EachBy, Each, Coded, Count, Listed, PointLaid, VertexLaid, ArcLaid, EllipseLaid, FitsLaid, SplineLaid, EdgeLaid, SegmentsLaid, HandlesLaid, PathLaid, LineLaid, PatternLaid, EndingLaid, TailLaid, RestLaid}
+use Rattle.hatch_format.specs.Values.{Point, Vertex, Arc, Ellipse, Fits, unfitted, fitted, Spline, Edge, line, arc, ellipse, spline, Segments, polyline}
+use Rattle.hatch_format.specs.Values.{edges, Path, polylined, derived, PatternLine, Pattern, no-pattern, Ending, Tail, Rest, addHandles}
+use Rattle.hatch_format.specs.Entries.{every, edgeWords, segmentWords, pathWords, lineWords, words, pointNumbers, vertexNumbers, fitNumbers, edgeNumbers}
+use Rattle.hatch_format.specs.Entries.{segmentNumbers, pathNumbers, lineNumbers, numbers}
+use Rattle.bitcursor.specs.Chains.{_⨾_, Nothing, EachBy, Each}
+use Rattle.hatch_format.specs.Layouts.{Coded, Count, Listed, PointLaid, VertexLaid, ArcLaid, EllipseLaid, FitsLaid, SplineLaid, EdgeLaid, SegmentsLaid}
+use Rattle.hatch_format.specs.Layouts.{HandlesLaid, PathLaid, LineLaid, PatternLaid, EndingLaid, TailLaid, RestLaid}
 use Rattle.hatch_format.specs.Takes.{takes-RC, takes-RD, takes-BD, takes-BL, takes-BS}
 
 -- what is laid out so takes n bits at least
@@ -214,7 +218,8 @@ module _ (xs : List ℕ) where
       let tail = l .2 .2 .2 in
       let pattern = tail .2 .2 in
       let ending = pattern .2 in
-      let i = spans-each (λ (b : Path). length (pathWords b) + length (pathNumbers b)) (PathLaid xs caps handles v) addHandles (λ s b. spans-path caps v handles s b)
+      let i = spans-each (λ (b : Path). length (pathWords b) + length (pathNumbers b)) (PathLaid xs caps handles v) addHandles
+      (λ s b. spans-path caps v handles s b)
       0 (a .paths) (paths .0) (l .2 .2 .0) (paths .2) in
       let e = total-both pathWords pathNumbers (a .paths) in
       let j = spans-pattern caps (a .solid) (a .tail .pattern) (tail .2 .0) (pattern .0) (pattern .1) in

@@ -68,7 +68,8 @@ body-few c v a q h e =
 
 looks-last : (c : Call) → LooksLast c
 unfolding callOn
-looks-last c = go (versionOf (c .release)) (leb (length (c .main)) limit) (leb (length (payloadsOf c .string)) limit) (leb (startsOf c .string) (size (payloadsOf c .string))) refl refl refl refl
+looks-last c = go (versionOf (c .release)) (leb (length (c .main)) limit) (leb (length (payloadsOf c .string)) limit)
+    (leb (startsOf c .string) (size (payloadsOf c .string))) refl refl refl refl
   where
     none : (k : Refusal) (p : Places) → (k ≡ ListTooShort → ⊥) → ((nw nn : ℕ) → hatchCall (lending c nw nn) ≡ refused k p) → LooksLast c
     none k p n h =

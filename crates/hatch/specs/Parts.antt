@@ -60,7 +60,15 @@ zeroParts p =
             solid = false;
             associative = false;
             paths = 0;
-            tail = record { style = 0; kind = 0; pattern = record { angle = 0; scale = 0; double = false; lines = 0 }; ending = record { «pixel_size» = 0; «seed_points» = 0 } };
+            tail = record {
+              style = 0;
+              kind = 0;
+              pattern = record { angle = 0; scale = 0; double = false; lines = 0 };
+              ending = record {
+                «pixel_size» = 0;
+                «seed_points» = 0;
+              };
+            };
           };
       used = noSizes;
       places = p;

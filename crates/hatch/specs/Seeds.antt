@@ -23,7 +23,8 @@ module _ {A : Type 0} where
   seedsOf l used n = ifAll (leb used (length l)) (ifAll (leb (2 * n) used) (take (2 * n) (drop (used - 2 * n) l)))
 
   -- where the list begins with a front and those 2 n entries, and `used` ends there, they are the part
-  pub seeds-last : (front seeds behind : List A) (n used : ℕ) → length seeds ≡ 2 * n → used ≡ length (front ++ seeds) → seedsOf ((front ++ seeds) ++ behind) used n ≡ seeds
+  pub seeds-last : (front seeds behind : List A) (n used : ℕ) → length seeds ≡ 2 * n → used ≡ length (front ++ seeds)
+      → seedsOf ((front ++ seeds) ++ behind) used n ≡ seeds
   seeds-last front seeds behind n used h e =
       let l = length-append front seeds in
       let m = length-append (front ++ seeds) behind in
@@ -40,9 +41,11 @@ points-length [] = refl
 points-length (a ∷ points) = let h = points-length points in omega (arith, h)
 
 -- `listed` is how the numbers stand in the list: as their 64 bits, or as doubles
-module _ {A : Type 0} (listed : List ℕ → List A) (joins : (xs ys : List ℕ) → listed (xs ++ ys) ≡ listed xs ++ listed ys) (keeps : (xs : List ℕ) → length (listed xs) ≡ length xs) where
+module _ {A : Type 0} (listed : List ℕ → List A) (joins : (xs ys : List ℕ) → listed (xs ++ ys) ≡ listed xs ++ listed ys)
+    (keeps : (xs : List ℕ) → length (listed xs) ≡ length xs) where
   seeds-listed : (a : Rest) (behind : List A)
-      → seedsOf (listed (numbers a) ++ behind) (length (numbers a)) (length (a .tail .ending .seed-points)) ≡ listed (every pointNumbers (a .tail .ending .seed-points))
+      → seedsOf (listed (numbers a) ++ behind) (length (numbers a)) (length (a .tail .ending .seed-points)) ≡ listed
+      (every pointNumbers (a .tail .ending .seed-points))
   seeds-listed a behind =
       let front = every pathNumbers (a .paths) ++ every lineNumbers (a .tail .pattern .lines) in
       let seeds = every pointNumbers (a .tail .ending .seed-points) in
@@ -58,5 +61,6 @@ pub seeds-handed-bits : (a : Rest) (behind : List ℕ)
 seeds-handed-bits = seeds-listed (λ (l : List ℕ). l) (λ (xs ys : List ℕ). refl) (λ (xs : List ℕ). refl)
 
 pub seeds-handed : (a : Rest) (behind : List Float)
-    → seedsOf (doublesOf (numbers a) ++ behind) (length (numbers a)) (length (a .tail .ending .seed-points)) ≡ doublesOf (every pointNumbers (a .tail .ending .seed-points))
+    → seedsOf (doublesOf (numbers a) ++ behind) (length (numbers a)) (length (a .tail .ending .seed-points)) ≡ doublesOf
+    (every pointNumbers (a .tail .ending .seed-points))
 seeds-handed = seeds-listed doublesOf doubles-append length-doubles

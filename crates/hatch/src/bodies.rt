@@ -71,7 +71,9 @@ fn walk_rest(
     words: &mut [u32],
 ) -> RestWalk
     requires { ⌜ (length (now s) ≤ limit) × ((at ≤ 8 * length (now s)) × NowhereAbove caps documentCaps) ⌝ }
-    ensures { λ r. ⌜ (r ≡ restWalk ((rest caps in-payload v) .read (now (s .entry)) at)) × Walked fill (now (s .entry)) ((rest caps in-payload v) .read (now (s .entry)) at) (lists (now (numbers .entry)) (now (bits .entry)) (now (words .entry))) (lists (now (numbers .exit)) (now (bits .exit)) (now (words .exit))) ⌝ }
+    ensures { λ r. ⌜ (r ≡ restWalk ((rest caps in-payload v) .read (now (s .entry)) at)) × Walked fill (now (s .entry))
+        ((rest caps in-payload v) .read (now (s .entry)) at) (lists (now (numbers .entry)) (now (bits .entry)) (now (words .entry)))
+        (lists (now (numbers .exit)) (now (bits .exit)) (now (words .exit))) ⌝ }
 {
     if fill {
         return rests::decode_rest(s, at, v, caps, numbers, bits, words);
@@ -106,7 +108,9 @@ fn fill_lists(
     words: &mut [u32],
 )
     requires { ⌜ (length (now s) ≤ limit) × ((at ≤ 8 * length (now s)) × NowhereAbove caps documentCaps) ⌝ }
-    ensures { λ _. ⌜ Stored (gathered restEntries ((rest caps in-payload v) .read (now (s .entry)) at)) (lists (now (numbers .entry)) (now (bits .entry)) (now (words .entry))) noSizes (lists (now (numbers .exit)) (now (bits .exit)) (now (words .exit))) ⌝ }
+    ensures { λ _. ⌜ Stored (gathered restEntries ((rest caps in-payload v) .read (now (s .entry)) at))
+        (lists (now (numbers .entry)) (now (bits .entry)) (now (words .entry))) noSizes
+        (lists (now (numbers .exit)) (now (bits .exit)) (now (words .exit))) ⌝ }
 {
     if none_lent(numbers.len(), bits.len(), words.len()) {
         return;
@@ -128,7 +132,10 @@ fn fill_rest(
     words: &mut [u32],
 ) -> BodyRead
     requires { ⌜ (length (now main) ≤ limit) × ((p .main ≤ 8 * length (now main)) × NowhereAbove caps documentCaps) ⌝ }
-    ensures { λ r. ⌜ (r ≡ restRead front «words_room» «numbers_room» p ((rest caps in-payload v) .read (now (main .entry)) (p .main))) × (lists (now (numbers .exit)) (now (bits .exit)) (now (words .exit)) ≡ restLists (lists (now (numbers .entry)) (now (bits .entry)) (now (words .entry))) «words_room» «numbers_room» ((rest caps in-payload v) .read (now (main .entry)) (p .main))) ⌝ }
+    ensures { λ r. ⌜ (r ≡ restRead front «words_room» «numbers_room» p ((rest caps in-payload v) .read (now (main .entry)) (p .main))) ×
+        (lists (now (numbers .exit)) (now (bits .exit)) (now (words .exit)) ≡ restLists
+        (lists (now (numbers .entry)) (now (bits .entry)) (now (words .entry))) «words_room» «numbers_room»
+        ((rest caps in-payload v) .read (now (main .entry)) (p .main))) ⌝ }
 {
     let at = p.main;
     let string = p.string;
@@ -178,7 +185,9 @@ fn read_body(
     words: &mut [u32],
 ) -> BodyRead
     requires { ⌜ (length (now main) ≤ limit) × ((length (now string) ≤ limit) × NowhereAbove caps documentCaps) ⌝ }
-    ensures { λ r. ⌜ CallIs (now (main .entry)) (roomFor «words_room» «numbers_room» ((hatch caps in-payload v) .read (payloads (now (main .entry)) (now (string .entry)) reader end) (placesOf at))) (lists (now (numbers .entry)) (now (bits .entry)) (now (words .entry))) (lists (now (numbers .exit)) (now (bits .exit)) (now (words .exit))) r ⌝ }
+    ensures { λ r. ⌜ CallIs (now (main .entry)) (roomFor «words_room» «numbers_room»
+        ((hatch caps in-payload v) .read (payloads (now (main .entry)) (now (string .entry)) reader end) (placesOf at)))
+        (lists (now (numbers .entry)) (now (bits .entry)) (now (words .entry))) (lists (now (numbers .exit)) (now (bits .exit)) (now (words .exit))) r ⌝ }
 {
     match hatch_front::read_front(main, string, at, reader, end, v, caps) {
         FrontRead::Done(front, p) => fill_rest(
@@ -213,7 +222,9 @@ pub fn read_call(
     words: &mut [u32],
 ) -> BodyRead
     requires { ⌜ NowhereAbove caps documentCaps ⌝ }
-    ensures { λ r. ⌜ CallIs (now (main .entry)) (callOn caps in-payload «words_room» «numbers_room» (payloads (now (main .entry)) (now (string .entry)) reader end) (placesOf at) release) (lists (now (numbers .entry)) (now (bits .entry)) (now (words .entry))) (lists (now (numbers .exit)) (now (bits .exit)) (now (words .exit))) r ⌝ }
+    ensures { λ r. ⌜ CallIs (now (main .entry)) (callOn caps in-payload «words_room» «numbers_room»
+        (payloads (now (main .entry)) (now (string .entry)) reader end) (placesOf at) release)
+        (lists (now (numbers .entry)) (now (bits .entry)) (now (words .entry))) (lists (now (numbers .exit)) (now (bits .exit)) (now (words .exit))) r ⌝ }
 {
     match version::version_of(release) {
         MaybeVersion::Known(v) => {

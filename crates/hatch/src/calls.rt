@@ -15,7 +15,8 @@ pub fn read(
     numbers: &mut [f64],
     words: &mut [u32],
 ) -> BodyRead
-    ensures { λ r. ⌜ ReadsParts doubles (now (main .entry)) (callOf release (now (main .entry)) start none (length (now (words .entry))) (length (now (numbers .entry)))) r (now (numbers .entry)) (now (numbers .exit)) (now (words .entry)) (now (words .exit)) ⌝ }
+    ensures { λ r. ⌜ ReadsParts doubles (now (main .entry)) (callOf release (now (main .entry)) start none (length (now (words .entry)))
+        (length (now (numbers .entry)))) r (now (numbers .entry)) (now (numbers .exit)) (now (words .entry)) (now (words .exit)) ⌝ }
 {
     let mut bits = [0u64; 1];
     let at = Places {
@@ -48,7 +49,8 @@ pub fn read_bits(
     bits: &mut [u64],
     words: &mut [u32],
 ) -> BodyRead
-    ensures { λ r. ⌜ ReadsParts numbers (now (main .entry)) (callOf release (now (main .entry)) start none (length (now (words .entry))) (length (now (bits .entry)))) r (now (bits .entry)) (now (bits .exit)) (now (words .entry)) (now (words .exit)) ⌝ }
+    ensures { λ r. ⌜ ReadsParts numbers (now (main .entry)) (callOf release (now (main .entry)) start none (length (now (words .entry)))
+        (length (now (bits .entry)))) r (now (bits .entry)) (now (bits .exit)) (now (words .entry)) (now (words .exit)) ⌝ }
 {
     let mut numbers = [0.0f64; 1];
     let at = Places {
@@ -84,7 +86,9 @@ pub fn read_with_strings(
     numbers: &mut [f64],
     words: &mut [u32],
 ) -> BodyRead
-    ensures { λ r. ⌜ ReadsParts doubles (now (main .entry)) (callOf release (now (main .entry)) start (lent (now (string .entry)) «string_start» «string_end») (length (now (words .entry))) (length (now (numbers .entry)))) r (now (numbers .entry)) (now (numbers .exit)) (now (words .entry)) (now (words .exit)) ⌝ }
+    ensures { λ r. ⌜ ReadsParts doubles (now (main .entry)) (callOf release (now (main .entry)) start (lent (now (string .entry)) «string_start» «string_end»)
+        (length (now (words .entry))) (length (now (numbers .entry)))) r (now (numbers .entry)) (now (numbers .exit)) (now (words .entry))
+        (now (words .exit)) ⌝ }
 {
     let mut bits = [0u64; 1];
     let at = Places {
@@ -120,7 +124,8 @@ pub fn read_with_strings_bits(
     bits: &mut [u64],
     words: &mut [u32],
 ) -> BodyRead
-    ensures { λ r. ⌜ ReadsParts numbers (now (main .entry)) (callOf release (now (main .entry)) start (lent (now (string .entry)) «string_start» «string_end») (length (now (words .entry))) (length (now (bits .entry)))) r (now (bits .entry)) (now (bits .exit)) (now (words .entry)) (now (words .exit)) ⌝ }
+    ensures { λ r. ⌜ ReadsParts numbers (now (main .entry)) (callOf release (now (main .entry)) start (lent (now (string .entry)) «string_start» «string_end»)
+        (length (now (words .entry))) (length (now (bits .entry)))) r (now (bits .entry)) (now (bits .exit)) (now (words .entry)) (now (words .exit)) ⌝ }
 {
     let mut numbers = [0.0f64; 1];
     let at = Places {

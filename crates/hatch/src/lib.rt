@@ -48,7 +48,8 @@ pub fn decode_bits(
     bits: &mut [u64],
     words: &mut [u32],
 ) -> HatchBitsAnswer
-    ensures { λ r. ⌜ ReadsBits (callOf release (now (main .entry)) start none (length (now (words .entry))) (length (now (bits .entry)))) r (now (bits .entry)) (now (bits .exit)) (now (words .entry)) (now (words .exit)) ⌝ }
+    ensures { λ r. ⌜ ReadsBits (callOf release (now (main .entry)) start none (length (now (words .entry))) (length (now (bits .entry)))) r
+        (now (bits .entry)) (now (bits .exit)) (now (words .entry)) (now (words .exit)) ⌝ }
 {
     let read = calls::read_bits(main, start, release, bits, words);
     record::bits_answer(main, read)
@@ -62,7 +63,8 @@ pub fn decode(
     numbers: &mut [f64],
     words: &mut [u32],
 ) -> HatchAnswer
-    ensures { λ r. ⌜ Reads (callOf release (now (main .entry)) start none (length (now (words .entry))) (length (now (numbers .entry)))) r (now (numbers .entry)) (now (numbers .exit)) (now (words .entry)) (now (words .exit)) ⌝ }
+    ensures { λ r. ⌜ Reads (callOf release (now (main .entry)) start none (length (now (words .entry))) (length (now (numbers .entry)))) r
+        (now (numbers .entry)) (now (numbers .exit)) (now (words .entry)) (now (words .exit)) ⌝ }
 {
     let read = calls::read(main, start, release, numbers, words);
     record::doubles_answer(main, read)
@@ -79,7 +81,8 @@ pub fn decode_with_strings_bits(
     bits: &mut [u64],
     words: &mut [u32],
 ) -> HatchBitsAnswer
-    ensures { λ r. ⌜ ReadsBits (callOf release (now (main .entry)) start (lent (now (string .entry)) «string_start» «string_end») (length (now (words .entry))) (length (now (bits .entry)))) r (now (bits .entry)) (now (bits .exit)) (now (words .entry)) (now (words .exit)) ⌝ }
+    ensures { λ r. ⌜ ReadsBits (callOf release (now (main .entry)) start (lent (now (string .entry)) «string_start» «string_end»)
+        (length (now (words .entry))) (length (now (bits .entry)))) r (now (bits .entry)) (now (bits .exit)) (now (words .entry)) (now (words .exit)) ⌝ }
 {
     let read = calls::read_with_strings_bits(
         main,
@@ -105,7 +108,8 @@ pub fn decode_with_strings(
     numbers: &mut [f64],
     words: &mut [u32],
 ) -> HatchAnswer
-    ensures { λ r. ⌜ Reads (callOf release (now (main .entry)) start (lent (now (string .entry)) «string_start» «string_end») (length (now (words .entry))) (length (now (numbers .entry)))) r (now (numbers .entry)) (now (numbers .exit)) (now (words .entry)) (now (words .exit)) ⌝ }
+    ensures { λ r. ⌜ Reads (callOf release (now (main .entry)) start (lent (now (string .entry)) «string_start» «string_end») (length (now (words .entry)))
+        (length (now (numbers .entry)))) r (now (numbers .entry)) (now (numbers .exit)) (now (words .entry)) (now (words .exit)) ⌝ }
 {
     let read = calls::read_with_strings(
         main,

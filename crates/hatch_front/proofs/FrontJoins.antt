@@ -108,7 +108,8 @@ single-small cap xs p {a} {q} h =
     let m = l .2 .2 .2 .2 .1 in
     BL-below (a .single-color) (m .code) (m .listed)
 
-pub plane-got : (o : Out ℕ PlaneValue) {x : PlaneRead} {b : Plane} {p : ℕ} → x ≡ planeOf o → x ≡ DonePlane b p → (a : PlaneValue) × (o ≡ got a p) × (b ≡ planeAs a)
+pub plane-got : (o : Out ℕ PlaneValue) {x : PlaneRead} {b : Plane} {p : ℕ} → x ≡ planeOf o → x ≡ DonePlane b p → (a : PlaneValue) × (o ≡ got a p)
+    × (b ≡ planeAs a)
 plane-got (got a q) {x} {b} {p} e h =
     let i : DonePlane b p ≡ DonePlane (planeAs a) q = sym h ∙ e in
     let ep : q ≡ p = cc in

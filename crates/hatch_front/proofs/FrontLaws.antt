@@ -135,7 +135,8 @@ blockBy a b c d e f cs = record { flag = a; ignored = b; angle = c; shift = d; s
 
 -- a list more, whose count is the next answer
 list-more : {A : Type 0} (xs : List ℕ) (cap : ℕ) (k : ℕ → List GradientColorBits → A) (x : Read) {y : Read} → y ≡ thenRead ((bounded cap BL) .read xs) x
-    → resumed xs (λ v. listed cap BL color takes-color >>= λ cs. pure (k v cs)) x ≡ andThen (resumed xs (λ n. times n color) y) (λ cs q. got (k (valueOf x) cs) q)
+    → resumed xs (λ v. listed cap BL color takes-color >>= λ cs. pure (k v cs)) x ≡ andThen (resumed xs (λ n. times n color) y)
+    (λ cs q. got (k (valueOf x) cs) q)
 unfolding listed listed-read counted relay _>>=_ pure
 list-more xs cap k (Refused r p) e = ap (λ (y : Read). andThen (resumed xs (λ n. times n color) y) (λ cs q. got (k 0 cs) q)) (sym e)
 list-more xs cap k (Value v p) e =
@@ -158,8 +159,10 @@ block-row xs cap p =
     let x₅ = thenRead (BL .read xs) x₄ in
     let x₆ = thenRead (BD .read xs) x₅ in
     let list = listed cap BL color takes-color in
-    one-more xs (λ u. coded BL) (λ u a. coded BL >>= λ b. coded BD >>= λ c. coded BD >>= λ d. coded BL >>= λ e. coded BD >>= λ f. list >>= λ cs. pure (blockBy a b c d e f cs)) (Value 0 p) refl
-    ∙ one-more xs (λ a. coded BL) (λ a b. coded BD >>= λ c. coded BD >>= λ d. coded BL >>= λ e. coded BD >>= λ f. list >>= λ cs. pure (blockBy a b c d e f cs)) x₁ refl
+    one-more xs (λ u. coded BL) (λ u a. coded BL >>= λ b. coded BD >>= λ c. coded BD >>= λ d. coded BL >>= λ e. coded BD >>= λ f. list >>= λ cs. pure
+    (blockBy a b c d e f cs)) (Value 0 p) refl
+    ∙ one-more xs (λ a. coded BL) (λ a b. coded BD >>= λ c. coded BD >>= λ d. coded BL >>= λ e. coded BD >>= λ f. list >>= λ cs. pure
+    (blockBy a b c d e f cs)) x₁ refl
     ∙ one-more xs (λ b. coded BD) (λ b c. coded BD >>= λ d. coded BL >>= λ e. coded BD >>= λ f. list >>= λ cs. pure (blockBy (valueOf x₁) b c d e f cs)) x₂ refl
     ∙ one-more xs (λ c. coded BD) (λ c d. coded BL >>= λ e. coded BD >>= λ f. list >>= λ cs. pure (blockBy (valueOf x₁) (valueOf x₂) c d e f cs)) x₃ refl
     ∙ one-more xs (λ d. coded BL) (λ d e. coded BD >>= λ f. list >>= λ cs. pure (blockBy (valueOf x₁) (valueOf x₂) (valueOf x₃) d e f cs)) x₄ refl

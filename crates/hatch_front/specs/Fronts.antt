@@ -68,7 +68,10 @@ module _ (caps : Caps) (handles : Handles) (v : Version) (γ : Payloads) where
       planes fill (refused k q) = refl
 
       gradients : (o : Out Places Gradient)
-          → andThen o (λ fill p₁. andThen (lifted main p₁ (plane .read (γ .main) (p₁ .main))) (λ a r. andThen ((TV-field v) .read γ r) (λ name q. whole (frontWith fill (namedAs a name)) q)))
-          ≡ andThen (andThen o (λ fill p₁. andThen (andThen (lifted main p₁ (plane .read (γ .main) (p₁ .main))) (λ a r. andThen ((TV-field v) .read γ r) (λ name q. got (namedAs a name) q))) (λ n q. got (frontWith fill n) q))) whole
+          → andThen o (λ fill p₁. andThen (lifted main p₁ (plane .read (γ .main) (p₁ .main)))
+          (λ a r. andThen ((TV-field v) .read γ r) (λ name q. whole (frontWith fill (namedAs a name)) q)))
+          ≡ andThen (andThen o (λ fill p₁. andThen
+          (andThen (lifted main p₁ (plane .read (γ .main) (p₁ .main))) (λ a r. andThen ((TV-field v) .read γ r) (λ name q. got (namedAs a name) q)))
+          (λ n q. got (frontWith fill n) q))) whole
       gradients (got fill q) = planes fill (lifted main q (plane .read (γ .main) (q .main)))
       gradients (refused k q) = refl

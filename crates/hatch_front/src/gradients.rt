@@ -172,7 +172,8 @@ pub fn decode_gradient(
     cap: usize,
 ) -> GradientRead
     requires { ⌜ (length (now main) ≤ limit) × ((length (now string) ≤ limit) × (cap ≤ 16)) ⌝ }
-    ensures { λ r. ⌜ GradientIs (now (main .entry)) ((gradient cap v (leb 3 (releaseNumber v))) .read (payloads (now (main .entry)) (now (string .entry)) reader end) (placesOf at)) r ⌝ }
+    ensures { λ r. ⌜ GradientIs (now (main .entry)) ((gradient cap v (leb 3 (releaseNumber v))) .read
+        (payloads (now (main .entry)) (now (string .entry)) reader end) (placesOf at)) r ⌝ }
 {
     if !version::is_r2004_plus(v) {
         return GradientRead::Done(no_gradient(), at);

@@ -19,7 +19,8 @@ of-text-requires c κs = search needs
 returns : tie.Need-returns
 returns c =
     let a = c .before .before .before .args in
-    c .of-text .ensures ∙ ap textNumbers (c .before .read-tv .ensures) ∙ as-text (released (λ v. limited (inlineText v)) (versionOf (a .release)) (now (a .s)) (a .at))
+    c .of-text .ensures ∙ ap textNumbers (c .before .read-tv .ensures)
+    ∙ as-text (released (λ v. limited (inlineText v)) (versionOf (a .release)) (now (a .s)) (a .at))
 
 pub dwg-read-tv-spec : {M : Type 1} → statement M
 dwg-read-tv-spec = tie.close (tie.spec read-tv-requires of-text-requires returns)

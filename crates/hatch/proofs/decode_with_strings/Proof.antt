@@ -32,9 +32,12 @@ returns c =
     let at-doubles-answer = c .doubles-answer in
     let at-read-with-strings = s3 .before .before .read-with-strings in
     let a = s9 .before .before .before .args in
-    let o = callOf (a .release) (now (a .main)) (a .start) (lent (now (a .string)) (a .string-start) (a .string-end)) (length (now (a .words))) (length (now (a .numbers))) in
-    let read = at-read-with-strings .ensures in
-    (at-doubles-answer .ensures ∙ ap doublesIn (answer-is (now (a .main)) o (at-read-with-strings .result) (read .body)), (read .numbers-then, read .words-then))
+    let o = callOf (a .release) (now (a .main)) (a .start) (lent (now (a .string)) (a .string-start) (a .string-end)) (length (now (a .words)))
+    (length (now (a .numbers))) in
+    let read = at-read-with-strings .ensures in (
+      at-doubles-answer .ensures ∙ ap doublesIn (answer-is (now (a .main)) o (at-read-with-strings .result) (read .body)),
+      (read .numbers-then, read .words-then),
+    )
 
 pub decode-with-strings-spec : {M : Type 1} → statement M
 decode-with-strings-spec =

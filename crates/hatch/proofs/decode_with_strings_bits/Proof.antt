@@ -32,7 +32,8 @@ returns c =
     let at-bits-answer = c .bits-answer in
     let at-read-with-strings-bits = s3 .before .before .read-with-strings-bits in
     let a = s9 .before .before .before .args in
-    let o = callOf (a .release) (now (a .main)) (a .start) (lent (now (a .string)) (a .string-start) (a .string-end)) (length (now (a .words))) (length (now (a .bits))) in
+    let o = callOf (a .release) (now (a .main)) (a .start) (lent (now (a .string)) (a .string-start) (a .string-end)) (length (now (a .words)))
+    (length (now (a .bits))) in
     let read = at-read-with-strings-bits .ensures in
     (at-bits-answer .ensures ∙ answer-is (now (a .main)) o (at-read-with-strings-bits .result) (read .body), (read .numbers-then, read .words-then))
 

@@ -50,7 +50,16 @@ returns c =
     let at-document-caps = s6 .before .before .document-caps in
     let a = s9 .before .before .args in
     let xs = now (a .main) in
-    let d : Call = record { release = a .release; main = xs; start = a .start; strings = lent (now (a .string)) (a .string-start) (a .string-end); caps = documentCaps; handles = in-payload; words = most; numbers = most } in
+    let d : Call = record {
+      release = a .release;
+      main = xs;
+      start = a .start;
+      strings = lent (now (a .string)) (a .string-start) (a .string-end);
+      caps = documentCaps;
+      handles = in-payload;
+      words = most;
+      numbers = most;
+    } in
     let h = call-by (at-document-caps .ensures) xs most most (payloadsOf d) (startsOf d) (a .release) (at-read-call .ensures) in
     at-lengths .ensures ∙ lengths-are xs (hatchCall d) (at-read-call .result) (h .body)
 

@@ -68,7 +68,8 @@ returns-2 c =
     let a = s6 .before .before .args in
     let s = now (a .s) in
     sym (ap planeOf (plane-row s (a .at) (at-read-bd-bits .ensures) (at-then-bd-bits .ensures) (at-then-bd-bits2 .ensures) (at-then-bd-bits3 .ensures)
-    ∙ row-refused s (λ n. pure (planeWith (valueOf (at-read-bd-bits .result)) (valueOf (at-then-bd-bits .result)) (valueOf (at-then-bd-bits2 .result)) n)) (at-z2 .given .1)))
+    ∙ row-refused s (λ n. pure (planeWith (valueOf (at-read-bd-bits .result)) (valueOf (at-then-bd-bits .result)) (valueOf (at-then-bd-bits2 .result)) n))
+    (at-z2 .given .1)))
 
 pub read-plane-spec : {M : Type 1} → statement M
 read-plane-spec =

@@ -45,8 +45,10 @@ returns c =
     let at-read = s6 .before .read in
     let a = s12 .before .args in
     let o = callOf (a .release) (now (a .main)) (a .start) none (length (now (a .words))) (length (now (a .numbers))) in
-    let read = at-read .ensures in
-    (at-colored .ensures ∙ ap (λ (x : HatchBitsAnswer). bodyAnswer (doublesIn x)) (answer-is (now (a .main)) o (at-read .result) (read .body)), (read .numbers-then, read .words-then))
+    let read = at-read .ensures in (
+      at-colored .ensures ∙ ap (λ (x : HatchBitsAnswer). bodyAnswer (doublesIn x)) (answer-is (now (a .main)) o (at-read .result) (read .body)),
+      (read .numbers-then, read .words-then),
+    )
 
 plain-requires : tie.Need-plain-requires
 plain-requires c κs =

@@ -44,9 +44,12 @@ returns c =
     let at-colored = c .colored in
     let at-read-with-strings = s6 .before .read-with-strings in
     let a = s12 .before .before .args in
-    let o = callOf (a .release) (now (a .main)) (a .start) (lent (now (a .string)) (a .string-start) (a .string-end)) (length (now (a .words))) (length (now (a .numbers))) in
-    let read = at-read-with-strings .ensures in
-    (at-colored .ensures ∙ ap (λ (x : HatchBitsAnswer). bodyAnswer (doublesIn x)) (answer-is (now (a .main)) o (at-read-with-strings .result) (read .body)), (read .numbers-then, read .words-then))
+    let o = callOf (a .release) (now (a .main)) (a .start) (lent (now (a .string)) (a .string-start) (a .string-end)) (length (now (a .words)))
+    (length (now (a .numbers))) in
+    let read = at-read-with-strings .ensures in (
+      at-colored .ensures ∙ ap (λ (x : HatchBitsAnswer). bodyAnswer (doublesIn x)) (answer-is (now (a .main)) o (at-read-with-strings .result) (read .body)),
+      (read .numbers-then, read .words-then),
+    )
 
 plain-requires : tie.Need-plain-requires
 plain-requires c κs =
@@ -76,7 +79,8 @@ returns-2 c =
     let at-read-with-strings = s6 .before .read-with-strings in
     let a = s12 .before .before .args in
     let xs = now (a .main) in
-    let o = callOf (a .release) xs (a .start) (lent (now (a .string)) (a .string-start) (a .string-end)) (length (now (a .words))) (length (now (a .numbers))) in
+    let o = callOf (a .release) xs (a .start) (lent (now (a .string)) (a .string-start) (a .string-end)) (length (now (a .words)))
+    (length (now (a .numbers))) in
     let read = at-read-with-strings .ensures in
     let none : numColors (at-read-with-strings .result) ≡ 0 = omega (arith, at-num-colors .ensures, at-if1 .left) in
     let same = plain-is xs (at-read-with-strings .result) none ∙ answer-is xs o (at-read-with-strings .result) (read .body) in

@@ -44,9 +44,12 @@ returns c =
     let at-colored-bits = c .colored-bits in
     let at-read-with-strings-bits = s6 .before .read-with-strings-bits in
     let a = s12 .before .before .args in
-    let o = callOf (a .release) (now (a .main)) (a .start) (lent (now (a .string)) (a .string-start) (a .string-end)) (length (now (a .words))) (length (now (a .bits))) in
-    let read = at-read-with-strings-bits .ensures in
-    (at-colored-bits .ensures ∙ ap bodyBits (answer-is (now (a .main)) o (at-read-with-strings-bits .result) (read .body)), (read .numbers-then, read .words-then))
+    let o = callOf (a .release) (now (a .main)) (a .start) (lent (now (a .string)) (a .string-start) (a .string-end)) (length (now (a .words)))
+    (length (now (a .bits))) in
+    let read = at-read-with-strings-bits .ensures in (
+      at-colored-bits .ensures ∙ ap bodyBits (answer-is (now (a .main)) o (at-read-with-strings-bits .result) (read .body)),
+      (read .numbers-then, read .words-then),
+    )
 
 plain-bits-requires : tie.Need-plain-bits-requires
 plain-bits-requires c κs =

@@ -20,7 +20,11 @@ array-read-t13 c = search needs
 
 returns : tie.Need-returns
 returns c =
-    rw (toZ-ofZ w16 (c .before .before .before .args .b .invisibility) (record { sfits = c .struct-told .given .1 .1 .1 .1 .1 .1 .1 .1 .1 .1 .0 .1 }), c .before .mode-number .ensures)
+    rw (
+      toZ-ofZ w16 (c .before .before .before .args .b .invisibility)
+          (record { sfits = c .struct-told .given .1 .1 .1 .1 .1 .1 .1 .1 .1 .1 .0 .1 }),
+      c .before .mode-number .ensures,
+    )
 
 pub of-fields-spec : {M : Type 1} → statement M
 of-fields-spec =

@@ -21,7 +21,8 @@ returns c =
     let at-if1 = c .if1 in
     let at-none-lent = c .before .none-lent in
     let a = s3 .before .before .before .args in
-    none-laid ((rest (a .caps) in-payload (a .v)) .read (now (a .s)) (a .at)) (now (a .numbers)) (now (a .bits)) (now (a .words)) (sym (at-none-lent .ensures) ∙ at-if1 .taken)
+    none-laid ((rest (a .caps) in-payload (a .v)) .read (now (a .s)) (a .at)) (now (a .numbers)) (now (a .bits)) (now (a .words))
+    (sym (at-none-lent .ensures) ∙ at-if1 .taken)
 
 walk-rest-requires : tie.Need-walk-rest-requires
 walk-rest-requires c κs = search needs

@@ -29,7 +29,8 @@ fill-rest-requires c κs =
     let pre = s9 .before .before .before .pre in
     let γ = payloads (now (a .main)) (now (a .string)) (a .reader) (a .end) in
     let p = placesOf (a .at) in
-    let starts = body-starts (a .caps) in-payload (a .v) γ p (a .words-room) (a .numbers-room) (at-read-front .result) (at-read-front .ensures) (at-front .given .1) in
+    let starts = body-starts (a .caps) in-payload (a .v) γ p (a .words-room) (a .numbers-room) (at-read-front .result) (at-read-front .ensures)
+    (at-front .given .1) in
     (pre .0, (starts, pre .1 .1))
 
 enum-known-k : tie.Need-enum-known-k

@@ -34,7 +34,8 @@ returns c =
     let γ = payloads (now (a .main)) (now (a .string)) (a .reader) (a .end) in
     let p = placesOf (a .at) in
     let l = lists (now (a .numbers)) (now (a .bits)) (now (a .words)) in
-    refused-is (now (a .main)) l (main-long (a .caps) in-payload (a .words-room) (a .numbers-room) γ p (a .release) (sym (at-version-of .ensures) ∙ at-v .given .1) (at-if1 .taken))
+    refused-is (now (a .main)) l (main-long (a .caps) in-payload (a .words-room) (a .numbers-room) γ p (a .release)
+    (sym (at-version-of .ensures) ∙ at-v .given .1) (at-if1 .taken))
 
 returns-2 : tie.Need-returns-2
 returns-2 c =
@@ -49,7 +50,8 @@ returns-2 c =
     let γ = payloads (now (a .main)) (now (a .string)) (a .reader) (a .end) in
     let p = placesOf (a .at) in
     let l = lists (now (a .numbers)) (now (a .bits)) (now (a .words)) in
-    refused-is (now (a .main)) l (string-long (a .caps) in-payload (a .words-room) (a .numbers-room) γ p (a .release) (sym (at-version-of .ensures) ∙ at-v .given .1) (at-if1 .left) (at-if2 .taken))
+    refused-is (now (a .main)) l (string-long (a .caps) in-payload (a .words-room) (a .numbers-room) γ p (a .release)
+    (sym (at-version-of .ensures) ∙ at-v .given .1) (at-if1 .left) (at-if2 .taken))
 
 mul-last : tie.Need-mul-last
 mul-last c = search needs
@@ -69,7 +71,8 @@ returns-3 c =
     let p = placesOf (a .at) in
     let l = lists (now (a .numbers)) (now (a .bits)) (now (a .words)) in
     let e : 8 * length (now (a .string)) ≡ length (now (a .string)) * 8 = omega arith in
-    let read = start-past (a .caps) in-payload (a .words-room) (a .numbers-room) γ p (a .release) (sym (at-version-of .ensures) ∙ at-v .given .1) (at-if1 .left) (at-if2 .left) (omega (arith, at-if3 .taken)) in
+    let read = start-past (a .caps) in-payload (a .words-room) (a .numbers-room) γ p (a .release) (sym (at-version-of .ensures) ∙ at-v .given .1)
+    (at-if1 .left) (at-if2 .left) (omega (arith, at-if3 .taken)) in
     refused-is (now (a .main)) l (read ∙ ap (λ (n : ℕ). refused TooFewBits (record { main = a .at .main; string = n })) e)
 
 read-body-requires : tie.Need-read-body-requires
@@ -106,7 +109,8 @@ returns-4 c =
     let γ = payloads (now (a .main)) (now (a .string)) (a .reader) (a .end) in
     let p = placesOf (a .at) in
     let l = lists (now (a .numbers)) (now (a .bits)) (now (a .words)) in
-    let read = body-read (a .caps) in-payload (a .words-room) (a .numbers-room) γ p (a .release) (sym (at-version-of .ensures) ∙ at-v .given .1) (at-if1 .left) (at-if2 .left) (omega (arith, at-if3 .left)) in
+    let read = body-read (a .caps) in-payload (a .words-room) (a .numbers-room) γ p (a .release) (sym (at-version-of .ensures) ∙ at-v .given .1)
+    (at-if1 .left) (at-if2 .left) (omega (arith, at-if3 .left)) in
     call-as (now (a .main)) l read (at-read-body .ensures)
 
 returns-5 : tie.Need-returns-5
@@ -119,7 +123,8 @@ returns-5 c =
     let γ = payloads (now (a .main)) (now (a .string)) (a .reader) (a .end) in
     let p = placesOf (a .at) in
     let l = lists (now (a .numbers)) (now (a .bits)) (now (a .words)) in
-    refused-is (now (a .main)) l (unknown (a .caps) in-payload (a .words-room) (a .numbers-room) γ p (a .release) (sym (at-version-of .ensures) ∙ at-enum-told .given .1))
+    refused-is (now (a .main)) l (unknown (a .caps) in-payload (a .words-room) (a .numbers-room) γ p (a .release)
+    (sym (at-version-of .ensures) ∙ at-enum-told .given .1))
 
 pub read-call-spec : {M : Type 1} → statement M
 read-call-spec =

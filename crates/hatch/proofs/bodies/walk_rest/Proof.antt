@@ -33,8 +33,11 @@ returns c =
     let s12 = s9 .before .before .before in
     let at-decode-rest = s3 .before .before .before .decode-rest in
     let at-if1 = s9 .before .if1 in
-    let a = s12 .before .before .before .args in
-    (at-decode-rest .ensures .0, filled (now (a .s)) ((rest (a .caps) in-payload (a .v)) .read (now (a .s)) (a .at)) (lists (now (a .numbers)) (now (a .bits)) (now (a .words))) _ (at-if1 .taken) (at-decode-rest .ensures .1))
+    let a = s12 .before .before .before .args in (
+      at-decode-rest .ensures .0,
+      filled (now (a .s)) ((rest (a .caps) in-payload (a .v)) .read (now (a .s)) (a .at))
+          (lists (now (a .numbers)) (now (a .bits)) (now (a .words))) _ (at-if1 .taken) (at-decode-rest .ensures .1),
+    )
 
 measure-rest-requires : tie.Need-measure-rest-requires
 measure-rest-requires c κs = search needs
@@ -44,8 +47,11 @@ returns-2 c =
     let s3 = c .before .before .before in
     let at-measure-rest = c .measure-rest in
     let at-if1 = c .before .if1 in
-    let a = s3 .before .before .before .args in
-    (at-measure-rest .ensures, measured (now (a .s)) ((rest (a .caps) in-payload (a .v)) .read (now (a .s)) (a .at)) (lists (now (a .numbers)) (now (a .bits)) (now (a .words))) (lists (now (a .numbers)) (now (a .bits)) (now (a .words))) (at-if1 .left) refl)
+    let a = s3 .before .before .before .args in (
+      at-measure-rest .ensures,
+      measured (now (a .s)) ((rest (a .caps) in-payload (a .v)) .read (now (a .s)) (a .at))
+          (lists (now (a .numbers)) (now (a .bits)) (now (a .words))) (lists (now (a .numbers)) (now (a .bits)) (now (a .words))) (at-if1 .left) refl,
+    )
 
 pub walk-rest-spec : {M : Type 1} → statement M
 walk-rest-spec =

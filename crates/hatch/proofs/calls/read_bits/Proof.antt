@@ -48,7 +48,16 @@ returns c =
     let xs = now (a .main) in
     let nw = length (now (a .words)) in
     let nn = length (now (a .bits)) in
-    let d : Call = record { release = a .release; main = xs; start = a .start; strings = none; caps = documentCaps; handles = in-payload; words = nw; numbers = nn } in
+    let d : Call = record {
+      release = a .release;
+      main = xs;
+      start = a .start;
+      strings = none;
+      caps = documentCaps;
+      handles = in-payload;
+      words = nw;
+      numbers = nn;
+    } in
     let l = lists [] (now (a .bits)) (now (a .words)) in
     let h = call-by (at-document-caps .ensures) xs nw nn (payloadsOf d) (startsOf d) (a .release) (at-read-call .ensures) in
     reads-bits d xs l h refl refl

@@ -46,7 +46,16 @@ returns c =
     let at-double-of2 = s6 .before .double-of2 in
     let at-double-of = s6 .before .before .double-of in
     let at-double-gradient = s6 .before .before .before .double-gradient in
-    rw (at-double-of .ensures, at-double-of2 .ensures, at-double-of3 .ensures, at-double-of4 .ensures, at-double-of5 .ensures, at-double-of6 .ensures, at-double-of7 .ensures, at-double-gradient .ensures)
+    rw (
+      at-double-of .ensures,
+      at-double-of2 .ensures,
+      at-double-of3 .ensures,
+      at-double-of4 .ensures,
+      at-double-of5 .ensures,
+      at-double-of6 .ensures,
+      at-double-of7 .ensures,
+      at-double-gradient .ensures,
+    )
 
 pub double-record-spec : {M : Type 1} → statement M
 double-record-spec =

@@ -45,7 +45,8 @@ part-result-end-2 c = search needs
 returns-2 : tie.Need-returns-2
 returns-2 c =
     let a = (c .before .before .args) in
-    ⊎-elim (λ w. let more : a .hatch .«numbers_used» < 2 * a .hatch .«num_seed_points» = omega (arith, w .1 .left) in simp (le-leb _ _ (w .0 .taken), lt-leb _ _ more)) (λ w. simp (lt-leb _ _ (w .left))) (c .before .if1 .came)
+    ⊎-elim (λ w. let more : a .hatch .«numbers_used» < 2 * a .hatch .«num_seed_points» = omega (arith, w .1 .left) in
+    simp (le-leb _ _ (w .0 .taken), lt-leb _ _ more)) (λ w. simp (lt-leb _ _ (w .left))) (c .before .if1 .came)
 
 pub seed-points-bits-spec : {M : Type 1} → statement M
 seed-points-bits-spec =

@@ -48,7 +48,8 @@ short-of-requires c κs =
     let at-then-bs = s6 .before .then-bs in
     let at-read-bd-bits = s6 .before .before .read-bd-bits in
     let a = s9 .before .args in
-    subst (λ (n : ℕ). n < 2 ^ 16) (sym (at-value-of2 .ensures)) (step-below (2 ^ 16) BS (omega arith) BS-below (now (a .s)) (at-read-bd-bits .result) (at-then-bs .ensures))
+    subst (λ (n : ℕ). n < 2 ^ 16) (sym (at-value-of2 .ensures))
+    (step-below (2 ^ 16) BS (omega arith) BS-below (now (a .s)) (at-read-bd-bits .result) (at-then-bs .ensures))
 
 value-of-requires-3 : tie.Need-value-of-requires-3
 value-of-requires-3 c κs = search needs
@@ -62,7 +63,11 @@ cast-t16 c =
     let at-then-bl = s6 .before .before .then-bl in
     let at-then-bs = s6 .before .before .before .then-bs in
     let a = s9 .before .before .before .args in
-    record { fits = subst (λ (n : ℕ). n < 2 ^ 32) (sym (at-value-of3 .ensures)) (step-below (2 ^ 32) (held true BL 0) (omega arith) (held-below (2 ^ 32) true BL 0 (omega arith) BL-below) (now (a .s)) (at-then-bs .result) (at-then-bl .ensures)) }
+    record {
+      fits = subst (λ (n : ℕ). n < 2 ^ 32) (sym (at-value-of3 .ensures))
+          (step-below (2 ^ 32) (held true BL 0) (omega arith) (held-below (2 ^ 32) true BL 0 (omega arith) BL-below) (now (a .s)) (at-then-bs .result)
+          (at-then-bl .ensures));
+    }
 
 cast-t17 : tie.Need-cast-t17
 cast-t17 c =
@@ -73,7 +78,11 @@ cast-t17 c =
     let at-then-low = s6 .before .then-low in
     let at-then-bl = s6 .before .before .then-bl in
     let a = s9 .before .before .before .args in
-    record { fits = subst (λ (x : Read). valueOf x < 256) (at-byte .given .1) (step-below 256 (held true (lowFirst 1) 0) (omega arith) (held-below 256 true (lowFirst 1) 0 (omega arith) (low-below 1)) (now (a .s)) (at-then-bl .result) (at-then-low .ensures)) }
+    record {
+      fits = subst (λ (x : Read). valueOf x < 256) (at-byte .given .1)
+          (step-below 256 (held true (lowFirst 1) 0) (omega arith) (held-below 256 true (lowFirst 1) 0 (omega arith) (low-below 1)) (now (a .s))
+          (at-then-bl .result) (at-then-low .ensures));
+    }
 
 enum-known-byte-2 : tie.Need-enum-known-byte-2
 enum-known-byte-2 c = search needs
@@ -97,8 +106,16 @@ returns c =
     let s = now (a .s) in
     let e =
     color-row s (a .at) (at-read-bd-bits .ensures) (at-then-bs .ensures) (at-then-bl .ensures) (at-then-low .ensures)
-    ∙ row-done s (colorWith (valueOf (at-read-bd-bits .result)) (signed 16 (valueOf (at-then-bs .result))) (valueOf (at-then-bl .result))) (at-byte .given .1) in
-    rw (toZ-ofZ w16 (at-short-of .result) (record { sfits = at-short-of .ok }), at-short-of .ensures, at-value-of3 .ensures, at-value-of2 .ensures, at-value-of .ensures)
+    ∙ row-done s (colorWith (valueOf (at-read-bd-bits .result)) (signed 16 (valueOf (at-then-bs .result))) (valueOf (at-then-bl .result)))
+    (at-byte .given .1) in
+    rw (
+      toZ-ofZ w16 (at-short-of .result)
+          (record { sfits = at-short-of .ok }),
+      at-short-of .ensures,
+      at-value-of3 .ensures,
+      at-value-of2 .ensures,
+      at-value-of .ensures,
+    )
     (sym (ap colorOf e))
 
 returns-2 : tie.Need-returns-2
@@ -114,7 +131,8 @@ returns-2 c =
     let a = s6 .before .before .args in
     let s = now (a .s) in
     sym (ap colorOf (color-row s (a .at) (at-read-bd-bits .ensures) (at-then-bs .ensures) (at-then-bl .ensures) (at-then-low .ensures)
-    ∙ row-refused s (λ n. pure (colorWith (valueOf (at-read-bd-bits .result)) (signed 16 (valueOf (at-then-bs .result))) (valueOf (at-then-bl .result)) n)) (at-byte2 .given .1)))
+    ∙ row-refused s (λ n. pure (colorWith (valueOf (at-read-bd-bits .result)) (signed 16 (valueOf (at-then-bs .result))) (valueOf (at-then-bl .result)) n))
+    (at-byte2 .given .1)))
 
 pub read-color-spec : {M : Type 1} → statement M
 read-color-spec =

@@ -8,7 +8,8 @@ use mathlib.Core.List.{List}
 use Rattle.hatch_format.specs.declared.GradientColorBits.{GradientColorBits}
 use Rattle.hatch_format.specs.Gradients.{color}
 use Rattle.hatch_front.specs.Answers.{sixteenOf}
-use Rattle.hatch_front.proofs.ColorLaws.{ReadTo, none-read, one-read, one-refused, all-read, filled, filled-none, filled-all, filled-more, color-got, color-no}
+use Rattle.hatch_front.proofs.ColorLaws.{ReadTo, none-read, one-read, one-refused, all-read, filled, filled-none, filled-all, filled-more, color-got}
+use Rattle.hatch_front.proofs.ColorLaws.{color-no}
 use borrow.Author.Needs.{needs}
 use Rattle.hatch_front.proofs.colors.read_colors.Statement.{statement}
 use Rattle.hatch_front.proofs.colors.read_colors.Tie as tie

@@ -9,7 +9,8 @@ use Rattle.hatch_format.specs.declared.GradientColor.{GradientColor}
 use Rattle.hatch_format.specs.Record.{colorsAsDoubles}
 use Rattle.hatch_format.specs.Gradients.{color}
 use Rattle.hatch_front.specs.Answers.{sixteenOf}
-use Rattle.hatch_front.proofs.ColorLaws.{ReadTo, none-read, one-read, one-refused, all-read, filled, filled-none, filled-all, filled-more, color-got, color-no, set-doubles}
+use Rattle.hatch_front.proofs.ColorLaws.{ReadTo, none-read, one-read, one-refused, all-read, filled, filled-none, filled-all, filled-more, color-got}
+use Rattle.hatch_front.proofs.ColorLaws.{color-no, set-doubles}
 use borrow.Author.Needs.{needs}
 use Rattle.hatch_front.proofs.colors.read_double_colors.Statement.{statement}
 use Rattle.hatch_front.proofs.colors.read_double_colors.Tie as tie

@@ -59,7 +59,20 @@ returns c =
     let at-then-bd-bits = s6 .before .before .before .then-bd-bits in
     let at-then-bl = s9 .before .then-bl in
     let at-read-bl-u = s9 .before .before .read-bl-u in
-    rw (at-value-of5 .ensures, at-value-of4 .ensures, at-value-of3 .ensures, at-value-of2 .ensures, at-value-of .ensures, at-then-count .ensures, at-then-bd-bits3 .ensures, at-then-bl2 .ensures, at-then-bd-bits2 .ensures, at-then-bd-bits .ensures, at-then-bl .ensures, at-read-bl-u .ensures)
+    rw (
+      at-value-of5 .ensures,
+      at-value-of4 .ensures,
+      at-value-of3 .ensures,
+      at-value-of2 .ensures,
+      at-value-of .ensures,
+      at-then-count .ensures,
+      at-then-bd-bits3 .ensures,
+      at-then-bl2 .ensures,
+      at-then-bd-bits2 .ensures,
+      at-then-bd-bits .ensures,
+      at-then-bl .ensures,
+      at-read-bl-u .ensures,
+    )
 
 pub read-block-head-spec : {M : Type 1} → statement M
 read-block-head-spec =
