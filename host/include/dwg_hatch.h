@@ -182,7 +182,11 @@ typedef struct DwgSeedPart {
 
 /* The lengths that the lists must have for the hatch body at bit `start`, texts inline. Refused, in this order: DWG_UNKNOWN_RELEASE and
  * DWG_PAYLOAD_TOO_LONG (place: `start`), then DWG_TOO_FEW_BITS, DWG_RESERVED_TAG, DWG_COUNT_TOO_LARGE, DWG_EDGE_KIND and DWG_NOT_UTF16 as the
- * fields have it; never DWG_LIST_TOO_SHORT. Then string_place and both lengths are 0. */
+ * fields have it; never DWG_LIST_TOO_SHORT. Then string_place and both lengths are 0.
+ *
+ * Proved (crates/hatch/specs/Measuring.antt, `measures` and `never-short`): where measuring reads, a call that is lent lists of these lengths or
+ * longer reads the same hatch with the same final places, and one that is lent a shorter list is refused, DWG_LIST_TOO_SHORT, at these places; where
+ * measuring is refused, every such call is, with the same refusal and places. */
 DwgLengthsAnswer dwg_hatch_measure(const uint8_t *main, size_t main_length, size_t start, uint64_t release);
 
 /* The same with a string reader: the texts come from the string payload, at every release, from bit `string_start` on; the reader ends at

@@ -90,6 +90,10 @@ impl<'a> HatchBody<'a> {
 
     /// The lengths that the lists must have. Refuses as [`HatchBody::decode_into`] does, but never for a list.
     ///
+    /// Proved (crates/hatch/specs/Measuring.antt, `measures` and `never-short`): where measuring reads, [`HatchBody::decode_into`] with lists of these
+    /// lengths or longer reads the same hatch with the same final places, and with a shorter list it is refused (`ListTooShort`) at these places; where
+    /// measuring is refused, every such call is, with the same reason and places.
+    ///
     /// ```
     /// let bytes = [&[0xa9, 0xaa, 0x90, 0x10][..], &[0; 16]].concat();
     /// let lengths = dwg_hatch::HatchBody::new(&bytes, 0, dwg_hatch::Release::R2000).measure()?;
