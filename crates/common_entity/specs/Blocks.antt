@@ -82,16 +82,3 @@ module _ (had n : ℕ) (xs : List ℕ) (p : ℕ) (some : 0 < n) where
 pub chain-over : (had : ℕ) (xs : List ℕ) (p : ℕ) → chainFrom 0 had xs p ≡ refused TooManyXdataBlocks p
 unfolding chainFrom chain refuse
 chain-over had xs p = refl
-
--- a first tag 10: the size 0, and so no block
-module _ (xs : List ℕ) (p : ℕ) {tag q : ℕ} (e : (raw 2) .read xs p ≡ got tag q) (z : tag ≡ 2) where
-  no-size : BS .read xs p ≡ got 0 q
-  unfolding BS BS-read tabled tagged byTag _>>=_ give
-  no-size = rw (e, z)
-
-  no-block : block .read xs p ≡ got 0 q
-  unfolding block _>>=_ checked give
-  no-block = rw no-size
-
-  pub no-blocks : chainFrom 256 0 xs p ≡ got 0 q
-  no-blocks = chain-ends 0 256 xs p (omega arith) no-block refl

@@ -42,7 +42,7 @@ fn read_block(s: &[u8], at: usize) -> Read
 }
 
 // The XDATA chain block by block: whether there was one. After 256 nonzero blocks it is refused without another size.
-fn skip_blocks(s: &[u8], at: usize) -> Read
+pub fn skip_extended_data(s: &[u8], at: usize) -> Read
     requires { ⌜ length (now s) ≤ limit ⌝ }
     ensures { λ r. ⌜ r ≡ asRead (chainFrom 256 0 (now (s .entry)) at) ⌝ }
 {
@@ -65,22 +65,6 @@ fn skip_blocks(s: &[u8], at: usize) -> Read
         }
     }
     Read::Refused(Refusal::TooManyXdataBlocks, p)
-}
-
-// The XDATA chain; most prefixes have none, and then a tag of two bits is all of it.
-pub fn skip_extended_data(s: &[u8], at: usize) -> Read
-    requires { ⌜ length (now s) ≤ limit ⌝ }
-    ensures { λ r. ⌜ r ≡ asRead (chainFrom 256 0 (now (s .entry)) at) ⌝ }
-{
-    match bitcursor::within::read_bits(s, at, 2) {
-        Read::Value(tag, p) => {
-            if tag == 2 {
-                return Read::Value(0, p);
-            }
-            skip_blocks(s, at)
-        }
-        Read::Refused(_, _) => skip_blocks(s, at),
-    }
 }
 
 // What graphics hold: their size, as a BLL or an RL, and that many bytes. The place is behind the set bit.
