@@ -4,4 +4,3 @@ pub mod Swaps
 pub mod Nans
 pub mod Signs
 pub mod Steps
-pub mod Calls

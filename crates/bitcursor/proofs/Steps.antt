@@ -24,7 +24,6 @@ use Rattle.bitcursor.specs.declared.Handle.{Handle}
 use Rattle.bitcursor.specs.declared.ReadHandle.{ReadHandle}
 use Rattle.bitcursor.specs.declared.ReadHandle.the-variants.{Value as ValueHandle, Refused as RefusedHandle}
 use Rattle.bitcursor.specs.Handles.{checked}
-use Rattle.bitcursor.specs.Sequence.{thenRead}
 use Rattle.bitcursor.specs.Answers.{asRead, asPassed, asHandle, limit, limited}
 
 -- what was read, from what the call answered
@@ -164,18 +163,6 @@ passed-refused (refused n q) {x} {r} {p} e h =
     let en : n ≡ r = cc in
     let ep : q ≡ p = cc in
     ap₂ refused en ep
-
--- ---- a field that goes on from an answer, code after code: x is what its first code's step answered
-module _ (f : Code ℕ) (g : ℕ → Code ℕ) (xs : List ℕ) where
-  pub then-on : (prior : Read) {x : Read} {v p : ℕ} → x ≡ thenRead (f .read xs) prior → x ≡ Value v p
-      → thenRead ((f >>= g) .read xs) prior ≡ asRead ((g v) .read xs p)
-  then-on (Value u q) e h = ap asRead (then-got f g xs q (read-value (f .read xs q) e h))
-  then-on (Refused r q) {x} e h = let z : _≡_ {A = ℕ} 0 1 = cc in absurd (omega arith)
-
-  pub then-off : (prior : Read) {x : Read} {r : Refusal} {p : ℕ} → x ≡ thenRead (f .read xs) prior → x ≡ Refused r p
-      → thenRead ((f >>= g) .read xs) prior ≡ Refused r p
-  then-off (Value u q) e h = ap asRead (then-refused f g xs q (read-refused (f .read xs q) e h))
-  then-off (Refused n q) e h = sym e ∙ h
 
 -- ---- by a test
 module _ {A : Type 0} (c d : Code A) where

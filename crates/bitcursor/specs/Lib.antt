@@ -10,7 +10,7 @@ pub mod Handles
 pub mod Stops
 pub mod Ranges
 pub mod Answers
-pub mod Sequence
+pub mod Held
 pub mod Format
 pub mod Whole
 pub mod Chains

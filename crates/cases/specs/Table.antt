@@ -10,7 +10,7 @@ use Rattle.bitcursor.specs.Bytes.{bytes, bytes-read, bytesAt, lowFirst, lowNumb
 use Rattle.bitcursor.specs.Codes.{byTag, tagged, B, B-read, BB, RC, RD, RL, BS, BS-read, signed-BS, BL, BL-read}
 use Rattle.bitcursor.specs.Doubles.{BD, BD-read, one-pattern}
 use Rattle.bitcursor.specs.Handles.{BLL, BLL-read, HANDLE, HANDLE-read, HANDLE-value, checked}
-use Rattle.bitcursor.specs.Sequence.{held}
+use Rattle.bitcursor.specs.Held.{held}
 use Rattle.bitcursor.specs.Answers.{limited}
 use Rattle.bitcursor.specs.Format.{pure, refuse as refuse-format, _>>=_ as bind-format, peek, relay, either}
 use Rattle.bitcursor.specs.Fields.{at-least, within}

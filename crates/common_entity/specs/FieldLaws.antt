@@ -14,7 +14,7 @@ use Rattle.bitcursor.specs.Code.{Code, Laid, raw, give, refuse, _>>=_, mapped, 
 use Rattle.bitcursor.specs.Bytes.{skip}
 use Rattle.bitcursor.specs.Codes.{B, B-read, B-to, B-from, RL, BS, signed, signed-BS}
 use Rattle.bitcursor.specs.Handles.{BLL, HANDLE, checked}
-use Rattle.bitcursor.specs.Sequence.{held}
+use Rattle.bitcursor.specs.Held.{held}
 use Rattle.text.specs.Texts.{Written, TV}
 use Rattle.text.specs.Fields.{widthBy}
 use Rattle.bitcursor.specs.Chains.{Each, _⨾_}

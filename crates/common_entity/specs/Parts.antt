@@ -10,7 +10,8 @@ use Rattle.bitcursor.specs.Code.{Code, _>>=_}
 use Rattle.bitcursor.specs.Codes.{BB, RC, RL, BS, BL}
 use Rattle.bitcursor.specs.Doubles.{BD}
 use Rattle.bitcursor.specs.Answers.{asRead}
-use Rattle.bitcursor.specs.Sequence.{held, thenRead, valueOf, resume, first, next}
+use Rattle.bitcursor.specs.Held.{held}
+use Rattle.sequence.specs.Sequence.{thenRead, valueOf, resume, first, next}
 use Rattle.common_entity.specs.declared.table.Row.{Row}
 use Rattle.common_entity.specs.declared.parts.Announced.{Announced}
 use Rattle.common_entity.specs.declared.parts.Head.{Head}

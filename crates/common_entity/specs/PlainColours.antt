@@ -9,7 +9,8 @@ use Rattle.bitcursor.specs.declared.Read.the-variants.{Value, Refused}
 use Rattle.bitcursor.specs.Bits.{odd}
 use Rattle.bitcursor.specs.Code.{raw, give}
 use Rattle.bitcursor.specs.Codes.{BS, BL}
-use Rattle.bitcursor.specs.Sequence.{held, thenRead, valueOf}
+use Rattle.bitcursor.specs.Held.{held}
+use Rattle.sequence.specs.Sequence.{thenRead, valueOf}
 use Rattle.common_entity.specs.declared.table.Row.{Row}
 use Rattle.common_entity.specs.declared.parts.Colours.{Colours}
 use Rattle.common_entity.specs.Values.{flag, hasRgb, hasAlpha, hasName, hasBookName}

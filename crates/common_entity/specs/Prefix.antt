@@ -13,7 +13,7 @@ use Rattle.bitcursor.specs.Bytes.{lowFirst, skip}
 use Rattle.bitcursor.specs.Codes.{BB, RC, RL, BS, BL, signed}
 use Rattle.bitcursor.specs.Doubles.{BD}
 use Rattle.bitcursor.specs.Handles.{BLL, HANDLE, checked}
-use Rattle.bitcursor.specs.Sequence.{held}
+use Rattle.bitcursor.specs.Held.{held}
 use Rattle.text.specs.Texts.{Written, TV}
 use Rattle.text.specs.Fields.{widthBy}
 use Rattle.common_entity.specs.declared.CommonEntityBits.{CommonEntityBits}

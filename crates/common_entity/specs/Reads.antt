@@ -16,7 +16,8 @@ use Rattle.bitcursor.specs.Code.{Code, raw, give, _>>=_}
 use Rattle.bitcursor.specs.Bytes.{lowFirst}
 use Rattle.bitcursor.specs.Codes.{BB, RC, RL, BS, BL}
 use Rattle.bitcursor.specs.Ranges.{bytes-pow, raw-below, low-below, BS-below, BL-below}
-use Rattle.bitcursor.specs.Sequence.{held, thenRead, valueOf, resume, step-below, held-below}
+use Rattle.bitcursor.specs.Held.{held, held-below}
+use Rattle.sequence.specs.Sequence.{thenRead, valueOf, resume, step-below}
 use Rattle.common_entity.specs.declared.CommonEntityBits.{CommonEntityBits}
 use Rattle.common_entity.specs.declared.table.Row.{Row}
 use Rattle.common_entity.specs.declared.parts.Head.{Head}

@@ -8,7 +8,6 @@ ghost use Rattle.common_entity.specs.Parts.{headOf, modesOf, coloursOf, 
 use crate::steps;
 use crate::table::Row;
 use bitcursor::Read;
-use bitcursor::sequence;
 
 // Up to the mode: XDATA, graphics and, in release 1, the data end. Each part has its fields' numbers and the last answer.
 pub struct Head {

@@ -5,14 +5,14 @@ ghost use lib.ListN.{length};
 ghost use Rattle.bitcursor.specs.Answers.{limit, asRead};
 ghost use Rattle.bitcursor.specs.Codes.{RL};
 ghost use Rattle.bitcursor.specs.Handles.{BLL, checked};
-ghost use Rattle.bitcursor.specs.Sequence.{held, thenRead};
+ghost use Rattle.bitcursor.specs.Held.{held};
+ghost use Rattle.sequence.specs.Sequence.{thenRead};
 ghost use Rattle.common_entity.specs.Prefix.{graphics, name, drawing};
 ghost use Rattle.common_entity.specs.Blocks.{block, chainFrom};
 use bitcursor::Passed;
 use bitcursor::Read;
 use bitcursor::ReadHandle;
 use bitcursor::Refusal;
-use bitcursor::sequence;
 use text::ReadText;
 
 // One XDATA block: 0 where its size is 0, and 1 after a handle and that many bytes.

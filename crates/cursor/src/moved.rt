@@ -1,4 +1,4 @@
-// What each reading at a cursor gives: its answer and the cursor afterwards, by value. The covered calls of crate `bitcursor` do the work.
+// What each reading at a cursor gives: its answer and the cursor afterwards, by value. The covered calls of crate `bit_codes` do the work.
 ghost use mathlib.Core.Path.{_≡_};
 ghost use lib.Ieee.{toBits, binary64};
 ghost use Rattle.bitcursor.specs.Codes.{B, BB, «3B», RC, RS, RL, RD, BS, BL, signed-BS, signed-BL};
@@ -146,89 +146,89 @@ fn of_handle(r: ReadHandle) -> MovedHandle
 pub fn read_b(bytes: &[u8], c: BitCursor) -> MovedBool
     ensures { λ m. ⌜ m ≡ movedBool (readAt B (now (bytes .entry)) c) ⌝ }
 {
-    of_bool(bitcursor::read_b(bytes, c.position_bits()))
+    of_bool(bit_codes::read_b(bytes, c.position_bits()))
 }
 
 pub fn read_bb(bytes: &[u8], c: BitCursor) -> Moved
     ensures { λ m. ⌜ m ≡ moved (readAt BB (now (bytes .entry)) c) ⌝ }
 {
-    of_read(bitcursor::read_bb(bytes, c.position_bits()))
+    of_read(bit_codes::read_bb(bytes, c.position_bits()))
 }
 
 pub fn read_3b(bytes: &[u8], c: BitCursor) -> Moved
     ensures { λ m. ⌜ m ≡ moved (readAt «3B» (now (bytes .entry)) c) ⌝ }
 {
-    of_read(bitcursor::read_3b(bytes, c.position_bits()))
+    of_read(bit_codes::read_3b(bytes, c.position_bits()))
 }
 
 pub fn read_rc(bytes: &[u8], c: BitCursor) -> Moved
     ensures { λ m. ⌜ m ≡ moved (readAt RC (now (bytes .entry)) c) ⌝ }
 {
-    of_read(bitcursor::read_rc(bytes, c.position_bits()))
+    of_read(bit_codes::read_rc(bytes, c.position_bits()))
 }
 
 pub fn read_rs(bytes: &[u8], c: BitCursor) -> MovedI16
     ensures { λ m. ⌜ m ≡ movedI16 (readAt RS (now (bytes .entry)) c) ⌝ }
 {
-    of_i16(bitcursor::read_rs(bytes, c.position_bits()))
+    of_i16(bit_codes::read_rs(bytes, c.position_bits()))
 }
 
 pub fn read_rl(bytes: &[u8], c: BitCursor) -> Moved
     ensures { λ m. ⌜ m ≡ moved (readAt RL (now (bytes .entry)) c) ⌝ }
 {
-    of_read(bitcursor::read_rl(bytes, c.position_bits()))
+    of_read(bit_codes::read_rl(bytes, c.position_bits()))
 }
 
 pub fn read_rd(bytes: &[u8], c: BitCursor) -> MovedF64
     ensures { λ m. ⌜ m ≡ movedF64 (readAt RD (now (bytes .entry)) c) ⌝ }
 {
-    of_f64(bitcursor::read_rd(bytes, c.position_bits()))
+    of_f64(bit_codes::read_rd(bytes, c.position_bits()))
 }
 
 pub fn read_bs(bytes: &[u8], c: BitCursor) -> MovedI16
     ensures { λ m. ⌜ m ≡ movedI16 (readAt signed-BS (now (bytes .entry)) c) ⌝ }
 {
-    of_i16(bitcursor::read_bs(bytes, c.position_bits()))
+    of_i16(bit_codes::read_bs(bytes, c.position_bits()))
 }
 
 pub fn read_bs_u(bytes: &[u8], c: BitCursor) -> Moved
     ensures { λ m. ⌜ m ≡ moved (readAt BS (now (bytes .entry)) c) ⌝ }
 {
-    of_read(bitcursor::read_bs_u(bytes, c.position_bits()))
+    of_read(bit_codes::read_bs_u(bytes, c.position_bits()))
 }
 
 pub fn read_bl(bytes: &[u8], c: BitCursor) -> MovedI32
     ensures { λ m. ⌜ m ≡ movedI32 (readAt signed-BL (now (bytes .entry)) c) ⌝ }
 {
-    of_i32(bitcursor::read_bl(bytes, c.position_bits()))
+    of_i32(bit_codes::read_bl(bytes, c.position_bits()))
 }
 
 pub fn read_bl_u(bytes: &[u8], c: BitCursor) -> Moved
     ensures { λ m. ⌜ m ≡ moved (readAt BL (now (bytes .entry)) c) ⌝ }
 {
-    of_read(bitcursor::read_bl_u(bytes, c.position_bits()))
+    of_read(bit_codes::read_bl_u(bytes, c.position_bits()))
 }
 
 pub fn read_bll(bytes: &[u8], c: BitCursor) -> Moved
     ensures { λ m. ⌜ m ≡ moved (readAt BLL (now (bytes .entry)) c) ⌝ }
 {
-    of_read(bitcursor::read_bll(bytes, c.position_bits()))
+    of_read(bit_codes::read_bll(bytes, c.position_bits()))
 }
 
 pub fn read_bd(bytes: &[u8], c: BitCursor) -> MovedF64
     ensures { λ m. ⌜ m ≡ movedF64 (readAt BD (now (bytes .entry)) c) ⌝ }
 {
-    of_f64(bitcursor::read_bd(bytes, c.position_bits()))
+    of_f64(bit_codes::read_bd(bytes, c.position_bits()))
 }
 
 pub fn read_dd(bytes: &[u8], c: BitCursor, default: f64) -> MovedF64
     ensures { λ m. ⌜ m ≡ movedF64 (readAt (DD (toBits binary64 default)) (now (bytes .entry)) c) ⌝ }
 {
-    of_f64(bitcursor::read_dd(bytes, c.position_bits(), default))
+    of_f64(bit_codes::read_dd(bytes, c.position_bits(), default))
 }
 
 pub fn read_handle(bytes: &[u8], c: BitCursor) -> MovedHandle
     ensures { λ m. ⌜ m ≡ movedHandle (readAt HANDLE (now (bytes .entry)) c) ⌝ }
 {
-    of_handle(bitcursor::read_handle(bytes, c.position_bits()))
+    of_handle(bit_codes::read_handle(bytes, c.position_bits()))
 }

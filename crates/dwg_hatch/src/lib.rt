@@ -116,7 +116,7 @@ pub struct PrefixBitsAnswer {
 pub extern "C" fn dwg_read_b(s: &[u8], at: usize) -> CodeAnswer
     ensures { λ r. ⌜ r ≡ boolAnswer (limited (B .read) (now (s .entry)) at) ⌝ }
 {
-    answers::of_bool(bitcursor::read_b(s, at))
+    answers::of_bool(bit_codes::read_b(s, at))
 }
 
 // BB: two bits.
@@ -124,7 +124,7 @@ pub extern "C" fn dwg_read_b(s: &[u8], at: usize) -> CodeAnswer
 pub extern "C" fn dwg_read_bb(s: &[u8], at: usize) -> CodeAnswer
     ensures { λ r. ⌜ r ≡ codeAnswer (limited (BB .read) (now (s .entry)) at) ⌝ }
 {
-    answers::of_read(bitcursor::read_bb(s, at))
+    answers::of_read(bit_codes::read_bb(s, at))
 }
 
 // 3B: three bits.
@@ -132,7 +132,7 @@ pub extern "C" fn dwg_read_bb(s: &[u8], at: usize) -> CodeAnswer
 pub extern "C" fn dwg_read_3b(s: &[u8], at: usize) -> CodeAnswer
     ensures { λ r. ⌜ r ≡ codeAnswer (limited («3B» .read) (now (s .entry)) at) ⌝ }
 {
-    answers::of_read(bitcursor::read_3b(s, at))
+    answers::of_read(bit_codes::read_3b(s, at))
 }
 
 // RC: one byte.
@@ -140,7 +140,7 @@ pub extern "C" fn dwg_read_3b(s: &[u8], at: usize) -> CodeAnswer
 pub extern "C" fn dwg_read_rc(s: &[u8], at: usize) -> CodeAnswer
     ensures { λ r. ⌜ r ≡ codeAnswer (limited (RC .read) (now (s .entry)) at) ⌝ }
 {
-    answers::of_read(bitcursor::read_rc(s, at))
+    answers::of_read(bit_codes::read_rc(s, at))
 }
 
 // RS: two bytes, signed.
@@ -148,7 +148,7 @@ pub extern "C" fn dwg_read_rc(s: &[u8], at: usize) -> CodeAnswer
 pub extern "C" fn dwg_read_rs(s: &[u8], at: usize) -> SignedAnswer
     ensures { λ r. ⌜ r ≡ signedAnswer (limited (RS .read) (now (s .entry)) at) ⌝ }
 {
-    answers::of_i16(bitcursor::read_rs(s, at))
+    answers::of_i16(bit_codes::read_rs(s, at))
 }
 
 // RL: four bytes.
@@ -156,7 +156,7 @@ pub extern "C" fn dwg_read_rs(s: &[u8], at: usize) -> SignedAnswer
 pub extern "C" fn dwg_read_rl(s: &[u8], at: usize) -> CodeAnswer
     ensures { λ r. ⌜ r ≡ codeAnswer (limited (RL .read) (now (s .entry)) at) ⌝ }
 {
-    answers::of_read(bitcursor::read_rl(s, at))
+    answers::of_read(bit_codes::read_rl(s, at))
 }
 
 // RD, as the double.
@@ -164,7 +164,7 @@ pub extern "C" fn dwg_read_rl(s: &[u8], at: usize) -> CodeAnswer
 pub extern "C" fn dwg_read_rd(s: &[u8], at: usize) -> DoubleAnswer
     ensures { λ r. ⌜ r ≡ doubleAnswer (limited (RD .read) (now (s .entry)) at) ⌝ }
 {
-    answers::of_f64(bitcursor::read_rd(s, at))
+    answers::of_f64(bit_codes::read_rd(s, at))
 }
 
 // RD, as its 64 bits.
@@ -172,7 +172,7 @@ pub extern "C" fn dwg_read_rd(s: &[u8], at: usize) -> DoubleAnswer
 pub extern "C" fn dwg_read_rd_bits(s: &[u8], at: usize) -> CodeAnswer
     ensures { λ r. ⌜ r ≡ codeAnswer (limited (RD .read) (now (s .entry)) at) ⌝ }
 {
-    answers::of_read(bitcursor::read_rd_bits(s, at))
+    answers::of_read(bit_codes::read_rd_bits(s, at))
 }
 
 // BS, signed.
@@ -180,7 +180,7 @@ pub extern "C" fn dwg_read_rd_bits(s: &[u8], at: usize) -> CodeAnswer
 pub extern "C" fn dwg_read_bs(s: &[u8], at: usize) -> SignedAnswer
     ensures { λ r. ⌜ r ≡ signedAnswer (limited (signed-BS .read) (now (s .entry)) at) ⌝ }
 {
-    answers::of_i16(bitcursor::read_bs(s, at))
+    answers::of_i16(bit_codes::read_bs(s, at))
 }
 
 // BS, unsigned.
@@ -188,7 +188,7 @@ pub extern "C" fn dwg_read_bs(s: &[u8], at: usize) -> SignedAnswer
 pub extern "C" fn dwg_read_bs_u(s: &[u8], at: usize) -> CodeAnswer
     ensures { λ r. ⌜ r ≡ codeAnswer (limited (BS .read) (now (s .entry)) at) ⌝ }
 {
-    answers::of_read(bitcursor::read_bs_u(s, at))
+    answers::of_read(bit_codes::read_bs_u(s, at))
 }
 
 // BL, signed.
@@ -196,7 +196,7 @@ pub extern "C" fn dwg_read_bs_u(s: &[u8], at: usize) -> CodeAnswer
 pub extern "C" fn dwg_read_bl(s: &[u8], at: usize) -> SignedAnswer
     ensures { λ r. ⌜ r ≡ signedAnswer (limited (signed-BL .read) (now (s .entry)) at) ⌝ }
 {
-    answers::of_i32(bitcursor::read_bl(s, at))
+    answers::of_i32(bit_codes::read_bl(s, at))
 }
 
 // BL, unsigned.
@@ -204,7 +204,7 @@ pub extern "C" fn dwg_read_bl(s: &[u8], at: usize) -> SignedAnswer
 pub extern "C" fn dwg_read_bl_u(s: &[u8], at: usize) -> CodeAnswer
     ensures { λ r. ⌜ r ≡ codeAnswer (limited (BL .read) (now (s .entry)) at) ⌝ }
 {
-    answers::of_read(bitcursor::read_bl_u(s, at))
+    answers::of_read(bit_codes::read_bl_u(s, at))
 }
 
 // BLL: three bits, and that many bytes.
@@ -212,7 +212,7 @@ pub extern "C" fn dwg_read_bl_u(s: &[u8], at: usize) -> CodeAnswer
 pub extern "C" fn dwg_read_bll(s: &[u8], at: usize) -> CodeAnswer
     ensures { λ r. ⌜ r ≡ codeAnswer (limited (BLL .read) (now (s .entry)) at) ⌝ }
 {
-    answers::of_read(bitcursor::read_bll(s, at))
+    answers::of_read(bit_codes::read_bll(s, at))
 }
 
 // BD, as the double.
@@ -220,7 +220,7 @@ pub extern "C" fn dwg_read_bll(s: &[u8], at: usize) -> CodeAnswer
 pub extern "C" fn dwg_read_bd(s: &[u8], at: usize) -> DoubleAnswer
     ensures { λ r. ⌜ r ≡ doubleAnswer (limited (BD .read) (now (s .entry)) at) ⌝ }
 {
-    answers::of_f64(bitcursor::read_bd(s, at))
+    answers::of_f64(bit_codes::read_bd(s, at))
 }
 
 // BD, as its 64 bits.
@@ -228,7 +228,7 @@ pub extern "C" fn dwg_read_bd(s: &[u8], at: usize) -> DoubleAnswer
 pub extern "C" fn dwg_read_bd_bits(s: &[u8], at: usize) -> CodeAnswer
     ensures { λ r. ⌜ r ≡ codeAnswer (limited (BD .read) (now (s .entry)) at) ⌝ }
 {
-    answers::of_read(bitcursor::read_bd_bits(s, at))
+    answers::of_read(bit_codes::read_bd_bits(s, at))
 }
 
 // DD with a default, as doubles.
@@ -236,7 +236,7 @@ pub extern "C" fn dwg_read_bd_bits(s: &[u8], at: usize) -> CodeAnswer
 pub extern "C" fn dwg_read_dd(s: &[u8], at: usize, default: f64) -> DoubleAnswer
     ensures { λ r. ⌜ r ≡ doubleAnswer (limited ((DD (toBits binary64 default)) .read) (now (s .entry)) at) ⌝ }
 {
-    answers::of_f64(bitcursor::read_dd(s, at, default))
+    answers::of_f64(bit_codes::read_dd(s, at, default))
 }
 
 // DD with a default, as their 64 bits.
@@ -244,7 +244,7 @@ pub extern "C" fn dwg_read_dd(s: &[u8], at: usize, default: f64) -> DoubleAnswer
 pub extern "C" fn dwg_read_dd_bits(s: &[u8], at: usize, default: u64) -> CodeAnswer
     ensures { λ r. ⌜ r ≡ codeAnswer (limited ((DD default) .read) (now (s .entry)) at) ⌝ }
 {
-    answers::of_read(bitcursor::read_dd_bits(s, at, default))
+    answers::of_read(bit_codes::read_dd_bits(s, at, default))
 }
 
 // A handle: code, counter, and that many bytes with the high one first.
@@ -252,7 +252,7 @@ pub extern "C" fn dwg_read_dd_bits(s: &[u8], at: usize, default: u64) -> CodeAns
 pub extern "C" fn dwg_read_handle(s: &[u8], at: usize) -> HandleAnswer
     ensures { λ r. ⌜ r ≡ handleAnswer (limited (HANDLE .read) (now (s .entry)) at) ⌝ }
 {
-    answers::of_handle(bitcursor::read_handle(s, at))
+    answers::of_handle(bit_codes::read_handle(s, at))
 }
 
 // TV: inline text of a release.

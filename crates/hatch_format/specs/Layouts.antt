@@ -11,7 +11,7 @@ use Rattle.bitcursor.specs.Code.{Code, Laid}
 use Rattle.bitcursor.specs.Chains.{_⨾_, Nothing, EachBy, Each}
 use Rattle.bitcursor.specs.Codes.{B, RC, RD, BS, signed-BS, BL}
 use Rattle.bitcursor.specs.Doubles.{BD}
-use Rattle.bitcursor.specs.Sequence.{held}
+use Rattle.bitcursor.specs.Held.{held}
 use Rattle.bitcursor.specs.Inputs.{Places, Payloads}
 use Rattle.bitcursor.specs.Fields.{main, Within}
 use Rattle.text.specs.declared.Text.{Text}

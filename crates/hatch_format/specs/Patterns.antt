@@ -6,7 +6,7 @@ use Prim.Native.Nat.{ℕ, _+_, _≤_}
 use native.Mathlib.Omega.{arith}
 use Rattle.bitcursor.specs.Codes.{B, BS, BL}
 use Rattle.bitcursor.specs.Doubles.{BD}
-use Rattle.bitcursor.specs.Sequence.{held}
+use Rattle.bitcursor.specs.Held.{held}
 use Rattle.bitcursor.specs.Format.{Format, pure, _>>=_, relay}
 use Rattle.bitcursor.specs.Inputs.{one}
 use Rattle.bitcursor.specs.Fields.{coded}

@@ -18,7 +18,7 @@ use Rattle.bitcursor.specs.Code.{_>>=_ as _then_, give, mapped, tabled}
 use Rattle.bitcursor.specs.Codes.{BS, BL, RC, signed, signed-BS}
 use Rattle.bitcursor.specs.Doubles.{BD}
 use Rattle.bitcursor.specs.Answers.{asRead}
-use Rattle.bitcursor.specs.Sequence.{thenRead, valueOf}
+use Rattle.sequence.specs.Sequence.{thenRead, valueOf}
 use Rattle.bitcursor.specs.Format.{Format, pure, _>>=_, relay}
 use Rattle.bitcursor.specs.Inputs.{one}
 use Rattle.bitcursor.specs.Fields.{coded}

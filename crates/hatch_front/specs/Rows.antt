@@ -4,7 +4,7 @@ use Prim.Native.Nat.{ℕ}
 use Rattle.bitcursor.specs.Codes.{BL}
 use Rattle.bitcursor.specs.Doubles.{BD}
 use Rattle.bitcursor.specs.Answers.{asRead}
-use Rattle.bitcursor.specs.Sequence.{thenRead, valueOf}
+use Rattle.sequence.specs.Sequence.{thenRead, valueOf}
 use Rattle.hatch_format.specs.Counts.{bounded}
 use Rattle.hatch_front.specs.declared.gradients.BlockHead.{BlockHead}
 

@@ -11,7 +11,6 @@ ghost use Rattle.hatch_front.specs.Answers.{colorOf, passedOf, sixteenOf
 use bitcursor::Passed;
 use bitcursor::Read;
 use bitcursor::Refusal;
-use bitcursor::sequence;
 use bitcursor::values;
 use hatch_format::GradientColor;
 use hatch_format::GradientColorBits;

@@ -15,7 +15,6 @@ use crate::colors;
 use bitcursor::Passed;
 use bitcursor::Read;
 use bitcursor::Refusal;
-use bitcursor::sequence;
 use hatch_points::counts;
 use text::Places;
 use text::ReadField;

@@ -11,7 +11,6 @@ ghost use Rattle.hatch_front.specs.Fronts.{named, front};
 ghost use Rattle.hatch_front.specs.Answers.{planeOf, withGradient, FrontIs};
 use bitcursor::Read;
 use bitcursor::Refusal;
-use bitcursor::sequence;
 use hatch_format::Caps;
 use text::Places;
 use text::ReadField;

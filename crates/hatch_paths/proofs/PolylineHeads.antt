@@ -14,7 +14,8 @@ use Rattle.bitcursor.specs.Code.{raw}
 use Rattle.bitcursor.specs.Codes.{B, BL}
 use Rattle.bitcursor.specs.Answers.{asRead}
 use Rattle.bitcursor.specs.Ranges.{raw-below}
-use Rattle.bitcursor.specs.Sequence.{held, thenRead, valueOf, step-below}
+use Rattle.bitcursor.specs.Held.{held}
+use Rattle.sequence.specs.Sequence.{thenRead, valueOf, step-below}
 use Rattle.bitcursor.specs.Fields.{coded}
 use Rattle.bitcursor.specs.Format.{Format, pure, _>>=_}
 use Rattle.bitcursor.specs.Inputs.{one}

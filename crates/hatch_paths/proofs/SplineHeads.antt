@@ -12,7 +12,7 @@ use Rattle.bitcursor.specs.Code.{raw}
 use Rattle.bitcursor.specs.Codes.{BL}
 use Rattle.bitcursor.specs.Answers.{asRead}
 use Rattle.bitcursor.specs.Ranges.{raw-below, BL-below}
-use Rattle.bitcursor.specs.Sequence.{thenRead, valueOf, step-below}
+use Rattle.sequence.specs.Sequence.{thenRead, valueOf, step-below}
 use Rattle.bitcursor.specs.Fields.{coded}
 use Rattle.hatch_format.specs.declared.Caps.{Caps}
 use Rattle.hatch_format.specs.Takes.{takes-BL}

@@ -9,7 +9,7 @@ use Rattle.bitcursor.specs.Bits.{bit}
 use Rattle.bitcursor.specs.Code.{raw}
 use Rattle.bitcursor.specs.Codes.{B, BL}
 use Rattle.bitcursor.specs.Answers.{asRead}
-use Rattle.bitcursor.specs.Sequence.{thenRead, valueOf}
+use Rattle.sequence.specs.Sequence.{thenRead, valueOf}
 use Rattle.bitcursor.specs.Format.{Format, pure, _>>=_}
 use Rattle.bitcursor.specs.Inputs.{one}
 use Rattle.bitcursor.specs.Fields.{coded}

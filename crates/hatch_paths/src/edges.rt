@@ -13,7 +13,6 @@ ghost use Rattle.hatch_paths.specs.Splines.{splineHead};
 ghost use Rattle.hatch_format.specs.Caps.{documentCaps, NowhereAbove};
 use bitcursor::Read;
 use bitcursor::Refusal;
-use bitcursor::sequence;
 use hatch_format::Caps;
 use hatch_points::counts;
 use hatch_points::lists;

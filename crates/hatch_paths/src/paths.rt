@@ -10,7 +10,6 @@ ghost use Rattle.hatch_points.specs.Lists.{lists, Ready, Walks};
 ghost use Rattle.hatch_format.specs.Caps.{documentCaps, NowhereAbove};
 use crate::edges;
 use bitcursor::Read;
-use bitcursor::sequence;
 use hatch_format::Caps;
 use hatch_points::counts;
 use hatch_points::lists;

@@ -10,7 +10,7 @@ use Rattle.bitcursor.specs.Bits.{size}
 use Rattle.bitcursor.specs.Reading.{Out, got, refused, andThen}
 use Rattle.bitcursor.specs.Code.{Code}
 use Rattle.bitcursor.specs.Answers.{asRead}
-use Rattle.bitcursor.specs.Sequence.{thenRead}
+use Rattle.sequence.specs.Sequence.{thenRead}
 use Rattle.bitcursor.specs.Format.{Format, _>>=_, relay}
 use Rattle.bitcursor.specs.Inputs.{one}
 use Rattle.bitcursor.specs.Fields.{coded}

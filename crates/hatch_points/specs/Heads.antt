@@ -15,7 +15,7 @@ use Rattle.bitcursor.specs.Reading.{Out, got, refused, andThen}
 use Rattle.bitcursor.specs.Code.{Code, raw, _>>=_ as _then_, give, mapped, tabled}
 use Rattle.bitcursor.specs.Codes.{B, B-read, BL}
 use Rattle.bitcursor.specs.Answers.{asRead}
-use Rattle.bitcursor.specs.Sequence.{thenRead, valueOf}
+use Rattle.sequence.specs.Sequence.{thenRead, valueOf}
 use Rattle.bitcursor.specs.Format.{Format, pure, refuse, _>>=_, relay, either}
 use Rattle.bitcursor.specs.Inputs.{one}
 use Rattle.bitcursor.specs.Fields.{coded, asked, at-least}

@@ -10,7 +10,7 @@ use Rattle.bitcursor.specs.Reading.{Out, got, refused, andThen}
 use Rattle.bitcursor.specs.Code.{Code, give}
 use Rattle.bitcursor.specs.Codes.{RD}
 use Rattle.bitcursor.specs.Doubles.{BD}
-use Rattle.bitcursor.specs.Sequence.{held}
+use Rattle.bitcursor.specs.Held.{held}
 use Rattle.bitcursor.specs.Format.{Format, pure, _>>=_, relay}
 use Rattle.bitcursor.specs.Inputs.{one}
 use Rattle.bitcursor.specs.Fields.{coded}

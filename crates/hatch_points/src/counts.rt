@@ -6,7 +6,7 @@ ghost use lib.ListN.{length};
 ghost use Rattle.bitcursor.specs.Answers.{limit, asRead};
 ghost use Rattle.bitcursor.specs.Bits.{size};
 ghost use Rattle.bitcursor.specs.Codes.{BL, BS};
-ghost use Rattle.bitcursor.specs.Sequence.{thenRead};
+ghost use Rattle.sequence.specs.Sequence.{thenRead};
 ghost use Rattle.hatch_format.specs.Counts.{bounded};
 ghost use Rattle.hatch_points.specs.Heads.{boundsOf};
 use bitcursor::Read;

@@ -11,7 +11,7 @@ use Rattle.bitcursor.specs.declared.Read.the-variants.{Value, Refused}
 use Rattle.bitcursor.specs.Reading.{Out, got, refused}
 use Rattle.bitcursor.specs.Codes.{BS}
 use Rattle.bitcursor.specs.Ranges.{BS-below}
-use Rattle.bitcursor.specs.Sequence.{thenRead, valueOf}
+use Rattle.sequence.specs.Sequence.{thenRead, valueOf}
 use Rattle.bitcursor.specs.Format.{Format, pure, _>>=_, relay, then-got, then-refused}
 use Rattle.bitcursor.specs.Inputs.{one}
 use Rattle.bitcursor.specs.Fields.{coded}

@@ -14,7 +14,6 @@ use crate::patterns::Tail;
 use crate::patterns::TailWalk;
 use bitcursor::Read;
 use bitcursor::Refusal;
-use bitcursor::sequence;
 use hatch_format::Caps;
 use hatch_paths::paths;
 use hatch_points::counts;

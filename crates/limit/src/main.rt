@@ -69,15 +69,15 @@ fn bits() {
     let s: &[u8] = &all;
     line(
         b"b 2 5 z268435457",
-        codes::of_bool(bitcursor::read_b(s, START)),
+        codes::of_bool(bit_codes::read_b(s, START)),
     );
     line(
         b"bb 2 5 z268435457",
-        codes::of_read(bitcursor::read_bb(s, START)),
+        codes::of_read(bit_codes::read_bb(s, START)),
     );
     line(
         b"3b 2 5 z268435457",
-        codes::of_read(bitcursor::read_3b(s, START)),
+        codes::of_read(bit_codes::read_3b(s, START)),
     );
 }
 
@@ -86,11 +86,11 @@ fn shorts() {
     let s: &[u8] = &all;
     line(
         b"bs 2 5 z268435457",
-        codes::of_i16(bitcursor::read_bs(s, START)),
+        codes::of_i16(bit_codes::read_bs(s, START)),
     );
     line(
         b"bsu 2 5 z268435457",
-        codes::of_read(bitcursor::read_bs_u(s, START)),
+        codes::of_read(bit_codes::read_bs_u(s, START)),
     );
 }
 
@@ -99,11 +99,11 @@ fn longs() {
     let s: &[u8] = &all;
     line(
         b"bl 2 5 z268435457",
-        codes::of_i32(bitcursor::read_bl(s, START)),
+        codes::of_i32(bit_codes::read_bl(s, START)),
     );
     line(
         b"blu 2 5 z268435457",
-        codes::of_read(bitcursor::read_bl_u(s, START)),
+        codes::of_read(bit_codes::read_bl_u(s, START)),
     );
 }
 
@@ -112,11 +112,11 @@ fn double_and_long_long() {
     let s: &[u8] = &all;
     line(
         b"bd 2 5 z268435457",
-        codes::of_read(bitcursor::read_bd_bits(s, START)),
+        codes::of_read(bit_codes::read_bd_bits(s, START)),
     );
     line(
         b"bll 2 5 z268435457",
-        codes::of_read(bitcursor::read_bll(s, START)),
+        codes::of_read(bit_codes::read_bll(s, START)),
     );
 }
 
@@ -125,19 +125,19 @@ fn raw() {
     let s: &[u8] = &all;
     line(
         b"rc 2 5 z268435457",
-        codes::of_read(bitcursor::read_rc(s, START)),
+        codes::of_read(bit_codes::read_rc(s, START)),
     );
     line(
         b"rs 2 5 z268435457",
-        codes::of_i16(bitcursor::read_rs(s, START)),
+        codes::of_i16(bit_codes::read_rs(s, START)),
     );
     line(
         b"rl 2 5 z268435457",
-        codes::of_read(bitcursor::read_rl(s, START)),
+        codes::of_read(bit_codes::read_rl(s, START)),
     );
     line(
         b"rd 2 5 z268435457",
-        codes::of_read(bitcursor::read_rd_bits(s, START)),
+        codes::of_read(bit_codes::read_rd_bits(s, START)),
     );
 }
 
@@ -146,11 +146,11 @@ fn handle_and_default() {
     let s: &[u8] = &all;
     line(
         b"handle 2 5 z268435457",
-        codes::of_handle(bitcursor::read_handle(s, START)),
+        codes::of_handle(bit_codes::read_handle(s, START)),
     );
     line(
         b"dd 2 5 z268435457 3ff0000000000000",
-        codes::of_read(bitcursor::read_dd_bits(s, START, 0x3ff0_0000_0000_0000)),
+        codes::of_read(bit_codes::read_dd_bits(s, START, 0x3ff0_0000_0000_0000)),
     );
 }
 
@@ -170,15 +170,15 @@ fn doubles() {
     let s: &[u8] = &all;
     line(
         b"bd 2 5 z268435457",
-        codes::of_f64(bitcursor::read_bd(s, START)),
+        codes::of_f64(bit_codes::read_bd(s, START)),
     );
     line(
         b"rd 2 5 z268435457",
-        codes::of_f64(bitcursor::read_rd(s, START)),
+        codes::of_f64(bit_codes::read_rd(s, START)),
     );
     line(
         b"dd 2 5 z268435457 3ff0000000000000",
-        codes::of_f64(bitcursor::read_dd(s, START, 1.0)),
+        codes::of_f64(bit_codes::read_dd(s, START, 1.0)),
     );
 }
 

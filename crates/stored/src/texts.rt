@@ -23,9 +23,9 @@ fn source_number(source: Source) -> u64 {
 
 fn unit(s: &[u8], at: usize, width: u8) -> Code {
     if width == 16 {
-        return answers::of_i16(bitcursor::read_rs(s, at));
+        return answers::of_i16(bit_codes::read_rs(s, at));
     }
-    answers::of_read(bitcursor::read_rc(s, at))
+    answers::of_read(bit_codes::read_rc(s, at))
 }
 
 // Puts the unit at `at` into `found`; the place after it. An RS is signed and a unit is not: its low 16 bits are the unit.

@@ -1,7 +1,7 @@
 -- Each field goes on from the one before it, and the last answer decides.
 use mathlib.Core.Path.{sym, ap, _∙_}
 use denote.Ref.{now}
-use Rattle.bitcursor.specs.Sequence.{valueOf}
+use Rattle.sequence.specs.Sequence.{valueOf}
 use Rattle.bitcursor.specs.Format.{pure}
 use Rattle.hatch_front.specs.Answers.{planeOf}
 use Rattle.hatch_front.proofs.FrontLaws.{planeWith, plane-row, row-done, row-refused}

@@ -1,7 +1,7 @@
 -- Each step goes on from the one before it.
 use mathlib.Core.Path.{_≡_, refl, sym, ap, _∙_}
 use Rattle.bitcursor.specs.Codes.{BB}
-use Rattle.bitcursor.specs.Sequence.{held}
+use Rattle.bitcursor.specs.Held.{held}
 use Rattle.common_entity.specs.Parts.{modesOf}
 use borrow.Author.Needs.{needs}
 use Rattle.common_entity.proofs.parts.read_modes.Statement.{statement}

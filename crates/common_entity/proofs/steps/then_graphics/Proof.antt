@@ -7,8 +7,10 @@ use borrow.Author.Tests.{eq-eqb, ne-eqb}
 use Rattle.bitcursor.specs.Code.{Code, raw, give}
 use Rattle.bitcursor.specs.Handles.{checked}
 use Rattle.bitcursor.specs.Answers.{asRead}
-use Rattle.bitcursor.specs.Sequence.{held, thenRead}
-use Rattle.bitcursor.proofs.Steps.{then-on, then-off, checked-yes, checked-no}
+use Rattle.bitcursor.specs.Held.{held}
+use Rattle.sequence.specs.Sequence.{thenRead}
+use Rattle.bitcursor.proofs.Steps.{checked-yes, checked-no}
+use Rattle.sequence.proofs.Steps.{then-on, then-off}
 use Rattle.common_entity.specs.Prefix.{BIT, drawing, graphics}
 use borrow.Author.Needs.{needs}
 use Rattle.common_entity.proofs.steps.then_graphics.Statement.{statement}

@@ -4,7 +4,8 @@ use Prim.Native.Nat.{ℕ, _+_, _-_, _≤_, _<_}
 use denote.Ref.{now}
 use Rattle.bitcursor.specs.Code.{Code, give}
 use Rattle.bitcursor.specs.Answers.{asRead}
-use Rattle.bitcursor.specs.Sequence.{held, thenRead, held-yes, held-no}
+use Rattle.bitcursor.specs.Held.{held, held-yes, held-no}
+use Rattle.sequence.specs.Sequence.{thenRead}
 use Rattle.common_entity.specs.Prefix.{name}
 use Rattle.common_entity.proofs.Laws.{name-found, name-refused}
 use borrow.Author.Needs.{needs}

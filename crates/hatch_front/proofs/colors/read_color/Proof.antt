@@ -10,7 +10,8 @@ use Rattle.bitcursor.specs.declared.Read.{Read}
 use Rattle.bitcursor.specs.Bytes.{lowFirst}
 use Rattle.bitcursor.specs.Codes.{BS, BL, RC, signed}
 use Rattle.bitcursor.specs.Ranges.{BS-below, BL-below, low-below}
-use Rattle.bitcursor.specs.Sequence.{held, valueOf, step-below, held-below}
+use Rattle.bitcursor.specs.Held.{held, held-below}
+use Rattle.sequence.specs.Sequence.{valueOf, step-below}
 use Rattle.bitcursor.specs.Format.{pure}
 use Rattle.hatch_front.specs.Answers.{colorOf}
 use Rattle.hatch_front.proofs.FrontLaws.{colorWith, color-row, row-done, row-refused}

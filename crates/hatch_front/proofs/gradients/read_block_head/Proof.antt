@@ -1,5 +1,5 @@
 -- Each field goes on from the one before it.
-use Rattle.bitcursor.specs.Sequence.{held}
+use Rattle.bitcursor.specs.Held.{held}
 use Rattle.hatch_front.specs.Rows.{blockHead}
 use borrow.Author.Needs.{needs}
 use Rattle.hatch_front.proofs.gradients.read_block_head.Statement.{statement}

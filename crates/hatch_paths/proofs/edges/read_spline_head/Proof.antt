@@ -4,15 +4,15 @@ use mathlib.Core.List.{List, [], _∷_}
 use Prim.Native.Nat.{ℕ, _+_, _-_, _*_, _^_, _≤_, _<_}
 use native.Mathlib.Omega.{arith}
 use denote.Ref.{now}
-use Rattle.bitcursor.specs.Sequence.{held}
+use Rattle.bitcursor.specs.Held.{held}
 use Rattle.hatch_paths.specs.Splines.{splineHead}
 use borrow.Author.Needs.{needs}
 use Rattle.hatch_paths.proofs.edges.read_spline_head.Statement.{statement}
 use Rattle.hatch_paths.proofs.edges.read_spline_head.Tie as tie
 use Rattle.hatch_paths.proofs.edges.read_spline_head.Reads as reads
 use Rattle.hatch_paths.proofs.edges.read_spline_head.Lts as lts
-use Rattle.bitcursor.proofs.sequence.then_bits.Reads as then-bits-reads
-use Rattle.bitcursor.proofs.sequence.value_of.Reads as value-of-reads
+use Rattle.sequence.proofs.then_bits.Reads as then-bits-reads
+use Rattle.sequence.proofs.value_of.Reads as value-of-reads
 use Rattle.bitcursor.proofs.within.read_bl_u.Reads as read-bl-u-reads
 use Rattle.hatch_points.proofs.counts.then_count.Reads as then-count-reads
 

@@ -8,7 +8,7 @@ use mathlib.Core.Bool.{Bool}
 use lib.Dec.{eqb}
 use lib.Seq.{sets}
 use Rattle.bitcursor.specs.Bits.{bit}
-use Rattle.bitcursor.specs.Sequence.{valueOf}
+use Rattle.sequence.specs.Sequence.{valueOf}
 use Rattle.hatch_points.specs.Walks.{vertices-walk}
 use Rattle.hatch_paths.specs.PathWalks.{polyline-walk}
 use Rattle.hatch_points.specs.Heads.{resumed}
@@ -20,8 +20,8 @@ use Rattle.hatch_paths.proofs.paths.decode_polyline_path.Statement.{sta
 use Rattle.hatch_paths.proofs.paths.decode_polyline_path.Tie as tie
 use Rattle.hatch_paths.proofs.paths.decode_polyline_path.Reads as reads
 use Rattle.hatch_paths.proofs.paths.decode_polyline_path.Lts as lts
-use Rattle.bitcursor.proofs.sequence.then_bits.Reads as then-bits-reads
-use Rattle.bitcursor.proofs.sequence.value_of.Reads as value-of-reads
+use Rattle.sequence.proofs.then_bits.Reads as then-bits-reads
+use Rattle.sequence.proofs.value_of.Reads as value-of-reads
 use Rattle.bitcursor.proofs.within.read_bits.Reads as read-bits-reads
 use Rattle.hatch_points.proofs.counts.then_count.Reads as then-count-reads
 use Rattle.hatch_points.proofs.vertices.decode_points.Reads as decode-points-reads

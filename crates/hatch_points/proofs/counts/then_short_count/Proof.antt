@@ -2,7 +2,7 @@
 use mathlib.Core.Path.{sym, ap, _∙_}
 use denote.Ref.{now}
 use Rattle.bitcursor.specs.Codes.{BS}
-use Rattle.bitcursor.specs.Sequence.{thenRead}
+use Rattle.sequence.specs.Sequence.{thenRead}
 use Rattle.hatch_format.specs.Counts.{bounded}
 use borrow.Author.Needs.{needs}
 use Rattle.hatch_points.proofs.counts.then_short_count.Statement.{statement}

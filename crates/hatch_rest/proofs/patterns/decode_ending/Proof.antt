@@ -10,7 +10,7 @@ use Rattle.hatch_rest.proofs.patterns.decode_ending.Statement.{statemen
 use Rattle.hatch_rest.proofs.patterns.decode_ending.Tie as tie
 use Rattle.hatch_rest.proofs.patterns.decode_ending.Reads as reads
 use Rattle.hatch_rest.proofs.patterns.decode_ending.Lts as lts
-use Rattle.bitcursor.proofs.sequence.value_of.Reads as value-of-reads
+use Rattle.sequence.proofs.value_of.Reads as value-of-reads
 use Rattle.hatch_points.proofs.counts.then_count.Reads as then-count-reads
 use Rattle.hatch_rest.proofs.patterns.read_pixel_size.Reads as read-pixel-size-reads
 use Rattle.hatch_points.proofs.runs.raw_run.Reads as raw-run-reads

@@ -10,9 +10,9 @@ use Rattle.hatch_rest.proofs.patterns.decode_open_pattern.Statement.{st
 use Rattle.hatch_rest.proofs.patterns.decode_open_pattern.Tie as tie
 use Rattle.hatch_rest.proofs.patterns.decode_open_pattern.Reads as reads
 use Rattle.hatch_rest.proofs.patterns.decode_open_pattern.Lts as lts
-use Rattle.bitcursor.proofs.sequence.then_bd_bits.Reads as then-bd-bits-reads
-use Rattle.bitcursor.proofs.sequence.then_bits.Reads as then-bits-reads
-use Rattle.bitcursor.proofs.sequence.value_of.Reads as value-of-reads
+use Rattle.sequence.proofs.then_bd_bits.Reads as then-bd-bits-reads
+use Rattle.sequence.proofs.then_bits.Reads as then-bits-reads
+use Rattle.sequence.proofs.value_of.Reads as value-of-reads
 use Rattle.hatch_points.proofs.counts.then_short_count.Reads as then-short-count-reads
 use Rattle.hatch_rest.proofs.patterns.decode_pattern_lines.Reads as decode-pattern-lines-reads
 

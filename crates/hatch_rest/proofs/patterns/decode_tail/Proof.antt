@@ -10,8 +10,8 @@ use Rattle.hatch_rest.proofs.patterns.decode_tail.Statement.{statement}
 use Rattle.hatch_rest.proofs.patterns.decode_tail.Tie as tie
 use Rattle.hatch_rest.proofs.patterns.decode_tail.Reads as reads
 use Rattle.hatch_rest.proofs.patterns.decode_tail.Lts as lts
-use Rattle.bitcursor.proofs.sequence.then_bs.Reads as then-bs-reads
-use Rattle.bitcursor.proofs.sequence.value_of.Reads as value-of-reads
+use Rattle.sequence.proofs.then_bs.Reads as then-bs-reads
+use Rattle.sequence.proofs.value_of.Reads as value-of-reads
 use Rattle.bitcursor.proofs.within.read_bs_u.Reads as read-bs-u-reads
 use Rattle.hatch_rest.proofs.patterns.decode_ending.Reads as decode-ending-reads
 use Rattle.hatch_rest.proofs.patterns.decode_pattern.Reads as decode-pattern-reads

@@ -5,7 +5,7 @@ use denote.Ref.{now}
 use Rattle.bitcursor.specs.Doubles.{BD}
 use Rattle.bitcursor.specs.Code.{Code, give}
 use Rattle.bitcursor.specs.Answers.{asRead}
-use Rattle.bitcursor.specs.Sequence.{held-yes, held-no}
+use Rattle.bitcursor.specs.Held.{held-yes, held-no}
 use borrow.Author.Needs.{needs}
 use Rattle.hatch_rest.proofs.patterns.read_pixel_size.Statement.{statement}
 use Rattle.hatch_rest.proofs.patterns.read_pixel_size.Tie as tie

@@ -4,7 +4,7 @@ use mathlib.Core.Bool.{Bool}
 use Prim.Native.Nat.{ℕ}
 use denote.Ref.{now}
 use lib.Dec.{eqb}
-use Rattle.bitcursor.specs.Sequence.{valueOf}
+use Rattle.sequence.specs.Sequence.{valueOf}
 use Rattle.hatch_format.specs.Patterns.{tail, rest}
 use Rattle.hatch_rest.specs.Tails.{Gives, tailEntries, tailWalk}
 use Rattle.hatch_rest.specs.declared.rests.RestWalk.the-variants.{Done}
@@ -17,8 +17,8 @@ use Rattle.hatch_rest.proofs.rests.decode_rest.Statement.{statement}
 use Rattle.hatch_rest.proofs.rests.decode_rest.Tie as tie
 use Rattle.hatch_rest.proofs.rests.decode_rest.Reads as reads
 use Rattle.hatch_rest.proofs.rests.decode_rest.Lts as lts
-use Rattle.bitcursor.proofs.sequence.then_bits.Reads as then-bits-reads
-use Rattle.bitcursor.proofs.sequence.value_of.Reads as value-of-reads
+use Rattle.sequence.proofs.then_bits.Reads as then-bits-reads
+use Rattle.sequence.proofs.value_of.Reads as value-of-reads
 use Rattle.bitcursor.proofs.within.read_bits.Reads as read-bits-reads
 use Rattle.hatch_points.proofs.counts.then_count.Reads as then-count-reads
 use Rattle.hatch_paths.proofs.paths.decode_paths.Reads as decode-paths-reads
