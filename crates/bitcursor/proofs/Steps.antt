@@ -14,7 +14,7 @@ use Rattle.bitcursor.specs.declared.Read.{Read}
 use Rattle.bitcursor.specs.declared.Read.the-variants.{Value, Refused}
 use Rattle.bitcursor.specs.declared.Passed.{Passed}
 use Rattle.bitcursor.specs.declared.Passed.the-variants.{To, Refused as RefusedPassed}
-use Rattle.bitcursor.specs.Bits.{size}
+use Rattle.loads.specs.Bits.{size, limit}
 use Rattle.bitcursor.specs.Reading.{Out, got, refused, andThen, never}
 use Rattle.bitcursor.specs.Code.{Code, raw, _>>=_, mapped, tabled, give}
 use Rattle.bitcursor.specs.Codes.{byTag, tagged}
@@ -24,7 +24,7 @@ use Rattle.bitcursor.specs.declared.Handle.{Handle}
 use Rattle.bitcursor.specs.declared.ReadHandle.{ReadHandle}
 use Rattle.bitcursor.specs.declared.ReadHandle.the-variants.{Value as ValueHandle, Refused as RefusedHandle}
 use Rattle.bitcursor.specs.Handles.{checked}
-use Rattle.bitcursor.specs.Answers.{asRead, asPassed, asHandle, limit, limited}
+use Rattle.bitcursor.specs.Answers.{asRead, asPassed, asHandle, limited}
 
 -- what was read, from what the call answered
 pub read-value : (o : Out ℕ ℕ) {x : Read} {v p : ℕ} → x ≡ asRead o → x ≡ Value v p → o ≡ got v p

@@ -7,6 +7,7 @@ use lib.Dec.{leb, eqb}
 use lib.Ieee.{Float, ofBits, binary64}
 use lib.IntN.{ℤ}
 use lib.ListN.{length}
+use Rattle.loads.specs.Bits.{limit}
 use Rattle.bitcursor.specs.declared.Refusal.the-variants.{PayloadTooLong}
 use Rattle.bitcursor.specs.declared.Read.{Read}
 use Rattle.bitcursor.specs.declared.Read.the-variants.{Value, Refused}
@@ -76,10 +77,6 @@ asHandle (refused r p) = RefusedHandle r p
 abbrev pub asPassed : Out ℕ (Unit {0}) → Passed
 asPassed (got u p) = To p
 asPassed (refused r p) = RefusedPassed r p
-
--- document 01's limit, in bytes
-abbrev pub limit : ℕ
-limit = 268_435_456
 
 -- a reading of any payload: refusal 10 at the place where the payload is above the limit
 unfoldable pub limited : {A : Type 0} → (List ℕ → ℕ → Out ℕ A) → List ℕ → ℕ → Out ℕ A

@@ -12,10 +12,10 @@ use lib.Dec.{leb, leb→le}
 use borrow.Author.Tests.{le-leb, leb-true, not-false}
 use Rattle.bitcursor.specs.declared.Refusal.{Refusal}
 use Rattle.bitcursor.specs.declared.Refusal.the-variants.{TooFewBits}
-use Rattle.bitcursor.specs.Bits.{size, window, number, digits, Stands, Alike, Begins}
-use Rattle.bitcursor.specs.BitLaws.{length-digits, number-digits, digits-number, number-lt, window-whole}
-use Rattle.bitcursor.specs.BitLaws.{stands-fits, stands-window, stands-none, stands-join, stands-left, stands-right}
-use Rattle.bitcursor.specs.BitLaws.{alike-down, alike-window, begins-size, begins-window}
+use Rattle.loads.specs.Bits.{size, window, number, digits, Stands, Alike, Begins}
+use Rattle.loads.specs.BitLaws.{length-digits, number-digits, digits-number, number-lt, window-whole}
+use Rattle.loads.specs.BitLaws.{stands-fits, stands-window, stands-none, stands-join, stands-left, stands-right}
+use Rattle.loads.specs.BitLaws.{alike-down, alike-window, begins-size, begins-window}
 use Rattle.bitcursor.specs.Refusals.{OfFields}
 use Rattle.bitcursor.specs.Reading.{Out, got, refused, place, andThen, never, missing, Lacking, shortThen, then-why, then-longer, lacking-on, Fielded}
 use Rattle.bitcursor.specs.Reading.{then-fielded}

@@ -10,9 +10,10 @@ use lib.Dec.{leb, ltb, eqb, leb→le}
 use borrow.Author.Tests.{le-leb}
 use Rattle.bitcursor.specs.declared.Refusal.the-variants.{ReservedTag, HandleCounter}
 use Rattle.bitcursor.specs.declared.Handle.{Handle}
-use Rattle.bitcursor.specs.Bits.{bitsOf, digits}
+use Rattle.loads.specs.Bits.{bitsOf, digits}
 use Rattle.bitcursor.specs.Code.{Code, give, refuse, raw, _>>=_, tabled, mapped}
-use Rattle.bitcursor.specs.Bytes.{lowBytes, lowFirst, highFirst}
+use Rattle.bitcursor.specs.Bytes.{lowFirst, highFirst}
+use Rattle.loads.specs.Bytes.{lowBytes}
 
 -- the two bits, as the specification writes them
 abbrev pub O : Bool

@@ -5,9 +5,10 @@ use mathlib.Core.List.{List, [], _∷_, _++_, append-nil}
 use Prim.Native.Nat.{ℕ, _+_, _*_, _/_, _^_, _<_}
 use native.Mathlib.Omega.{arith}
 use Rattle.bitcursor.specs.declared.Refusal.the-variants.{ReservedTag}
-use Rattle.bitcursor.specs.Bits.{bitsOf}
+use Rattle.loads.specs.Bits.{bitsOf}
 use Rattle.bitcursor.specs.Code.{Code, give, refuse, _>>=_, tabled, mapped}
-use Rattle.bitcursor.specs.Bytes.{lowBytes, lowFirst}
+use Rattle.bitcursor.specs.Bytes.{lowFirst}
+use Rattle.loads.specs.Bytes.{lowBytes}
 use Rattle.bitcursor.specs.Codes.{O, I, tagged, Tagged, at-00, at-01, at-10, at-11, tagged-to, tagged-from}
 
 -- the pattern of 1.0

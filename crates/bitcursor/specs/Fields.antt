@@ -8,8 +8,8 @@ use native.Mathlib.Omega.{arith}
 use lib.Dec.{leb}
 use borrow.Author.Tests.{le-leb, lt-leb, leb-true, not-false}
 use Rattle.bitcursor.specs.declared.Refusal.the-variants.{CountTooLarge}
-use Rattle.bitcursor.specs.Bits.{size, Alike, Begins}
-use Rattle.bitcursor.specs.BitLaws.{begins-size}
+use Rattle.loads.specs.Bits.{size, Alike, Begins}
+use Rattle.loads.specs.BitLaws.{begins-size}
 use Rattle.bitcursor.specs.Reading.{Out, got, refused, place, never, count, Lacking, Fielded}
 use Rattle.bitcursor.specs.Code.{Code, Laid, Moves, stay, never-true}
 use Rattle.bitcursor.specs.Format.{Format}

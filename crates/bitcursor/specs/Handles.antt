@@ -9,9 +9,10 @@ use lib.Dec.{leb, leb→le}
 use borrow.Author.Tests.{le-leb}
 use Rattle.bitcursor.specs.declared.Refusal.the-variants.{HandleCounter}
 use Rattle.bitcursor.specs.declared.Handle.{Handle}
-use Rattle.bitcursor.specs.Bits.{bitsOf, digits}
+use Rattle.loads.specs.Bits.{bitsOf, digits}
 use Rattle.bitcursor.specs.Code.{Code, give, refuse, raw, _>>=_, tabled, mapped}
-use Rattle.bitcursor.specs.Bytes.{lowBytes, lowFirst, highFirst}
+use Rattle.bitcursor.specs.Bytes.{lowFirst, highFirst}
+use Rattle.loads.specs.Bytes.{lowBytes}
 
 pub data BLL-codes : ℕ → List Bool → Type 0 where
   BLL-of : {k v : ℕ} → k < 8 → v < 256 ^ k → BLL-codes v (digits 3 k ++ bitsOf (lowBytes k v))

@@ -3,8 +3,8 @@ use mathlib.Core.Path.{_≡_, refl, ap₂}
 use mathlib.Core.Bool.{Bool}
 use mathlib.Core.List.{List}
 use Prim.Native.Nat.{ℕ}
-use Rattle.bitcursor.specs.Bits.{Alike, Begins}
-use Rattle.bitcursor.specs.BitLaws.{alike-down}
+use Rattle.loads.specs.Bits.{Alike, Begins}
+use Rattle.loads.specs.BitLaws.{alike-down}
 use Rattle.bitcursor.specs.Code.{Moves, stay, moves-then}
 use Rattle.bitcursor.specs.Format.{Input}
 

@@ -1,5 +1,3 @@
-pub mod Bits
-pub mod BitLaws
 pub mod Refusals
 pub mod Reading
 pub mod Code

@@ -11,12 +11,13 @@ use lib.ListN.{length}
 use Rattle.bitcursor.specs.declared.Refusal.{Refusal}
 use Rattle.bitcursor.specs.declared.Refusal.the-variants.{TooFewBits, ReservedTag, HandleCounter}
 use Rattle.bitcursor.specs.declared.Handle.{Handle}
-use Rattle.bitcursor.specs.Bits.{bitsOf, size, window, number, digits}
-use Rattle.bitcursor.specs.BitLaws.{digits-number, window-whole, window-add}
+use Rattle.loads.specs.Bits.{bitsOf, size, window, number, digits}
+use Rattle.loads.specs.BitLaws.{digits-number, window-whole, window-add}
 use Rattle.bitcursor.specs.Refusals.{OfFields}
 use Rattle.bitcursor.specs.Reading.{Out, got, refused, place, andThen, never}
 use Rattle.bitcursor.specs.Code.{Code, Moves, give, refuse, raw, _>>=_, tabled, mapped}
-use Rattle.bitcursor.specs.Bytes.{lowNumber, bytes, bytesAt, lowFirst, highFirst, skip, raw-there, raw-short, bytes-there, bytes-short, le-or-lt}
+use Rattle.bitcursor.specs.Bytes.{bytes, lowFirst, highFirst, skip, raw-there, raw-short, bytes-there, bytes-short, le-or-lt}
+use Rattle.loads.specs.Bytes.{lowNumber, bytesAt}
 use Rattle.bitcursor.specs.Codes.{RC, RL, RD, byTag, tagged, BS, BS-read, BL, BL-read}
 use Rattle.bitcursor.specs.Doubles.{one-pattern, BD, BD-read, DD, DD-read, low4, low6, four, six}
 use Rattle.bitcursor.specs.Handles.{BLL, BLL-read, checked, handle, HANDLE, HANDLE-value, HANDLE-read}

@@ -6,7 +6,6 @@ ghost use Rattle.bitcursor.specs.Refusals.{refusalNumber};
 
 pub mod values;
 pub mod within;
-pub mod words;
 
 // Why a reading stops: the rows of document 01's table, to which `refusalNumber` of specs/Refusals gives their numbers.
 pub enum Refusal {

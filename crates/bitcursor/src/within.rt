@@ -7,13 +7,13 @@ ghost use Rattle.bitcursor.specs.Bytes.{lowFirst, highFirst, skip};
 ghost use Rattle.bitcursor.specs.Codes.{BS, BL};
 ghost use Rattle.bitcursor.specs.Doubles.{BD, DD, four, six};
 ghost use Rattle.bitcursor.specs.Handles.{BLL, HANDLE, HANDLE-value};
-ghost use Rattle.bitcursor.specs.Answers.{limit, asRead, asHandle, asPassed};
+ghost use Rattle.bitcursor.specs.Answers.{asRead, asHandle, asPassed};
+ghost use Rattle.loads.specs.Bits.{limit};
 use crate::Handle;
 use crate::Passed;
 use crate::Read;
 use crate::ReadHandle;
 use crate::Refusal;
-use crate::words;
 
 // The next n bits.
 pub fn read_bits(s: &[u8], at: usize, n: usize) -> Read
@@ -27,7 +27,7 @@ pub fn read_bits(s: &[u8], at: usize, n: usize) -> Read
     if end - at < n {
         return Read::Refused(Refusal::TooFewBits, at);
     }
-    Read::Value(words::bits_at(s, at, n), at + n)
+    Read::Value(loads::bits_at(s, at, n), at + n)
 }
 
 // Past n bytes, by one comparison.
@@ -58,7 +58,7 @@ pub fn read_low(s: &[u8], at: usize, n: usize) -> Read
         return Read::Value(0, at);
     }
     match skip_bytes(s, at, n) {
-        Passed::To(p) => Read::Value(words::low_at(s, at, n), p),
+        Passed::To(p) => Read::Value(loads::low_at(s, at, n), p),
         Passed::Refused(k, p) => Read::Refused(k, p),
     }
 }
@@ -72,7 +72,7 @@ fn read_high(s: &[u8], at: usize, n: usize) -> Read
         return Read::Value(0, at);
     }
     match skip_bytes(s, at, n) {
-        Passed::To(p) => Read::Value(words::high_at(s, at, n), p),
+        Passed::To(p) => Read::Value(loads::high_at(s, at, n), p),
         Passed::Refused(k, p) => Read::Refused(k, p),
     }
 }
@@ -131,9 +131,9 @@ pub fn read_bd_there(s: &[u8], at: usize) -> Read
     requires { ⌜ (length (now s) ≤ limit) × (at / 8 + 10 ≤ length (now s)) ⌝ }
     ensures { λ r. ⌜ r ≡ asRead (BD .read (now (s .entry)) at) ⌝ }
 {
-    let top = words::top_at(s, at);
+    let top = loads::top_at(s, at);
     match top >> 62 {
-        0 => Read::Value(words::low_behind(s, at, top), at + 66),
+        0 => Read::Value(loads::low_behind(s, at, top), at + 66),
         1 => Read::Value(0x3ff0_0000_0000_0000, at + 2),
         2 => Read::Value(0, at + 2),
         _ => Read::Refused(Refusal::ReservedTag, at + 2),

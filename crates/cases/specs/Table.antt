@@ -4,9 +4,10 @@ use mathlib.Core.List.{List, [], _∷_}
 use Prim.Native.Nat.{ℕ}
 use lib.IntN.{ℤ, pos, negsuc}
 use lib.ListN.{length, replicate}
-use Rattle.bitcursor.specs.Bits.{bitsOf, digits, number, window}
+use Rattle.loads.specs.Bits.{bitsOf, digits, number, window}
 use Rattle.bitcursor.specs.Code.{give, refuse, raw, _>>=_, tabled, mapped, measured}
-use Rattle.bitcursor.specs.Bytes.{bytes, bytes-read, bytesAt, lowFirst, lowNumber, highFirst, skip}
+use Rattle.bitcursor.specs.Bytes.{bytes, bytes-read, lowFirst, highFirst, skip}
+use Rattle.loads.specs.Bytes.{bytesAt, lowNumber}
 use Rattle.bitcursor.specs.Codes.{byTag, tagged, B, B-read, BB, RC, RD, RL, BS, BS-read, signed-BS, BL, BL-read}
 use Rattle.bitcursor.specs.Doubles.{BD, BD-read, one-pattern}
 use Rattle.bitcursor.specs.Handles.{BLL, BLL-read, HANDLE, HANDLE-read, HANDLE-value, checked}

@@ -9,11 +9,11 @@ use lib.Dec.{leb, leb→le}
 use borrow.Author.Tests.{le-leb}
 use Rattle.bitcursor.specs.declared.Refusal.{Refusal}
 use Rattle.bitcursor.specs.declared.Refusal.the-variants.{PayloadTooLong, UnknownRelease}
-use Rattle.bitcursor.specs.Bits.{Alike}
+use Rattle.loads.specs.Bits.{Alike, limit}
 use Rattle.bitcursor.specs.Reading.{Out, got, refused, place, never}
 use Rattle.bitcursor.specs.Code.{Moves, stay}
 use Rattle.bitcursor.specs.Format.{relay}
-use Rattle.bitcursor.specs.Answers.{limit, limited}
+use Rattle.bitcursor.specs.Answers.{limited}
 use Rattle.text.specs.declared.version.Version.{Version}
 use Rattle.text.specs.declared.version.MaybeVersion.{MaybeVersion}
 use Rattle.text.specs.declared.version.MaybeVersion.the-variants.{Known, Unknown}

@@ -9,7 +9,7 @@ use lib.IntN.{ℤ}
 use lib.ListN.{length}
 use borrow.Author.Tests.{eqb-true, eqb-false, ne-eqb}
 use Rattle.bitcursor.specs.declared.Handle.{Handle}
-use Rattle.bitcursor.specs.Bits.{bit}
+use Rattle.loads.specs.Bits.{bit}
 use Rattle.bitcursor.specs.Code.{Code, Laid, raw, give, refuse, _>>=_, mapped, tabled}
 use Rattle.bitcursor.specs.Bytes.{skip}
 use Rattle.bitcursor.specs.Codes.{B, B-read, B-to, B-from, RL, BS, signed, signed-BS}

@@ -4,7 +4,7 @@ use mathlib.Core.Bool.{Bool, true, false, not, Bool·not-not}
 use mathlib.Core.List.{List, [], _∷_}
 use Prim.Native.Nat.{ℕ}
 use lib.Dec.{eqb}
-use Rattle.bitcursor.specs.Bits.{bit}
+use Rattle.loads.specs.Bits.{bit}
 use Rattle.bitcursor.specs.Code.{Code, Laid, mapped, tabled}
 use Rattle.bitcursor.specs.Codes.{RC, RL, BB, BS, BL, signed, signed-BS}
 use Rattle.bitcursor.specs.Format.{Format, relay}

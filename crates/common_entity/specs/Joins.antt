@@ -4,8 +4,8 @@ use mathlib.Core.List.{List, [], _++_}
 use Prim.Native.Nat.{ℕ, _+_}
 use native.Mathlib.Omega.{arith}
 use lib.ListN.{length, length-append}
-use Rattle.bitcursor.specs.Bits.{Stands}
-use Rattle.bitcursor.specs.BitLaws.{stands-none, stands-join, stands-left, stands-right}
+use Rattle.loads.specs.Bits.{Stands}
+use Rattle.loads.specs.BitLaws.{stands-none, stands-join, stands-left, stands-right}
 use Rattle.bitcursor.specs.Code.{Code, Laid, give, _>>=_}
 
 module _ {A B : Type 0} (c : Code A) (k : A → Code B) {xs : List ℕ} {b : B} {p q : ℕ} where

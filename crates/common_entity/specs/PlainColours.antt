@@ -6,7 +6,7 @@ use Prim.Native.Nat.{ℕ, _/_, _^_, _<_}
 use native.Mathlib.Omega.{arith}
 use Rattle.bitcursor.specs.declared.Read.{Read}
 use Rattle.bitcursor.specs.declared.Read.the-variants.{Value, Refused}
-use Rattle.bitcursor.specs.Bits.{odd}
+use Rattle.loads.specs.Bits.{odd}
 use Rattle.bitcursor.specs.Code.{raw, give}
 use Rattle.bitcursor.specs.Codes.{BS, BL}
 use Rattle.bitcursor.specs.Held.{held}

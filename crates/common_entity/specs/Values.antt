@@ -2,7 +2,7 @@
 -- Assumes nothing.
 use mathlib.Core.Bool.{Bool, not, _&&_}
 use Prim.Native.Nat.{ℕ, zero, suc, _/_, _^_}
-use Rattle.bitcursor.specs.Bits.{odd}
+use Rattle.loads.specs.Bits.{odd}
 use Rattle.common_entity.specs.declared.EntityMode.{EntityMode}
 use Rattle.common_entity.specs.declared.EntityMode.the-variants.{ByLayer, ByPreviousEntity, InBlock, Reserved}
 use Rattle.common_entity.specs.declared.MaybeLong.{MaybeLong}

@@ -4,7 +4,7 @@
 ghost use mathlib.Core.Path.{_≡_};
 ghost use Prim.Native.Nat.{_≤_};
 ghost use lib.ListN.{length};
-ghost use Rattle.bitcursor.specs.Answers.{limit};
+ghost use Rattle.loads.specs.Bits.{limit};
 ghost use Rattle.bitcursor.specs.Reading.{refused};
 ghost use Rattle.common_entity.specs.Prefix.{prefixBy};
 ghost use Rattle.common_entity.specs.Call.{prefixCall, asBits, asData};

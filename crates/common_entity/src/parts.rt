@@ -2,7 +2,7 @@
 ghost use mathlib.Core.Path.{_≡_};
 ghost use Prim.Native.Nat.{_≤_, _<_};
 ghost use lib.ListN.{length};
-ghost use Rattle.bitcursor.specs.Answers.{limit};
+ghost use Rattle.loads.specs.Bits.{limit};
 ghost use Rattle.common_entity.specs.Values.{flag};
 ghost use Rattle.common_entity.specs.Parts.{headOf, modesOf, coloursOf, stylesOf, tailOf, announcedBy};
 use crate::steps;

@@ -2,7 +2,8 @@
 ghost use mathlib.Core.Path.{_≡_};
 ghost use Prim.Native.Nat.{_≤_};
 ghost use lib.ListN.{length};
-ghost use Rattle.bitcursor.specs.Answers.{limit, asRead};
+ghost use Rattle.bitcursor.specs.Answers.{asRead};
+ghost use Rattle.loads.specs.Bits.{limit};
 ghost use Rattle.bitcursor.specs.Codes.{RL};
 ghost use Rattle.bitcursor.specs.Handles.{BLL, checked};
 ghost use Rattle.bitcursor.specs.Held.{held};

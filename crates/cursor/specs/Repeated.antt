@@ -9,7 +9,8 @@ use lib.ListN.{length}
 use Rattle.bitcursor.specs.Reading.{place}
 use Rattle.bitcursor.specs.Code.{Code, Moves, stay}
 use Rattle.bitcursor.specs.Bytes.{le-or-lt}
-use Rattle.bitcursor.specs.Answers.{limit, limited}
+use Rattle.bitcursor.specs.Answers.{limited}
+use Rattle.loads.specs.Bits.{limit}
 use Rattle.bitcursor.proofs.Steps.{limit-within, limit-above}
 use Rattle.cursor.specs.declared.BitCursor.{BitCursor}
 use Rattle.cursor.specs.Cursors.{lastPlace, placeOf, cursorAt, readAt, after}

@@ -23,7 +23,7 @@ use Rattle.text.specs.declared.Source.the-variants.{Absent, Main, String}
 use Rattle.text.specs.declared.Text.{Text}
 use Rattle.text.specs.declared.ReadText.{ReadText}
 use Rattle.text.specs.declared.ReadText.the-variants.{Found as FoundText, Refused as RefusedText}
-use Rattle.bitcursor.specs.Bits.{bit}
+use Rattle.loads.specs.Bits.{bit}
 use Rattle.bitcursor.specs.Reading.{Out, got, refused}
 use Rattle.bitcursor.specs.Refusals.{refusalNumber}
 use Rattle.bitcursor.specs.Answers.{asRead, asBool, asI16, asI32, asF64, asHandle}

@@ -9,9 +9,8 @@ use lib.ListN.{length}
 use borrow.Author.Tests.{le-leb, lt-leb}
 use Rattle.bitcursor.specs.declared.Refusal.{Refusal}
 use Rattle.bitcursor.specs.declared.Refusal.the-variants.{TooFewBits, UnknownRelease, PayloadTooLong, ListTooShort}
-use Rattle.bitcursor.specs.Bits.{size}
+use Rattle.loads.specs.Bits.{size, limit}
 use Rattle.bitcursor.specs.Reading.{Out, got, refused, place, andThen}
-use Rattle.bitcursor.specs.Answers.{limit}
 use Rattle.bitcursor.specs.Format.{pure, _>>=_, relay}
 use Rattle.bitcursor.specs.Inputs.{Places, Payloads, Onward}
 use Rattle.bitcursor.specs.Fields.{main, within, lifted, movedIn}

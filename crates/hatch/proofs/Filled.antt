@@ -8,7 +8,7 @@ use native.Mathlib.Omega.{arith}
 use lib.ListN.{length, drop}
 use lib.Seq.{sets, sets-eq}
 use Rattle.bitcursor.specs.Reading.{Out, got, refused}
-use Rattle.bitcursor.specs.Answers.{limit}
+use Rattle.loads.specs.Bits.{limit}
 use Rattle.bitcursor.specs.Format.{pure, relay}
 use Rattle.bitcursor.specs.Inputs.{Places, Payloads}
 use Rattle.hatch_format.specs.declared.Caps.{Caps}

@@ -10,9 +10,8 @@ use lib.ListN.{length}
 use borrow.Author.Tests.{le-leb, lt-leb, leb-false}
 use Rattle.bitcursor.specs.declared.Refusal.{Refusal}
 use Rattle.bitcursor.specs.declared.Refusal.the-variants.{TooFewBits, UnknownRelease, PayloadTooLong, ListTooShort}
-use Rattle.bitcursor.specs.Bits.{size}
+use Rattle.loads.specs.Bits.{size, limit}
 use Rattle.bitcursor.specs.Reading.{Out, got, refused, place, never}
-use Rattle.bitcursor.specs.Answers.{limit}
 use Rattle.bitcursor.specs.Format.{relay}
 use Rattle.bitcursor.specs.Whole.{refused-by-fields}
 use Rattle.bitcursor.specs.Inputs.{Places, Payloads, Onward}

@@ -7,7 +7,7 @@ use lib.Dec.{leb}
 use lib.ListN.{length}
 use Rattle.bitcursor.specs.declared.Refusal.the-variants.{ListTooShort}
 use Rattle.bitcursor.specs.Reading.{Out, got, refused}
-use Rattle.bitcursor.specs.Answers.{limit}
+use Rattle.loads.specs.Bits.{limit}
 use Rattle.bitcursor.specs.Inputs.{Places as Starts}
 use Rattle.text.specs.declared.Places.{Places}
 use Rattle.text.specs.Answers.{asPlaces}

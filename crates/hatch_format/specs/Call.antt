@@ -5,9 +5,8 @@ use Prim.Native.Nat.{ℕ}
 use lib.Dec.{leb}
 use lib.ListN.{length}
 use Rattle.bitcursor.specs.declared.Refusal.the-variants.{TooFewBits, UnknownRelease, PayloadTooLong, ListTooShort}
-use Rattle.bitcursor.specs.Bits.{size}
+use Rattle.loads.specs.Bits.{size, limit}
 use Rattle.bitcursor.specs.Reading.{Out, got, refused}
-use Rattle.bitcursor.specs.Answers.{limit}
 use Rattle.bitcursor.specs.Inputs.{Places, Payloads}
 use Rattle.text.specs.declared.version.MaybeVersion.{MaybeVersion}
 use Rattle.text.specs.declared.version.MaybeVersion.the-variants.{Known, Unknown}

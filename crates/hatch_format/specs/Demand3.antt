@@ -10,10 +10,9 @@ use lib.ListN.{length}
 use borrow.Author.Tests.{le-leb}
 use Rattle.bitcursor.specs.declared.Refusal.{Refusal}
 use Rattle.bitcursor.specs.declared.Refusal.the-variants.{TooFewBits, UnknownRelease, PayloadTooLong, ListTooShort}
-use Rattle.bitcursor.specs.Bits.{size, Alike}
+use Rattle.loads.specs.Bits.{size, Alike, limit}
 use Rattle.bitcursor.specs.Reading.{Out, got, refused, place, never}
 use Rattle.bitcursor.specs.Code.{Moves, stay}
-use Rattle.bitcursor.specs.Answers.{limit}
 use Rattle.bitcursor.specs.Format.{Format, relay}
 use Rattle.bitcursor.specs.Inputs.{both, Places, Payloads, Onward, Agree}
 use Rattle.text.specs.declared.version.Version.{Version}

@@ -4,7 +4,7 @@ use mathlib.Core.Bool.{Bool, true, false}
 use mathlib.Core.List.{List, [], _∷_, _++_}
 use Prim.Native.Nat.{ℕ}
 use lib.ListN.{length}
-use Rattle.bitcursor.specs.Bits.{bit}
+use Rattle.loads.specs.Bits.{bit}
 use Rattle.hatch_format.specs.Values.{Point, Vertex, Arc, Ellipse, Fits, unfitted, fitted, Spline, PatternLine, Rest}
 use Rattle.hatch_format.specs.Values.{Edge, line, arc, ellipse, spline, Segments, polyline, edges, Path}
 

@@ -6,7 +6,7 @@ use mathlib.Core.List.{List, [], _∷_}
 use Prim.Native.Nat.{ℕ, _+_, _-_, _≤_, _<_}
 use lib.Dec.{leb}
 use lib.ListN.{length}
-use Rattle.bitcursor.specs.Bits.{size}
+use Rattle.loads.specs.Bits.{size}
 use Rattle.bitcursor.specs.Code.{Code, Laid}
 use Rattle.bitcursor.specs.Chains.{_⨾_, Nothing, EachBy, Each}
 use Rattle.bitcursor.specs.Codes.{B, RC, RD, BS, signed-BS, BL}

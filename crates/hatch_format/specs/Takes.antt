@@ -6,11 +6,12 @@ use Prim.Native.Nat.{ℕ, zero, suc, _+_, _-_, _*_, _≤_, _<_, max}
 use native.Mathlib.Omega.{arith}
 use lib.ListN.{length}
 use Rattle.bitcursor.specs.declared.Refusal.{Refusal}
-use Rattle.bitcursor.specs.Bits.{size, bitsOf}
-use Rattle.bitcursor.specs.BitLaws.{length-bits}
+use Rattle.loads.specs.Bits.{size, bitsOf}
+use Rattle.loads.specs.BitLaws.{length-bits}
 use Rattle.bitcursor.specs.Reading.{Out, place}
 use Rattle.bitcursor.specs.Code.{Code, Moves, tabled}
-use Rattle.bitcursor.specs.Bytes.{lowBytes, lowFirst}
+use Rattle.bitcursor.specs.Bytes.{lowFirst}
+use Rattle.loads.specs.Bytes.{lowBytes}
 use Rattle.bitcursor.specs.Codes.{RC, RD, BS, BS-codes, BS-00, BS-01, BS-10, BS-11, BL, BL-codes, BL-00, BL-01, BL-10}
 use Rattle.bitcursor.specs.Doubles.{BD, BD-codes, BD-00, BD-01, BD-10}
 use Rattle.bitcursor.specs.Format.{Format, refuse, _>>=_, either}

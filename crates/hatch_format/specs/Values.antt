@@ -5,7 +5,7 @@ use Prim.Native.Nat.{ℕ, _+_, _/_}
 use lib.Dec.{eqb}
 use Rattle.text.specs.declared.Text.{Text}
 use Rattle.text.specs.declared.Source.the-variants.{Absent}
-use Rattle.bitcursor.specs.Bits.{odd}
+use Rattle.loads.specs.Bits.{odd}
 use Rattle.hatch_format.specs.declared.GradientColorBits.{GradientColorBits}
 
 pub record Point : Type 0 where

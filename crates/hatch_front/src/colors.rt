@@ -3,7 +3,7 @@ ghost use mathlib.Core.Path.{_≡_};
 ghost use mathlib.Core.List.{[]};
 ghost use Prim.Native.Nat.{_≤_};
 ghost use lib.ListN.{length};
-ghost use Rattle.bitcursor.specs.Answers.{limit};
+ghost use Rattle.loads.specs.Bits.{limit};
 ghost use Rattle.hatch_format.specs.Counts.{times};
 ghost use Rattle.hatch_format.specs.Gradients.{color};
 ghost use Rattle.hatch_format.specs.Record.{zeroColor, sixteen, colorAsDoubles, colorsAsDoubles};

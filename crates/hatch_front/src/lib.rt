@@ -4,7 +4,7 @@
 ghost use mathlib.Core.Path.{_≡_};
 ghost use Prim.Native.Nat.{_≤_};
 ghost use lib.ListN.{length};
-ghost use Rattle.bitcursor.specs.Answers.{limit};
+ghost use Rattle.loads.specs.Bits.{limit};
 ghost use Rattle.text.specs.Answers.{payloads, placesOf};
 ghost use Rattle.hatch_format.specs.Hatch.{plane};
 ghost use Rattle.hatch_front.specs.Fronts.{named, front};

@@ -6,7 +6,7 @@ use Prim.Native.Nat.{ℕ, zero, suc, _+_, _*_}
 use lib.Dec.{eqb}
 use Rattle.bitcursor.specs.declared.Refusal.{Refusal}
 use Rattle.bitcursor.specs.declared.Refusal.the-variants.{EdgeKind}
-use Rattle.bitcursor.specs.Bits.{bit}
+use Rattle.loads.specs.Bits.{bit}
 use Rattle.bitcursor.specs.Reading.{got, refused}
 use Rattle.bitcursor.specs.Code.{raw, give, mapped, tabled, _>>=_ as _then_}
 use Rattle.bitcursor.specs.Codes.{B, B-read, BL}

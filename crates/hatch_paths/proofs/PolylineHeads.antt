@@ -9,7 +9,7 @@ use lib.Dec.{eqb}
 use lib.ListN.{length}
 use Rattle.bitcursor.specs.declared.Read.{Read}
 use Rattle.bitcursor.specs.declared.Read.the-variants.{Value}
-use Rattle.bitcursor.specs.Bits.{bit}
+use Rattle.loads.specs.Bits.{bit}
 use Rattle.bitcursor.specs.Code.{raw}
 use Rattle.bitcursor.specs.Codes.{B, BL}
 use Rattle.bitcursor.specs.Answers.{asRead}

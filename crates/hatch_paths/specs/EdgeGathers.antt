@@ -6,7 +6,7 @@ use Prim.Native.Nat.{ℕ, zero, suc, _+_, _*_}
 use lib.Dec.{leb}
 use lib.ListN.{length}
 use Rattle.bitcursor.specs.declared.Refusal.the-variants.{EdgeKind}
-use Rattle.bitcursor.specs.Bits.{bit}
+use Rattle.loads.specs.Bits.{bit}
 use Rattle.bitcursor.specs.Reading.{Out, got, refused, andThen}
 use Rattle.bitcursor.specs.Codes.{B, RC, BL}
 use Rattle.bitcursor.specs.Doubles.{BD}

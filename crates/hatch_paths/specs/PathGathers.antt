@@ -5,7 +5,7 @@ use mathlib.Core.List.{List, [], _∷_, _++_, append-nil}
 use Prim.Native.Nat.{ℕ, zero, suc, _+_, _*_, _/_}
 use lib.Dec.{leb}
 use lib.ListN.{length}
-use Rattle.bitcursor.specs.Bits.{bit, odd}
+use Rattle.loads.specs.Bits.{bit, odd}
 use Rattle.bitcursor.specs.Reading.{Out, got, refused, andThen}
 use Rattle.bitcursor.specs.Codes.{B, BL}
 use Rattle.bitcursor.specs.Format.{Format, pure, _>>=_, relay}

@@ -3,7 +3,7 @@ use mathlib.Core.Bool.{Bool, true, false}
 use mathlib.Core.List.{[], _∷_}
 use Prim.Native.Nat.{ℕ, zero, suc, _+_, _*_}
 use Rattle.bitcursor.specs.declared.Refusal.the-variants.{EdgeKind}
-use Rattle.bitcursor.specs.Bits.{bit}
+use Rattle.loads.specs.Bits.{bit}
 use Rattle.bitcursor.specs.Codes.{B, RC, BL}
 use Rattle.bitcursor.specs.Format.{Format, pure, refuse, _>>=_}
 use Rattle.bitcursor.specs.Inputs.{one}

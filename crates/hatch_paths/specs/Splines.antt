@@ -5,7 +5,7 @@ use mathlib.Core.List.{List, [], _∷_}
 use Prim.Native.Nat.{ℕ}
 use lib.Dec.{eqb}
 use Rattle.bitcursor.specs.declared.Read.the-variants.{Value}
-use Rattle.bitcursor.specs.Bits.{bit}
+use Rattle.loads.specs.Bits.{bit}
 use Rattle.bitcursor.specs.Code.{raw}
 use Rattle.bitcursor.specs.Codes.{B, BL}
 use Rattle.bitcursor.specs.Answers.{asRead}

@@ -5,7 +5,7 @@ ghost use Prim.Native.Nat.{_+_, _*_, _^_, _≤_, _<_};
 ghost use lib.Dec.{eqb};
 ghost use lib.ListN.{length};
 ghost use lib.Seq.{sets};
-ghost use Rattle.bitcursor.specs.Answers.{limit};
+ghost use Rattle.loads.specs.Bits.{limit};
 ghost use Rattle.hatch_points.specs.Gathered.{repeated};
 ghost use Rattle.hatch_paths.specs.PathWalks.{bit-walk, curve-walk, fitted-raw, fits-walk, spline-lists-walk, spline-walk, edge-of-walk, edge-walk};
 ghost use Rattle.hatch_points.specs.Lists.{lists, Ready, Walks};

@@ -3,7 +3,7 @@ ghost use mathlib.Core.Path.{_≡_};
 ghost use mathlib.Core.List.{[], _∷_};
 ghost use Prim.Native.Nat.{_+_, _/_, _^_, _≤_, _<_};
 ghost use lib.Seq.{sets};
-ghost use Rattle.bitcursor.specs.Bits.{odd};
+ghost use Rattle.loads.specs.Bits.{odd};
 ghost use Rattle.hatch_points.specs.Gathered.{repeated};
 ghost use Rattle.hatch_paths.specs.PathWalks.{polyline-walk, edges-walk, segments-walk, handles-walk, after-flags-walk, path-walk};
 ghost use Rattle.hatch_points.specs.Lists.{lists, Ready, Walks};

@@ -10,7 +10,7 @@ use lib.Ieee.{Float, ofBits, binary64}
 use lib.ListN.{length, length-append, set, take}
 use lib.Seq.{sets, set-out, length-sets, take-set-le, take-take}
 use Rattle.bitcursor.specs.declared.Refusal.{Refusal}
-use Rattle.bitcursor.specs.Bits.{odd}
+use Rattle.loads.specs.Bits.{odd}
 use Rattle.bitcursor.specs.Reading.{Out, got, refused, andThen, never}
 use Rattle.bitcursor.specs.Format.{Format, pure, _>>=_}
 use Rattle.bitcursor.specs.Inputs.{one}

@@ -8,10 +8,10 @@ use lib.Dec.{eqb}
 use Rattle.bitcursor.specs.declared.Refusal.{Refusal}
 use Rattle.bitcursor.specs.declared.Refusal.the-variants.{EdgeKind}
 use Rattle.hatch_format.specs.declared.Caps.{Caps}
-use Rattle.bitcursor.specs.Bits.{bit}
+use Rattle.loads.specs.Bits.{bit}
 use Rattle.bitcursor.specs.Reading.{Out, got, refused, andThen, never}
 use lib.ListN.{length}
-use Rattle.bitcursor.specs.BitLaws.{length-digits}
+use Rattle.loads.specs.BitLaws.{length-digits}
 use Rattle.bitcursor.specs.Code.{Code, raw}
 use Rattle.bitcursor.specs.Codes.{B, RD, BL}
 use Rattle.hatch_format.specs.Takes.{Takes, takes-code}

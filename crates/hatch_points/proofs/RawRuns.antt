@@ -9,9 +9,10 @@ use lib.Ieee.{Float, ofBits, binary64}
 use lib.ListN.{length, set, length-set}
 use lib.Seq.{sets, length-sets}
 use Rattle.bitcursor.specs.declared.Refusal.the-variants.{TooFewBits}
-use Rattle.bitcursor.specs.Bits.{size}
+use Rattle.loads.specs.Bits.{size}
 use Rattle.bitcursor.specs.Reading.{Out, got, refused, andThen}
-use Rattle.bitcursor.specs.Bytes.{lowNumber, bytesAt, le-or-lt}
+use Rattle.bitcursor.specs.Bytes.{le-or-lt}
+use Rattle.loads.specs.Bytes.{lowNumber, bytesAt}
 use Rattle.bitcursor.specs.Codes.{RD}
 use Rattle.bitcursor.specs.Stops.{low-there, low-short}
 use Rattle.bitcursor.specs.Format.{pure, _>>=_, relay}

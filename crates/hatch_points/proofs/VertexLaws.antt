@@ -10,7 +10,7 @@ use Rattle.bitcursor.specs.declared.Refusal.the-variants.{TooFewBits}
 use Rattle.bitcursor.specs.declared.Read.{Read}
 use Rattle.bitcursor.specs.declared.Passed.{Passed}
 use Rattle.bitcursor.specs.Answers.{asRead}
-use Rattle.bitcursor.specs.Bits.{size}
+use Rattle.loads.specs.Bits.{size}
 use Rattle.bitcursor.specs.Reading.{Out, got, refused, andThen, never}
 use Rattle.bitcursor.specs.Codes.{RD}
 use Rattle.bitcursor.specs.Doubles.{BD}

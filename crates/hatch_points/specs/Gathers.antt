@@ -7,7 +7,7 @@ use native.Mathlib.Omega.{arith}
 use lib.Dec.{leb}
 use lib.ListN.{length}
 use Rattle.bitcursor.specs.declared.Refusal.{Refusal}
-use Rattle.bitcursor.specs.Bits.{bit, odd}
+use Rattle.loads.specs.Bits.{bit, odd}
 use Rattle.bitcursor.specs.Reading.{Out, got, refused, andThen}
 use Rattle.bitcursor.specs.Code.{Code}
 use Rattle.bitcursor.specs.Codes.{B, RC, RD, BS, BL}

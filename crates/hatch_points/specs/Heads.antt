@@ -10,7 +10,7 @@ use borrow.Author.Tests.{le-leb, lt-leb}
 use Rattle.bitcursor.specs.declared.Refusal.the-variants.{CountTooLarge}
 use Rattle.bitcursor.specs.declared.Read.{Read}
 use Rattle.bitcursor.specs.declared.Read.the-variants.{Value, Refused}
-use Rattle.bitcursor.specs.Bits.{size}
+use Rattle.loads.specs.Bits.{size}
 use Rattle.bitcursor.specs.Reading.{Out, got, refused, andThen}
 use Rattle.bitcursor.specs.Code.{Code, raw, _>>=_ as _then_, give, mapped, tabled}
 use Rattle.bitcursor.specs.Codes.{B, B-read, BL}

@@ -8,7 +8,7 @@ use lib.Ieee.{Float, ofBits, binary64}
 use lib.ListN.{length, take}
 use lib.Seq.{sets}
 use Rattle.bitcursor.specs.Reading.{Out, got, refused}
-use Rattle.bitcursor.specs.Answers.{limit}
+use Rattle.loads.specs.Bits.{limit}
 use Rattle.hatch_points.specs.declared.lists.Sizes.{Sizes}
 use Rattle.hatch_points.specs.declared.lists.Walk.{Walk}
 use Rattle.hatch_points.specs.declared.lists.Walk.the-variants.{Done, Refused}

@@ -7,7 +7,7 @@ use Rattle.bitcursor.specs.declared.Passed.{Passed}
 use Rattle.bitcursor.specs.declared.Passed.the-variants.{To, Refused as RefusedPassed}
 use Rattle.bitcursor.specs.Reading.{Out}
 use Rattle.bitcursor.specs.Answers.{asRead}
-use Rattle.bitcursor.specs.Bytes.{lowNumber, bytesAt}
+use Rattle.loads.specs.Bytes.{lowNumber, bytesAt}
 
 -- the n RD at a place
 unfoldable pub rawAt : List ℕ → ℕ → ℕ → List ℕ

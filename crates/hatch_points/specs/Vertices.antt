@@ -7,7 +7,7 @@ use Rattle.bitcursor.specs.declared.Read.{Read}
 use Rattle.bitcursor.specs.declared.Read.the-variants.{Value, Refused}
 use Rattle.bitcursor.specs.declared.Passed.{Passed}
 use Rattle.bitcursor.specs.declared.Passed.the-variants.{To, Refused as RefusedPassed}
-use Rattle.bitcursor.specs.Bytes.{lowNumber, bytesAt}
+use Rattle.loads.specs.Bytes.{lowNumber, bytesAt}
 use Rattle.bitcursor.specs.Reading.{got, refused}
 use Rattle.hatch_points.specs.Gathered.{numbers}
 use Rattle.hatch_points.specs.Walks.{vertex-walk}

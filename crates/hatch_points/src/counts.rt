@@ -3,8 +3,8 @@
 ghost use mathlib.Core.Path.{_≡_};
 ghost use Prim.Native.Nat.{_-_, _≤_};
 ghost use lib.ListN.{length};
-ghost use Rattle.bitcursor.specs.Answers.{limit, asRead};
-ghost use Rattle.bitcursor.specs.Bits.{size};
+ghost use Rattle.bitcursor.specs.Answers.{asRead};
+ghost use Rattle.loads.specs.Bits.{limit, size};
 ghost use Rattle.bitcursor.specs.Codes.{BL, BS};
 ghost use Rattle.sequence.specs.Sequence.{thenRead};
 ghost use Rattle.hatch_format.specs.Counts.{bounded};

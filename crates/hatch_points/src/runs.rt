@@ -4,7 +4,8 @@ ghost use mathlib.Core.List.{[]};
 ghost use Prim.Native.Nat.{_+_, _*_, _^_, _≤_, _<_, max};
 ghost use lib.ListN.{length};
 ghost use lib.Seq.{sets};
-ghost use Rattle.bitcursor.specs.Answers.{limit, asRead};
+ghost use Rattle.bitcursor.specs.Answers.{asRead};
+ghost use Rattle.loads.specs.Bits.{limit};
 ghost use Rattle.bitcursor.specs.Doubles.{BD};
 ghost use Rattle.hatch_points.specs.Gathered.{repeated};
 ghost use Rattle.hatch_points.specs.Walks.{raw-run, single-walk, double-run};
@@ -16,7 +17,6 @@ use crate::lists::Walk;
 use bitcursor::Passed;
 use bitcursor::Read;
 use bitcursor::values;
-use bitcursor::words;
 
 pub fn longer(a: usize, b: usize) -> usize
     ensures { λ r. ⌜ r ≡ max a b ⌝ }
@@ -48,7 +48,7 @@ fn put_run_doubles(s: &[u8], at: usize, n: usize, numbers: &mut [f64], from: usi
 {
     let mut i: usize = 0;
     while i < n {
-        numbers[from + i] = values::double_of(words::eight_at(s, at + 64 * i));
+        numbers[from + i] = values::double_of(loads::eight_at(s, at + 64 * i));
         i += 1;
     }
 }
@@ -59,7 +59,7 @@ fn put_run_bits(s: &[u8], at: usize, n: usize, bits: &mut [u64], from: usize)
 {
     let mut i: usize = 0;
     while i < n {
-        bits[from + i] = words::eight_at(s, at + 64 * i);
+        bits[from + i] = loads::eight_at(s, at + 64 * i);
         i += 1;
     }
 }

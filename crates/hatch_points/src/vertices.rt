@@ -4,7 +4,7 @@ ghost use mathlib.Core.List.{[]};
 ghost use Prim.Native.Nat.{_+_, _*_, _^_, _≤_, _<_};
 ghost use lib.ListN.{length};
 ghost use lib.Seq.{sets};
-ghost use Rattle.bitcursor.specs.Answers.{limit};
+ghost use Rattle.loads.specs.Bits.{limit};
 ghost use Rattle.hatch_points.specs.Gathered.{repeated};
 ghost use Rattle.hatch_points.specs.Walks.{vertex-walk, vertices-walk};
 ghost use Rattle.hatch_points.specs.Lists.{lists, doublesOf, Ready, Walks};
@@ -15,7 +15,6 @@ use crate::lists::Walk;
 use crate::runs;
 use bitcursor::Passed;
 use bitcursor::Read;
-use bitcursor::words;
 
 // The double behind a point, and the place after it; the point is passed by one comparison.
 fn read_extra(s: &[u8], at: usize) -> Read
@@ -55,8 +54,8 @@ fn put_vertex(s: &[u8], at: usize, extra: u64, numbers: &mut [f64], bits: &mut [
     ensures { λ _. ⌜ (now (numbers .exit) ≡ sets (now (numbers .entry)) from (doublesOf (vertexAt (now (s .entry)) at extra)))
         × (now (bits .exit) ≡ sets (now (bits .entry)) from (vertexAt (now (s .entry)) at extra)) ⌝ }
 {
-    lists::put_number(numbers, bits, from, words::eight_at(s, at));
-    lists::put_number(numbers, bits, from + 1, words::eight_at(s, at + 64));
+    lists::put_number(numbers, bits, from, loads::eight_at(s, at));
+    lists::put_number(numbers, bits, from + 1, loads::eight_at(s, at + 64));
     lists::put_number(numbers, bits, from + 2, extra);
 }
 

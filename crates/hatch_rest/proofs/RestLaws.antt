@@ -12,7 +12,8 @@ use Rattle.bitcursor.specs.declared.Read.the-variants.{Value, Refused}
 use Rattle.bitcursor.specs.Reading.{Out, got, refused, andThen}
 use Rattle.bitcursor.specs.Code.{raw}
 use Rattle.bitcursor.specs.Codes.{B, BL}
-use Rattle.bitcursor.specs.Answers.{asRead, limit}
+use Rattle.bitcursor.specs.Answers.{asRead}
+use Rattle.loads.specs.Bits.{limit}
 use Rattle.bitcursor.specs.Held.{held}
 use Rattle.sequence.specs.Sequence.{thenRead, valueOf}
 use Rattle.bitcursor.specs.Format.{Format, pure, _>>=_, relay, then-got, then-refused}

@@ -8,7 +8,7 @@ ghost use Rattle.bitcursor.specs.Code.{raw};
 ghost use Rattle.bitcursor.specs.Bytes.{lowFirst};
 ghost use Rattle.bitcursor.specs.Codes.{BS, BL};
 ghost use Rattle.bitcursor.specs.Doubles.{BD};
-ghost use Rattle.bitcursor.specs.Answers.{limit};
+ghost use Rattle.loads.specs.Bits.{limit};
 ghost use Rattle.bitcursor.specs.Held.{held};
 ghost use Rattle.sequence.specs.Sequence.{thenRead, valueOf};
 use bitcursor::Read;

@@ -6,7 +6,7 @@ use Prim.Native.Nat.{ℕ, _-_}
 use lib.Dec.{leb}
 use denote.Ref.{RefT}
 use Rattle.bitcursor.specs.declared.Refusal.the-variants.{TooFewBits}
-use Rattle.bitcursor.specs.Bits.{size}
+use Rattle.loads.specs.Bits.{size}
 use Rattle.bitcursor.specs.Reading.{Out, got, refused, place}
 use Rattle.bitcursor.specs.Answers.{limited}
 use Rattle.text.specs.declared.Text.{Text}

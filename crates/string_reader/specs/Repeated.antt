@@ -5,9 +5,8 @@ use Prim.Native.Nat.{ℕ, _≤_, _<_}
 use lib.ListN.{length}
 use borrow.Author.Tests.{le-leb, lt-leb}
 use Rattle.bitcursor.specs.declared.Refusal.the-variants.{TooFewBits}
-use Rattle.bitcursor.specs.Bits.{size}
+use Rattle.loads.specs.Bits.{size, limit}
 use Rattle.bitcursor.specs.Reading.{got, refused}
-use Rattle.bitcursor.specs.Answers.{limit}
 use Rattle.bitcursor.proofs.Steps.{limit-within}
 use Rattle.text.specs.declared.Source.the-variants.{String}
 use Rattle.text.specs.Texts.{wide}

@@ -7,7 +7,7 @@ use native.Mathlib.Omega.{arith}
 use lib.ListN.{length}
 use Rattle.bitcursor.specs.declared.Refusal.{Refusal}
 use Rattle.bitcursor.specs.declared.Refusal.the-variants.{TooFewBits, NotUtf16}
-use Rattle.bitcursor.specs.Bits.{size}
+use Rattle.loads.specs.Bits.{size}
 use Rattle.bitcursor.specs.declared.Read.{Read}
 use Rattle.bitcursor.specs.declared.Read.the-variants.{Value}
 use Rattle.bitcursor.specs.Reading.{Out, got, refused}

@@ -9,7 +9,7 @@ use native.Mathlib.Omega.{arith}
 use lib.Dec.{eqb}
 use lib.ListN.{length, getD, take}
 use borrow.Author.Tests.{eq-eqb, ne-eqb, not-true, not-false}
-use Rattle.bitcursor.specs.Bytes.{lowNumber, bytesAt}
+use Rattle.loads.specs.Bytes.{lowNumber, bytesAt}
 use Rattle.text.specs.Units.{unitsAt}
 use Rattle.text.specs.Utf16.{high, low, pairedFrom}
 use Rattle.text.specs.Texts.{unclosed}

@@ -8,7 +8,7 @@ use Prim.Native.Nat.{ℕ, _+_, _-_, _*_, _≤_, _<_}
 use native.Mathlib.Omega.{arith}
 use lib.ListN.{length}
 use Rattle.bitcursor.specs.declared.Refusal.the-variants.{TextPastEnd, NotUtf16}
-use Rattle.bitcursor.specs.Bits.{size}
+use Rattle.loads.specs.Bits.{size}
 use Rattle.bitcursor.specs.Reading.{Out, got, refused, place, andThen, never}
 use Rattle.bitcursor.specs.Code.{Code, Moves, give, refuse, _>>=_, tabled, measured, measured-out}
 use Rattle.bitcursor.specs.Codes.{BS}

@@ -8,7 +8,7 @@ use lib.Dec.{eqb}
 use lib.ListN.{length}
 use borrow.Author.Tests.{ne-eqb, eqb-true, eqb-false}
 use Rattle.bitcursor.specs.declared.Refusal.the-variants.{NotUtf16}
-use Rattle.bitcursor.specs.Bits.{bitsOf}
+use Rattle.loads.specs.Bits.{bitsOf}
 use Rattle.bitcursor.specs.Code.{Code, give, refuse, _>>=_, tabled, measured, Measured}
 use Rattle.bitcursor.specs.Codes.{BS, BS-codes}
 use Rattle.bitcursor.specs.Handles.{checked}

@@ -9,10 +9,11 @@ use native.Mathlib.Nat.{mul-suc, mul-zero}
 use native.Mathlib.Omega.{arith}
 use lib.ListN.{length}
 use Rattle.bitcursor.specs.declared.Refusal.the-variants.{TooFewBits}
-use Rattle.bitcursor.specs.Bits.{bitsOf, size}
+use Rattle.loads.specs.Bits.{bitsOf, size}
 use Rattle.bitcursor.specs.Reading.{Out, got, refused, andThen}
 use Rattle.bitcursor.specs.Code.{Code, give, _>>=_, tabled}
-use Rattle.bitcursor.specs.Bytes.{lowBytes, lowFirst, lowNumber, bytesAt, le-or-lt}
+use Rattle.bitcursor.specs.Bytes.{lowFirst, le-or-lt}
+use Rattle.loads.specs.Bytes.{lowBytes, lowNumber, bytesAt}
 use Rattle.bitcursor.specs.Stops.{low-there, low-short}
 
 -- each is below m

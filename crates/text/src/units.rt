@@ -3,11 +3,10 @@ ghost use mathlib.Core.Path.{_≡_};
 ghost use mathlib.Core.Bool.{true, false};
 ghost use Prim.Native.Nat.{_-_, _*_, _≤_};
 ghost use lib.ListN.{length};
-ghost use Rattle.bitcursor.specs.Answers.{limit};
+ghost use Rattle.loads.specs.Bits.{limit};
 ghost use Rattle.text.specs.Units.{unitsAt};
 ghost use Rattle.text.specs.Utf16.{high, low, pairedFrom};
 ghost use Rattle.text.specs.Texts.{unclosed};
-use bitcursor::words;
 
 // How many of the n units of k bytes at `at` are left without a closing zero.
 pub fn count_units(s: &[u8], at: usize, k: usize, n: usize) -> usize
@@ -18,7 +17,7 @@ pub fn count_units(s: &[u8], at: usize, k: usize, n: usize) -> usize
         return 0;
     }
     let before = k * (n - 1);
-    let last = words::low_at(s, at + 8 * before, k);
+    let last = loads::low_at(s, at + 8 * before, k);
     if last == 0 {
         return n - 1;
     }
@@ -47,7 +46,7 @@ pub fn is_utf16(s: &[u8], at: usize, n: usize) -> bool
     let mut half = false;
     let mut i: usize = 0;
     while i < n {
-        let u = words::low_at(s, at + 16 * i, 2);
+        let u = loads::low_at(s, at + 16 * i, 2);
         let l = is_low(u);
         if l != half {
             return false;

@@ -2,7 +2,7 @@
 ghost use mathlib.Core.Path.{_≡_};
 ghost use Prim.Native.Nat.{_^_, _≤_, _<_};
 ghost use lib.ListN.{length};
-ghost use Rattle.bitcursor.specs.Answers.{limit};
+ghost use Rattle.loads.specs.Bits.{limit};
 ghost use Rattle.text.specs.Units.{units};
 ghost use Rattle.text.specs.Texts.{narrow, wide, TV};
 ghost use Rattle.text.specs.Answers.{asText, placed, unitsText, inlineText, readerText, asField, payloads, placesOf};

@@ -10,11 +10,12 @@ use Rattle.bitcursor.specs.declared.Refusal.the-variants.{ReservedTag}
 use Rattle.bitcursor.specs.Reading.{got, refused}
 use Rattle.bitcursor.specs.Answers.{asRead}
 use Rattle.bitcursor.specs.Code.{tabled, give, refuse, raw}
-use Rattle.bitcursor.specs.Bytes.{lowFirst, lowNumber, bytesAt, raw-there}
+use Rattle.bitcursor.specs.Bytes.{lowFirst, raw-there}
+use Rattle.loads.specs.Bytes.{lowNumber, bytesAt}
 use Rattle.bitcursor.specs.Stops.{low-there}
 use Rattle.bitcursor.specs.Doubles.{BD, BD-read, one-pattern}
 use Rattle.bitcursor.proofs.Steps.{tag-00, tag-01, tag-10, tag-11}
-use Rattle.bitcursor.proofs.WordLaws.{top, top-two}
+use Rattle.loads.proofs.LoadLaws.{top, top-two}
 use borrow.Author.Needs.{needs}
 use Rattle.bitcursor.proofs.within.read_bd_there.Statement.{statement}
 use Rattle.bitcursor.proofs.within.read_bd_there.Tie as tie

@@ -4,8 +4,8 @@ use Prim.Native.Nat.{ℕ, _+_, _*_}
 use native.Mathlib.Omega.{arith}
 use denote.Ref.{now}
 use Rattle.bitcursor.specs.declared.Read.the-variants.{Value, Refused}
-use Rattle.bitcursor.specs.Bits.{number, window}
-use Rattle.bitcursor.specs.Bytes.{lowNumber, bytesAt}
+use Rattle.loads.specs.Bits.{number, window}
+use Rattle.loads.specs.Bytes.{lowNumber, bytesAt}
 use Rattle.bitcursor.specs.Stops.{high-there, high-short}
 use Rattle.bitcursor.specs.Answers.{asRead}
 use Rattle.bitcursor.proofs.Steps.{passed-there, passed-short}

@@ -6,7 +6,7 @@ use denote.Ref.{now}
 use lib.ListN.{length}
 use Rattle.bitcursor.specs.declared.Passed.the-variants.{To, Refused}
 use Rattle.bitcursor.specs.declared.Refusal.the-variants.{TooFewBits}
-use Rattle.bitcursor.specs.Bits.{size}
+use Rattle.loads.specs.Bits.{size}
 use Rattle.bitcursor.specs.Stops.{skip-there, skip-short}
 use Rattle.bitcursor.specs.Answers.{asPassed}
 use borrow.Author.Needs.{needs}

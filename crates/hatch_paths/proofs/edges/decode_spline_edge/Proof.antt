@@ -7,7 +7,7 @@ use denote.Ref.{now}
 use mathlib.Core.Bool.{Bool}
 use lib.Dec.{eqb}
 use Rattle.bitcursor.specs.declared.Read.{Read}
-use Rattle.bitcursor.specs.Bits.{bit}
+use Rattle.loads.specs.Bits.{bit}
 use lib.Seq.{sets}
 use Rattle.hatch_paths.specs.PathWalks.{spline-lists-walk, spline-walk}
 use Rattle.hatch_points.specs.Heads.{resumed}

@@ -6,7 +6,7 @@ use native.Mathlib.Omega.{arith}
 use denote.Ref.{now}
 use lib.Dec.{eqb}
 use lib.ListN.{set}
-use Rattle.bitcursor.specs.Bits.{bit}
+use Rattle.loads.specs.Bits.{bit}
 use Rattle.bitcursor.specs.Code.{raw}
 use Rattle.bitcursor.specs.Ranges.{raw-below, read-below}
 use Rattle.bitcursor.specs.Fields.{coded}

@@ -6,7 +6,7 @@ use native.Mathlib.Omega.{arith}
 use denote.Ref.{now}
 use mathlib.Core.Bool.{Bool, _||_}
 use Prim.Native.Nat.{_/_}
-use Rattle.bitcursor.specs.Bits.{odd}
+use Rattle.loads.specs.Bits.{odd}
 use Rattle.bitcursor.specs.Codes.{BL}
 use Rattle.bitcursor.specs.Ranges.{BL-below, read-below}
 use Rattle.bitcursor.specs.Fields.{coded}

@@ -7,7 +7,7 @@ use denote.Ref.{now}
 use mathlib.Core.Bool.{Bool}
 use lib.Dec.{eqb}
 use lib.Seq.{sets}
-use Rattle.bitcursor.specs.Bits.{bit}
+use Rattle.loads.specs.Bits.{bit}
 use Rattle.sequence.specs.Sequence.{valueOf}
 use Rattle.hatch_points.specs.Walks.{vertices-walk}
 use Rattle.hatch_paths.specs.PathWalks.{polyline-walk}

@@ -3,7 +3,7 @@ use mathlib.Core.Path.{_≡_, refl, sym, ap, _∙_}
 use Prim.Native.Nat.{ℕ, _-_, _≤_, _<_}
 use denote.Ref.{now}
 use native.Mathlib.Omega.{arith}
-use Rattle.bitcursor.specs.Bits.{size}
+use Rattle.loads.specs.Bits.{size}
 use Rattle.hatch_points.specs.Heads.{boundsOf, bounds-many, bounds-short, bounds-kept}
 use borrow.Author.Needs.{needs}
 use Rattle.hatch_points.proofs.counts.bounds_check.Statement.{statement}

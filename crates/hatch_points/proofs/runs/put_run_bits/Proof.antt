@@ -13,7 +13,7 @@ use Rattle.hatch_points.proofs.runs.put_run_bits.Statement.{statement}
 use Rattle.hatch_points.proofs.runs.put_run_bits.Tie as tie
 use Rattle.hatch_points.proofs.runs.put_run_bits.Reads as reads
 use Rattle.hatch_points.proofs.runs.put_run_bits.Lts as lts
-use Rattle.bitcursor.proofs.words.eight_at.Reads as eight-at-reads
+use Rattle.loads.proofs.eight_at.Reads as eight-at-reads
 
 abbrev Inv-loop : tie.InvT-loop
 Inv-loop s at n bits₀ from i₀ bits i = (i ≤ n) × (bits ≡ sets bits₀ from (rawAt s at i))

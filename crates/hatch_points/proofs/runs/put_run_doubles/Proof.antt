@@ -15,7 +15,7 @@ use Rattle.hatch_points.proofs.runs.put_run_doubles.Statement.{statemen
 use Rattle.hatch_points.proofs.runs.put_run_doubles.Tie as tie
 use Rattle.hatch_points.proofs.runs.put_run_doubles.Reads as reads
 use Rattle.hatch_points.proofs.runs.put_run_doubles.Lts as lts
-use Rattle.bitcursor.proofs.words.eight_at.Reads as eight-at-reads
+use Rattle.loads.proofs.eight_at.Reads as eight-at-reads
 use Rattle.bitcursor.proofs.values.double_of.Reads as double-of-reads
 
 abbrev Inv-loop : tie.InvT-loop

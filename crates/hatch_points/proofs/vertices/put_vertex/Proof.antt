@@ -12,7 +12,7 @@ use Rattle.hatch_points.proofs.vertices.put_vertex.Statement.{statement
 use Rattle.hatch_points.proofs.vertices.put_vertex.Tie as tie
 use Rattle.hatch_points.proofs.vertices.put_vertex.Reads as reads
 use Rattle.hatch_points.proofs.vertices.put_vertex.Lts as lts
-use Rattle.bitcursor.proofs.words.eight_at.Reads as eight-at-reads
+use Rattle.loads.proofs.eight_at.Reads as eight-at-reads
 use Rattle.hatch_points.proofs.lists.put_number.Reads as put-number-reads
 
 eight-at-requires : tie.Need-eight-at-requires
