@@ -121,60 +121,60 @@ lacking-in w p (got a n) h = h
 lacking-in w p (refused r n) h = h
 
 -- from p to q one payload has a layout L; the other payload's place is the same
-pub record Within {A : Type 0} (w : Payload) (L : List ℕ → A → ℕ → ℕ → Type 0) (γ : Payloads) (a : A) (p q : Places) : Type 0 where
+pub record PartIn {A : Type 0} (w : Payload) (L : List ℕ → A → ℕ → ℕ → Type 0) (γ : Payloads) (a : A) (p q : Places) : Type 0 where
   pub end : ℕ
   pub laid : L (bytesIn w γ) a (placeIn w p) end
   pub moved : q ≡ movedIn w p end
 
 module _ {A : Type 0} (w : Payload) (f : Format one A) where
-  pub within-sound : (γ : Payloads) (a : A) (p q : Places) (o : Out ℕ A) → f .read (bytesIn w γ) (placeIn w p) ≡ o
-      → lifted w p o ≡ got a q → Within w (f .lays) γ a p q
-  within-sound γ a p q (refused r n) e h = never h
-  within-sound γ a p q (got b n) e h =
+  pub part-sound : (γ : Payloads) (a : A) (p q : Places) (o : Out ℕ A) → f .read (bytesIn w γ) (placeIn w p) ≡ o
+      → lifted w p o ≡ got a q → PartIn w (f .lays) γ a p q
+  part-sound γ a p q (refused r n) e h = never h
+  part-sound γ a p q (got b n) e h =
       let i : b ≡ a = cc in
       let g : q ≡ movedIn w p n = cc in
       record { end = n; laid = f .sound (bytesIn w γ) a (placeIn w p) n (e ∙ ap (λ (x : A). got x n) i); moved = g }
 
-  pub within-grows : (γ : Payloads) (p : Places) (o : Out ℕ A) → Moves (bytesIn w γ) (placeIn w p) (place o) → Onward γ p (place (lifted w p o))
-  within-grows γ p (got a n) h = onward-in w γ p n h
-  within-grows γ p (refused r n) h = onward-in w γ p n h
+  pub part-grows : (γ : Payloads) (p : Places) (o : Out ℕ A) → Moves (bytesIn w γ) (placeIn w p) (place o) → Onward γ p (place (lifted w p o))
+  part-grows γ p (got a n) h = onward-in w γ p n h
+  part-grows γ p (refused r n) h = onward-in w γ p n h
 
-  pub within-frame : (γ δ : Payloads) (p : Places) (o o′ : Out ℕ A) → (Alike (bytesIn w γ) (bytesIn w δ) (place o) → o′ ≡ o)
+  pub part-frame : (γ δ : Payloads) (p : Places) (o o′ : Out ℕ A) → (Alike (bytesIn w γ) (bytesIn w δ) (place o) → o′ ≡ o)
       → Agree γ δ (place (lifted w p o)) → lifted w p o′ ≡ lifted w p o
-  within-frame γ δ p (got a n) o′ fr h = rw (fr (agree-in w p n h))
-  within-frame γ δ p (refused r n) o′ fr h = rw (fr (agree-in w p n h))
+  part-frame γ δ p (got a n) o′ fr h = rw (fr (agree-in w p n h))
+  part-frame γ δ p (refused r n) o′ fr h = rw (fr (agree-in w p n h))
 
-  pub within-fielded : (p : Places) (o : Out ℕ A) → Fielded o → Fielded (lifted w p o)
-  within-fielded p (got a n) h = tt
-  within-fielded p (refused r n) h = h
+  pub part-fielded : (p : Places) (o : Out ℕ A) → Fielded o → Fielded (lifted w p o)
+  part-fielded p (got a n) h = tt
+  part-fielded p (refused r n) h = h
 
-  unfoldable pub within : Format both A
-  within =
+  unfoldable pub partIn : Format both A
+  partIn =
       record {
         read = λ γ p. lifted w p (f .read (bytesIn w γ) (placeIn w p));
-        lays = Within w (f .lays);
-        sound = λ γ a p q e. within-sound γ a p q (f .read (bytesIn w γ) (placeIn w p)) refl e;
+        lays = PartIn w (f .lays);
+        sound = λ γ a p q e. part-sound γ a p q (f .read (bytesIn w γ) (placeIn w p)) refl e;
         complete = λ γ a p q l.
             rw (f .complete (bytesIn w γ) a (placeIn w p) (l .end) (l .laid)) (ap (got a) (sym (l .moved)));
-        grows = λ γ p. within-grows γ p (f .read (bytesIn w γ) (placeIn w p)) (f .grows (bytesIn w γ) (placeIn w p));
+        grows = λ γ p. part-grows γ p (f .read (bytesIn w γ) (placeIn w p)) (f .grows (bytesIn w γ) (placeIn w p));
         frame = λ γ δ p h.
-            within-frame γ δ p (f .read (bytesIn w γ) (placeIn w p)) (f .read (bytesIn w δ) (placeIn w p))
+            part-frame γ δ p (f .read (bytesIn w γ) (placeIn w p)) (f .read (bytesIn w δ) (placeIn w p))
             (f .frame (bytesIn w γ) (bytesIn w δ) (placeIn w p)) h;
         short = λ γ p. f .short (bytesIn w γ) (placeIn w p);
         why = λ γ p e. lacking-in w p (f .read (bytesIn w γ) (placeIn w p)) (f .why (bytesIn w γ) (placeIn w p) e);
         longer = λ γ δ p h e. ap (lifted w p) (f .longer (bytesIn w γ) (bytesIn w δ) (placeIn w p) (longer-in w h) e);
-        fielded = λ γ p. within-fielded p (f .read (bytesIn w γ) (placeIn w p)) (f .fielded (bytesIn w γ) (placeIn w p));
+        fielded = λ γ p. part-fielded p (f .read (bytesIn w γ) (placeIn w p)) (f .fielded (bytesIn w γ) (placeIn w p));
       }
 
   -- what a function that read the one payload knows
-  pub within-read : (γ : Payloads) (p : Places) → within .read γ p ≡ lifted w p (f .read (bytesIn w γ) (placeIn w p))
-  unfolding within
-  within-read γ p = refl
+  pub part-read : (γ : Payloads) (p : Places) → partIn .read γ p ≡ lifted w p (f .read (bytesIn w γ) (placeIn w p))
+  unfolding partIn
+  part-read γ p = refl
 
 -- a code as a field of both payloads
 module _ {A : Type 0} (w : Payload) (c : Code A) where
   abbrev pub Field : Payloads → A → Places → Places → Type 0
-  Field = Within w (Laid (c .codes))
+  Field = PartIn w (Laid (c .codes))
 
   abbrev pub field : Format both A
-  field = within w (coded c)
+  field = partIn w (coded c)

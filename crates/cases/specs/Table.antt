@@ -14,7 +14,7 @@ use Rattle.bitcursor.specs.Handles.{BLL, BLL-read, HANDLE, HANDLE-read, HANDLE-
 use Rattle.bitcursor.specs.Held.{held}
 use Rattle.bitcursor.specs.Answers.{limited}
 use Rattle.bitcursor.specs.Format.{pure, refuse as refuse-format, _>>=_ as bind-format, peek, relay, either}
-use Rattle.bitcursor.specs.Fields.{at-least, within}
+use Rattle.bitcursor.specs.Fields.{at-least, partIn}
 use Rattle.text.specs.declared.Text.{Text}
 use Rattle.text.specs.Units.{units, units-read}
 use Rattle.text.specs.Texts.{judged, TV, TV-read}
@@ -110,7 +110,7 @@ pub all-hold : Holds cases
 unfolding cases allSame
     signed-BS BS BS-read BD BD-read BLL BLL-read B B-read BB RC RD RL BL BL-read HANDLE HANDLE-read HANDLE-value tagged byTag checked
     raw _>>=_ tabled mapped measured give refuse held lowFirst highFirst bytes bytes-read lowNumber skip window bitsOf digits number limited
-    pure refuse-format bind-format peek relay either within at-least
+    pure refuse-format bind-format peek relay either partIn at-least
     readerText units units-read judged released TV TV-read TV-field TV-field-read lent reader-text from-reader past-end room-for here inline
     prefixCall prefix prefixBy extended chain graphics drawing name
     callOn hatch hatch-read plane plane-read gradient gradient-read block block-read color color-read rest rest-read tail tail-read ending ending-read

@@ -13,7 +13,7 @@ use Rattle.loads.specs.Bits.{size, limit}
 use Rattle.bitcursor.specs.Reading.{Out, got, refused, place, andThen}
 use Rattle.bitcursor.specs.Format.{pure, _>>=_, relay}
 use Rattle.bitcursor.specs.Inputs.{Places, Payloads, Onward}
-use Rattle.bitcursor.specs.Fields.{main, within, lifted, movedIn}
+use Rattle.bitcursor.specs.Fields.{main, partIn, lifted, movedIn}
 use Rattle.text.specs.declared.Places.{Places as CodePlaces}
 use Rattle.text.specs.declared.version.Version.{Version}
 use Rattle.text.specs.declared.version.MaybeVersion.the-variants.{Known, Unknown}
@@ -71,7 +71,7 @@ front-refused xs (refused j q) {x} {k} {p} e h =
 -- the rest starts within the main payload: the front's first field is a code of two bits at least
 pub front-within : (caps : Caps) (v : Version) (γ : Payloads) (p : Places) {f : Front} {q : Places} → (front caps v) .read γ p ≡ got f q
     → q .main ≤ size (γ .main)
-unfolding front named gradient plane within relay _>>=_ pure
+unfolding front named gradient plane partIn relay _>>=_ pure
 front-within caps v γ p {f} {q} e =
     let l = (front caps v) .sound γ f p q e in
     let on : Onward γ p q = subst (λ (o : Out Places Front). Onward γ p (place o)) e ((front caps v) .grows γ p) in

@@ -7,7 +7,7 @@ use Rattle.bitcursor.specs.Codes.{RC, signed-BS, BL}
 use Rattle.bitcursor.specs.Doubles.{BD}
 use Rattle.bitcursor.specs.Format.{Format, pure, _>>=_, relay}
 use Rattle.bitcursor.specs.Inputs.{one, both, Places, Payloads}
-use Rattle.bitcursor.specs.Fields.{coded, main, within}
+use Rattle.bitcursor.specs.Fields.{coded, main, partIn}
 use Rattle.text.specs.declared.version.Version.{Version}
 use Rattle.text.specs.TextField.{TV-field}
 use Rattle.hatch_format.specs.declared.GradientColorBits.{GradientColorBits}
@@ -101,18 +101,18 @@ module _ (cap : ℕ) where
   module _ (v : Version) where
     unfoldable pub gradient-read : Bool → Format both Gradient
     gradient-read true = do
-      b ← within main block
+      b ← partIn main block
       name ← TV-field v
       pure (shown b name)
     gradient-read false = pure no-gradient
 
     pub gradient-to : (t : Bool) (γ : Payloads) (a : Gradient) (p q : Places) → (gradient-read t) .lays γ a p q → GradientLaid cap v t γ a p q
-    unfolding gradient-read within block TV-field relay _>>=_ pure
+    unfolding gradient-read partIn block TV-field relay _>>=_ pure
     gradient-to true γ a p q l = let e = l .3 .3 in rw (e .1) (l .0, l .3 .0, (l .1, l .2, l .3 .2), e .0)
     gradient-to false γ a p q l = l
 
     pub gradient-from : (t : Bool) (γ : Payloads) (a : Gradient) (p q : Places) → GradientLaid cap v t γ a p q → (gradient-read t) .lays γ a p q
-    unfolding gradient-read within block TV-field relay _>>=_ pure
+    unfolding gradient-read partIn block TV-field relay _>>=_ pure
     gradient-from true γ a p q l = (l .0, l .2 .0, l .2 .1, (l .1, q, l .2 .2, (l .3, refl)))
     gradient-from false γ a p q l = l
 

@@ -6,7 +6,7 @@ use lib.Dec.{leb}
 use Rattle.bitcursor.specs.Doubles.{BD}
 use Rattle.bitcursor.specs.Format.{Format, pure, _>>=_, relay}
 use Rattle.bitcursor.specs.Inputs.{one, both, Places, Payloads}
-use Rattle.bitcursor.specs.Fields.{coded, main, within}
+use Rattle.bitcursor.specs.Fields.{coded, main, partIn}
 use Rattle.text.specs.declared.version.Version.{Version}
 use Rattle.text.specs.Releases.{releaseNumber}
 use Rattle.text.specs.TextField.{TV-field}
@@ -44,19 +44,19 @@ module _ (caps : Caps) (handles : Handles) (v : Version) where
   unfoldable pub hatch-read : Format both Body
   hatch-read = do
     fill ← gradient (caps .colors) v (leb 3 (releaseNumber v))
-    a ← within main plane
+    a ← partIn main plane
     name ← TV-field v
-    b ← within main (rest caps handles v)
+    b ← partIn main (rest caps handles v)
     pure (record { gradient = fill; plane = a; name = name; rest = b })
 
   pub hatch-to : (γ : Payloads) (a : Body) (p q : Places) → hatch-read .lays γ a p q → BodyLaid caps handles v γ a p q
-  unfolding hatch-read gradient plane rest within TV-field relay _>>=_ pure
+  unfolding hatch-read gradient plane rest partIn TV-field relay _>>=_ pure
   hatch-to γ a p q l =
       let e = l .3 .3 .3 .3 in
       rw (e .0, e .1) (l .1, l .2, (l .3 .1, l .3 .2, (l .3 .3 .1, l .3 .3 .2, l .3 .3 .3 .2)))
 
   pub hatch-from : (γ : Payloads) (a : Body) (p q : Places) → BodyLaid caps handles v γ a p q → hatch-read .lays γ a p q
-  unfolding hatch-read gradient plane rest within TV-field relay _>>=_ pure
+  unfolding hatch-read gradient plane rest partIn TV-field relay _>>=_ pure
   hatch-from γ a p q l =
       (a .gradient, l .0, l .1, (a .plane, l .2 .0, l .2 .1, (a .name, l .2 .2 .0, l .2 .2 .1, (a .rest, q, l .2 .2 .2, (refl, refl)))))
 

@@ -10,7 +10,7 @@ use Rattle.bitcursor.specs.Reading.{Out, got, refused, andThen}
 use Rattle.bitcursor.specs.Ranges.{BL-below}
 use Rattle.bitcursor.specs.Format.{Format, pure, _>>=_, relay}
 use Rattle.bitcursor.specs.Inputs.{one, both, Places, Payloads}
-use Rattle.bitcursor.specs.Fields.{main, within, movedIn}
+use Rattle.bitcursor.specs.Fields.{main, partIn, movedIn}
 use Rattle.text.specs.declared.Text.{Text}
 use Rattle.text.specs.declared.Places.{Places as CodePlaces}
 use Rattle.text.specs.declared.ReadField.{ReadField}
@@ -42,17 +42,17 @@ use Rattle.hatch_front.proofs.FrontLaws.{shown-is}
 module _ {A B : Type 0} (f : Format one A) (v : Version) (g : A → Text → B) (γ : Payloads) (p : Places) where
   unfoldable pub texted : Format both B
   texted = do
-    a ← within main f
+    a ← partIn main f
     t ← TV-field v
     pure (g a t)
 
   pub texted-no : {k : Refusal} {n : ℕ} → f .read (γ .main) (p .main) ≡ refused k n → texted .read γ p ≡ refused k (movedIn main p n)
-  unfolding texted within _>>=_
+  unfolding texted partIn _>>=_
   texted-no e = rw e
 
   module _ {a : A} {n : ℕ} (e : f .read (γ .main) (p .main) ≡ got a n) where
     pub texted-on : texted .read γ p ≡ andThen ((TV-field v) .read γ (movedIn main p n)) (λ t q. got (g a t) q)
-    unfolding texted within _>>=_ pure
+    unfolding texted partIn _>>=_ pure
     texted-on = rw e
 
     pub texted-done : {t : Text} {q : Places} → (TV-field v) .read γ (movedIn main p n) ≡ got t q → texted .read γ p ≡ got (g a t) q

@@ -4,7 +4,7 @@ use lib.Dec.{leb}
 use Rattle.bitcursor.specs.Reading.{Out, got, refused, andThen}
 use Rattle.bitcursor.specs.Format.{Format, pure, _>>=_, relay}
 use Rattle.bitcursor.specs.Inputs.{both, Places, Payloads}
-use Rattle.bitcursor.specs.Fields.{main, within, lifted}
+use Rattle.bitcursor.specs.Fields.{main, partIn, lifted}
 use Rattle.text.specs.declared.Text.{Text}
 use Rattle.text.specs.declared.version.Version.{Version}
 use Rattle.text.specs.Releases.{releaseNumber}
@@ -26,7 +26,7 @@ namedAs a name = record { plane = a; name = name }
 
 unfoldable pub named : Version → Format both Named
 named v = do
-  a ← within main plane
+  a ← partIn main plane
   name ← TV-field v
   pure (namedAs a name)
 
@@ -52,7 +52,7 @@ module _ (caps : Caps) (handles : Handles) (v : Version) (γ : Payloads) where
       (λ b r. got (record { gradient = f .gradient; plane = f .plane; name = f .name; rest = b }) r)
 
   pub hatch-front : (p : Places) → (hatch caps handles v) .read γ p ≡ andThen ((front caps v) .read γ p) whole
-  unfolding hatch hatch-read front named within relay _>>=_ pure
+  unfolding hatch hatch-read front named partIn relay _>>=_ pure
   hatch-front p = gradients ((gradient (caps .colors) v (leb 3 (releaseNumber v))) .read γ p)
     where
       texts : (fill : Gradient) (a : Plane) (o : Out Places Text)

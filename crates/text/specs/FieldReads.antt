@@ -10,7 +10,7 @@ use Rattle.bitcursor.specs.Code.{measured}
 use Rattle.bitcursor.specs.Codes.{BS}
 use Rattle.bitcursor.specs.Inputs.{both, Places, Payloads}
 use Rattle.bitcursor.specs.Format.{Format, pure, refuse, _>>=_, peek, either}
-use Rattle.bitcursor.specs.Fields.{main, string, within, field, lifted, movedIn}
+use Rattle.bitcursor.specs.Fields.{main, string, partIn, field, lifted, movedIn}
 use Rattle.text.specs.declared.Source.the-variants.{Main, String}
 use Rattle.text.specs.declared.Text.{Text}
 use Rattle.text.specs.declared.version.Version.{Version}
@@ -21,7 +21,7 @@ use Rattle.text.specs.Answers.{placed, inlineText, readerText}
 
 module _ (γ : Payloads) (p : Places) where
   pub inline-reads : (v : Version) → (inline (widthOf v)) .read γ p ≡ lifted main p (inlineText v (γ .main) (p .main))
-  unfolding inline here peek _>>=_ pure within inlineText
+  unfolding inline here peek _>>=_ pure partIn inlineText
   inline-reads v = go ((TV (widthOf v)) .read (γ .main) (p .main))
     where
       go : (o : Out ℕ Written) → andThen (lifted main p o) (λ t q. got (textOf Main (widthOf v) (p .main) t) q)
@@ -39,7 +39,7 @@ module _ (γ : Payloads) (p : Places) where
 
   rest-reads : (m : ℕ × ℕ) (q : ℕ) → (units-of m) .read γ (movedIn string p q)
       ≡ lifted string p (andThen ((units 2 (m .1)) .read (γ .string) q) (placed-after m))
-  unfolding units-of _>>=_ within pure
+  unfolding units-of _>>=_ partIn pure
   rest-reads m q = units-go ((units 2 (m .1)) .read (γ .string) q)
     where
       judged-go : (k : ℕ) (o : Out ℕ Written) → andThen (lifted string (movedIn string p k) o) (λ t s. got (textOf String wide (p .string) t) s)
@@ -73,7 +73,7 @@ module _ (γ : Payloads) (p : Places) where
 
   length-reads : measured-text .read γ p
       ≡ lifted string p (andThen ((measured BS) .read (γ .string) (p .string)) (λ m q. after m q (eqb (m .1) 0 || leb (q + 16 * m .1) (γ .end))))
-  unfolding measured-text _>>=_ within room-for peek
+  unfolding measured-text _>>=_ partIn room-for peek
   length-reads = go ((measured BS) .read (γ .string) (p .string))
     where
       go : (o : Out ℕ (ℕ × ℕ))

@@ -4,7 +4,7 @@ use mathlib.Core.Bool.{Bool, true, false}
 use Prim.Native.Nat.{ℕ}
 use Rattle.bitcursor.specs.Inputs.{both, Places, Payloads}
 use Rattle.bitcursor.specs.Format.{Format, pure, relay, _>>=_, peek, either, either-yes, either-no, reads}
-use Rattle.bitcursor.specs.Fields.{main, string, Field, within, lifted}
+use Rattle.bitcursor.specs.Fields.{main, string, Field, partIn, lifted}
 use Rattle.text.specs.declared.Source.the-variants.{Main}
 use Rattle.text.specs.declared.Text.{Text}
 use Rattle.text.specs.declared.version.Version.{Version}
@@ -37,7 +37,7 @@ TV-read v = do
   either reader reader-text (inline (widthOf v))
 
 inline-to : (w : UnitWidth) (γ : Payloads) (t : Text) (p q : Places) → (inline w) .lays γ t p q → InlineText w γ t p q
-unfolding inline here peek _>>=_ pure within
+unfolding inline here peek _>>=_ pure partIn
 inline-to w γ t p q l =
     let m = l .3 in (
       m .0,
@@ -46,7 +46,7 @@ inline-to w γ t p q l =
     )
 
 inline-from : (w : UnitWidth) (γ : Payloads) (t : Text) (p q : Places) → InlineText w γ t p q → (inline w) .lays γ t p q
-unfolding inline here peek _>>=_ pure within
+unfolding inline here peek _>>=_ pure partIn
 inline-from w γ t p q l = (p .main, p, (refl, refl), (l .0, q, l .1, (l .2, refl)))
 
 pub text-to : (v : Version) (γ : Payloads) (t : Text) (p q : Places) → (TV-read v) .lays γ t p q → TextLaid v γ t p q
