@@ -18,6 +18,7 @@ use Rattle.loads.specs.Bits.{size, limit}
 use Rattle.bitcursor.specs.Reading.{Out, got, refused, andThen, never}
 use Rattle.bitcursor.specs.Code.{Code, raw, _>>=_, mapped, tabled, give}
 use Rattle.bitcursor.specs.Codes.{byTag, tagged}
+use Rattle.bitcursor.specs.Ranges.{raw-below, read-below}
 use Rattle.bitcursor.specs.Bytes.{skip, le-or-lt}
 use Rattle.bitcursor.specs.Stops.{skip-there, skip-short}
 use Rattle.bitcursor.specs.declared.Handle.{Handle}
@@ -68,6 +69,23 @@ last-tag a b c d xs q (suc zero) h₀ h₁ h₂ = absurd (h₁ refl)
 last-tag a b c d xs q (suc (suc zero)) h₀ h₁ h₂ = absurd (h₂ refl)
 last-tag a b c d xs q (suc (suc (suc t))) h₀ h₁ h₂ = refl
 
+first-tags : {A : Type 0} (a b c d : Code A) (xs : List ℕ) (q t : ℕ) → t < 4 → (t ≡ 2 → ⊥) → (t ≡ 3 → ⊥)
+    → (byTag a b c d t) .read xs q ≡ (byTag a b b b t) .read xs q
+unfolding byTag
+first-tags a b c d xs q zero l h₂ h₃ = refl
+first-tags a b c d xs q (suc zero) l h₂ h₃ = refl
+first-tags a b c d xs q (suc (suc zero)) l h₂ h₃ = absurd (h₂ refl)
+first-tags a b c d xs q (suc (suc (suc zero))) l h₂ h₃ = absurd (h₃ refl)
+first-tags a b c d xs q (suc (suc (suc (suc t)))) l h₂ h₃ = absurd (omega arith)
+
+-- what follows every tag but 00
+pub behind-tag : {A : Type 0} (a b : Code A) (xs : List ℕ) (q t : ℕ) → (t ≡ 0 → ⊥) → (byTag a b b b t) .read xs q ≡ b .read xs q
+unfolding byTag
+behind-tag a b xs q zero h = absurd (h refl)
+behind-tag a b xs q (suc zero) h = refl
+behind-tag a b xs q (suc (suc zero)) h = refl
+behind-tag a b xs q (suc (suc (suc t))) h = refl
+
 -- x is what `read_bits` answered for the tag
 module _ {A : Type 0} (a b c d : Code A) (xs : List ℕ) (p : ℕ) {x : Read} (e : x ≡ asRead ((raw 2) .read xs p)) where
   on-tag : {t q : ℕ} → x ≡ Value t q → (tagged a b c d) .read xs p ≡ (byTag a b c d t) .read xs q
@@ -88,6 +106,14 @@ module _ {A : Type 0} (a b c d : Code A) (xs : List ℕ) (p : ℕ) {x : Read} (e
 
   pub tag-11 : {t q : ℕ} → x ≡ Value t q → (t ≡ 0 → ⊥) → (t ≡ 1 → ⊥) → (t ≡ 2 → ⊥) → (tagged a b c d) .read xs p ≡ d .read xs q
   tag-11 {t} {q} h h₀ h₁ h₂ = on-tag h ∙ last-tag a b c d xs q t h₀ h₁ h₂
+
+  pub tag-three : {t q : ℕ} → x ≡ Value t q → t ≡ 3 → (tagged a b c d) .read xs p ≡ d .read xs q
+  unfolding byTag
+  tag-three {t} {q} h z = on-tag h ∙ ap (λ (k : ℕ). (byTag a b c d k) .read xs q) z
+
+  -- one of 00 and 01
+  pub tag-rest : {t q : ℕ} → x ≡ Value t q → (t ≡ 2 → ⊥) → (t ≡ 3 → ⊥) → (tagged a b c d) .read xs p ≡ (byTag a b b b t) .read xs q
+  tag-rest {t} {q} h h₂ h₃ = on-tag h ∙ first-tags a b c d xs q t (read-below (raw 2) (raw-below 2) xs p (read-value _ e h)) h₂ h₃
 
   pub tag-none : {r : Refusal} {q : ℕ} → x ≡ Refused r q → (tagged a b c d) .read xs p ≡ refused r q
   unfolding tagged

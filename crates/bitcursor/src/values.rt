@@ -14,8 +14,8 @@ use crate::ReadI32;
 pub fn double_of(bits: u64) -> f64
     ensures { λ r. ⌜ r ≡ ofBits binary64 bits ⌝ }
 {
-    let magnitude = bits % 0x8000_0000_0000_0000;
-    if magnitude > 0x7ff0_0000_0000_0000 {
+    // twice the bits without the sign's, above twice an infinity's
+    if bits << 1 > 0xffe0_0000_0000_0000 {
         return 0.0 / 0.0;
     }
     f64::from_bits(bits)

@@ -4,7 +4,7 @@ ghost use Prim.Native.Nat.{_+_, _/_, _^_, _≤_, _<_};
 ghost use lib.ListN.{length};
 ghost use Rattle.bitcursor.specs.Code.{raw};
 ghost use Rattle.bitcursor.specs.Bytes.{lowFirst, highFirst, skip};
-ghost use Rattle.bitcursor.specs.Codes.{BS, BL};
+ghost use Rattle.bitcursor.specs.Codes.{byTag, BS, BL};
 ghost use Rattle.bitcursor.specs.Doubles.{BD, DD, four, six};
 ghost use Rattle.bitcursor.specs.Handles.{BLL, HANDLE, HANDLE-value};
 ghost use Rattle.bitcursor.specs.Answers.{asRead, asHandle, asPassed};
@@ -15,16 +15,15 @@ use crate::Read;
 use crate::ReadHandle;
 use crate::Refusal;
 
-// The next n bits.
+// The next n bits. A payload that is not empty has n bits, so that its last place for them is known, and one comparison tells.
 pub fn read_bits(s: &[u8], at: usize, n: usize) -> Read
     requires { ⌜ (length (now s) ≤ limit) × ((1 ≤ n) × (n ≤ 8)) ⌝ }
     ensures { λ r. ⌜ r ≡ asRead ((raw n) .read (now (s .entry)) at) ⌝ }
 {
-    let end = s.len() * 8;
-    if end <= at {
+    if s.len() == 0 {
         return Read::Refused(Refusal::TooFewBits, at);
     }
-    if end - at < n {
+    if s.len() * 8 - n < at {
         return Read::Refused(Refusal::TooFewBits, at);
     }
     Read::Value(loads::bits_at(s, at, n), at + n)
@@ -77,18 +76,33 @@ fn read_high(s: &[u8], at: usize, n: usize) -> Read
     }
 }
 
+// What follows the tags 00 and 01 of a BS or a BL: n bytes, or one. BS and BL share it, so that the compiler leaves it a call, and puts the
+// two, which have the codes that are a tag alone before it, into their callers.
+fn read_tagged(s: &[u8], at: usize, tag: u64, n: usize) -> Read
+    requires { ⌜ (length (now s) ≤ limit) × (n ≤ 8) ⌝ }
+    ensures { λ r. ⌜ r ≡ asRead ((byTag (lowFirst n) (lowFirst 1) (lowFirst 1) (lowFirst 1) tag) .read (now (s .entry)) at) ⌝ }
+{
+    if tag == 0 {
+        return read_low(s, at, n);
+    }
+    read_low(s, at, 1)
+}
+
 // BS, unsigned.
 pub fn read_bs_u(s: &[u8], at: usize) -> Read
     requires { ⌜ length (now s) ≤ limit ⌝ }
     ensures { λ r. ⌜ r ≡ asRead (BS .read (now (s .entry)) at) ⌝ }
 {
     match read_bits(s, at, 2) {
-        Read::Value(tag, p) => match tag {
-            0 => read_low(s, p, 2),
-            1 => read_low(s, p, 1),
-            2 => Read::Value(0, p),
-            _ => Read::Value(256, p),
-        },
+        Read::Value(tag, p) => {
+            if tag == 2 {
+                return Read::Value(0, p);
+            }
+            if tag == 3 {
+                return Read::Value(256, p);
+            }
+            read_tagged(s, p, tag, 2)
+        }
         Read::Refused(k, p) => Read::Refused(k, p),
     }
 }
@@ -99,12 +113,15 @@ pub fn read_bl_u(s: &[u8], at: usize) -> Read
     ensures { λ r. ⌜ r ≡ asRead (BL .read (now (s .entry)) at) ⌝ }
 {
     match read_bits(s, at, 2) {
-        Read::Value(tag, p) => match tag {
-            0 => read_low(s, p, 4),
-            1 => read_low(s, p, 1),
-            2 => Read::Value(0, p),
-            _ => Read::Refused(Refusal::ReservedTag, p),
-        },
+        Read::Value(tag, p) => {
+            if tag == 2 {
+                return Read::Value(0, p);
+            }
+            if tag == 3 {
+                return Read::Refused(Refusal::ReservedTag, p);
+            }
+            read_tagged(s, p, tag, 4)
+        }
         Read::Refused(k, p) => Read::Refused(k, p),
     }
 }

@@ -1,7 +1,8 @@
 -- Above the infinities' patterns every pattern is a NaN's, and 0.0 / 0.0 is the NaN; at every other `from_bits` is defined.
 use mathlib.Core.Path.{_≡_, refl, sym, _∙_}
+use native.Mathlib.Omega.{arith}
 use lib.Ieee.{nan, div, ofBits, binary64}
-use Rattle.bitcursor.proofs.Nans.{nan-of, no-nan-of}
+use Rattle.bitcursor.proofs.Nans.{doubled, nan-of, no-nan-of}
 use borrow.Author.Needs.{needs}
 use Rattle.bitcursor.proofs.values.double_of.Statement.{statement}
 use Rattle.bitcursor.proofs.values.double_of.Tie as tie
@@ -11,10 +12,10 @@ unfolding div ofBits
 nans = refl
 
 returns : tie.Need-returns
-returns c = nans ∙ sym (nan-of (c .before .args .bits) (c .if1 .taken))
+returns c = nans ∙ sym (nan-of (c .before .args .bits) (omega arith))
 
 float-from-bits-result : tie.Need-float-from-bits-result
-float-from-bits-result c = no-nan-of (c .before .args .bits) (c .if1 .left)
+float-from-bits-result c = let bits = c .before .args .bits in no-nan-of bits (omega (arith, doubled bits))
 
 returns-2 : tie.Need-returns-2
 returns-2 c = search needs

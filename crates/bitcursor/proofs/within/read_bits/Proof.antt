@@ -10,11 +10,12 @@ use borrow.Author.Needs.{needs}
 use Rattle.bitcursor.proofs.within.read_bits.Statement.{statement}
 use Rattle.bitcursor.proofs.within.read_bits.Tie as tie
 
-mul-end : tie.Need-mul-end
-mul-end c = search needs
-
+-- an empty payload has no bit
 returns : tie.Need-returns
 returns c = let a = c .before .before .args in sym (ap asRead (raw-short (a .n) (now (a .s)) (a .at) (omega arith)))
+
+mul-if2 : tie.Need-mul-if2
+mul-if2 c = search needs
 
 sub-if2 : tie.Need-sub-if2
 sub-if2 c = search needs
@@ -25,16 +26,15 @@ returns-2 c = let a = c .before .before .before .args in sym (ap asRead (raw-sho
 bits-at-requires : tie.Need-bits-at-requires
 bits-at-requires c κs = search needs
 
-add-t5 : tie.Need-add-t5
-add-t5 c = search needs
+add-t4 : tie.Need-add-t4
+add-t4 c = search needs
 
 returns-3 : tie.Need-returns-3
 returns-3 c =
-    let else2 = c .before in
-    let entry = else2 .before .before .before in
-    let a = entry .args in
+    let there = c .before in
+    let a = there .before .before .before .args in
     ap (λ (v : ℕ). Value v (a .at + a .n)) (c .bits-at .ensures) ∙ sym (ap asRead (raw-there (a .n) (now (a .s)) (a .at) (omega arith)))
 
 pub read-bits-spec : {M : Type 1} → statement M
 read-bits-spec =
-    tie.close (tie.spec mul-end returns sub-if2 returns-2 bits-at-requires add-t5 returns-3)
+    tie.close (tie.spec returns mul-if2 sub-if2 returns-2 bits-at-requires add-t4 returns-3)

@@ -1,10 +1,9 @@
--- Each tag picks what the table has for it.
+-- Each tag picks what the table has for it; the codes that are a tag alone are looked for first.
 use mathlib.Core.Path.{_≡_, sym, ap, _∙_}
 use denote.Ref.{now}
-use Rattle.bitcursor.specs.declared.Refusal.the-variants.{ReservedTag}
 use Rattle.bitcursor.specs.Answers.{asRead}
-use Rattle.bitcursor.proofs.Steps.{tag-00, tag-01, tag-10, tag-11, tag-none}
-use Rattle.bitcursor.specs.Code.{tabled, give, refuse}
+use Rattle.bitcursor.proofs.Steps.{tag-10, tag-three, tag-rest, tag-none}
+use Rattle.bitcursor.specs.Code.{tabled, give}
 use Rattle.bitcursor.specs.Bytes.{lowFirst}
 use Rattle.bitcursor.specs.Codes.{BS, BS-read}
 use borrow.Author.Needs.{needs}
@@ -17,64 +16,47 @@ read-bits-requires c κs = search needs
 enum-known-tag : tie.Need-enum-known-tag
 enum-known-tag c = search needs
 
-read-low-requires : tie.Need-read-low-requires
-read-low-requires c κs = search needs
-
-read-low-requires-2 : tie.Need-read-low-requires-2
-read-low-requires-2 c κs = search needs
-
-enum-known-k : tie.Need-enum-known-k
-enum-known-k c = search needs
-
 returns : tie.Need-returns
 unfolding BS tabled BS-read give
 returns c =
-    let at-match2-keys1 = c .before in
-    let after-tag = at-match2-keys1 .before .before in
+    let after-tag = c .before .before in
     let after-read-bits = after-tag .before .before in
-    let entry = after-read-bits .before .before in
-    let a = entry .args in
-    c .read-low .ensures ∙ sym (ap asRead (tag-00 (lowFirst 2) (lowFirst 1) (give 0) (give 256) (now (a .s)) (a .at)
-    (after-read-bits .read-bits .ensures) (after-tag .tag .given .1) (at-match2-keys1 .match2 .keys1)))
+    let a = after-read-bits .before .before .args in
+    sym (ap asRead (tag-10 (lowFirst 2) (lowFirst 1) (give 0) (give 256) (now (a .s)) (a .at) (after-read-bits .read-bits .ensures)
+    (after-tag .tag .given .1) (c .if1 .taken)))
 
 returns-2 : tie.Need-returns-2
 unfolding BS tabled BS-read give
 returns-2 c =
-    let at-match2-keys2 = c .before in
-    let after-tag = at-match2-keys2 .before .before in
+    let after-tag = c .before .before .before in
     let after-read-bits = after-tag .before .before in
-    let entry = after-read-bits .before .before in
-    let a = entry .args in
-    c .read-low2 .ensures ∙ sym (ap asRead (tag-01 (lowFirst 2) (lowFirst 1) (give 0) (give 256) (now (a .s)) (a .at)
-    (after-read-bits .read-bits .ensures) (after-tag .tag .given .1) (at-match2-keys2 .match2 .keys2)))
+    let a = after-read-bits .before .before .args in
+    sym (ap asRead (tag-three (lowFirst 2) (lowFirst 1) (give 0) (give 256) (now (a .s)) (a .at) (after-read-bits .read-bits .ensures)
+    (after-tag .tag .given .1) (c .if2 .taken)))
+
+read-tagged-requires : tie.Need-read-tagged-requires
+read-tagged-requires c κs = search needs
+
+enum-known-k : tie.Need-enum-known-k
+enum-known-k c = search needs
 
 returns-3 : tie.Need-returns-3
 unfolding BS tabled BS-read give
 returns-3 c =
-    let after-tag = c .before .before in
+    let not-three = c .before in
+    let not-two = not-three .before in
+    let after-tag = not-two .before .before in
     let after-read-bits = after-tag .before .before in
-    let entry = after-read-bits .before .before in
-    let a = entry .args in
-    sym (ap asRead (tag-10 (lowFirst 2) (lowFirst 1) (give 0) (give 256) (now (a .s)) (a .at) (after-read-bits .read-bits .ensures)
-    (after-tag .tag .given .1) (c .match2 .keys3)))
+    let a = after-read-bits .before .before .args in
+    c .read-tagged .ensures ∙ sym (ap asRead (tag-rest (lowFirst 2) (lowFirst 1) (give 0) (give 256) (now (a .s)) (a .at)
+    (after-read-bits .read-bits .ensures) (after-tag .tag .given .1) (not-two .if1 .left) (not-three .if2 .left)))
 
 returns-4 : tie.Need-returns-4
 unfolding BS tabled BS-read give
 returns-4 c =
-    let after-tag = c .before .before in
-    let after-read-bits = after-tag .before .before in
-    let entry = after-read-bits .before .before in
-    let a = entry .args in
-    sym (ap asRead (tag-11 (lowFirst 2) (lowFirst 1) (give 0) (give 256) (now (a .s)) (a .at) (after-read-bits .read-bits .ensures)
-    (after-tag .tag .given .1) (c .match2 .rest .0 .0 .1) (c .match2 .rest .0 .1) (c .match2 .rest .1)))
-
-returns-5 : tie.Need-returns-5
-unfolding BS tabled BS-read give
-returns-5 c =
     let after-k = c .before in
     let after-read-bits = after-k .before .before in
-    let entry = after-read-bits .before .before in
-    let a = entry .args in
+    let a = after-read-bits .before .before .args in
     sym (ap asRead (tag-none (lowFirst 2) (lowFirst 1) (give 0) (give 256) (now (a .s)) (a .at) (after-read-bits .read-bits .ensures)
     (after-k .k .given .1)))
 
@@ -84,11 +66,9 @@ read-bs-u-spec =
     (tie.spec
     read-bits-requires
     enum-known-tag
-    read-low-requires
-    read-low-requires-2
-    enum-known-k
     returns
     returns-2
+    read-tagged-requires
+    enum-known-k
     returns-3
-    returns-4
-    returns-5)
+    returns-4)
