@@ -1,10 +1,10 @@
--- What a reader takes beside the bytes and the cursor: nothing, or a double (the default of `read_dd`). The walks are stated once, over which of the two it is, X.
---     Value X, Sound X d         the extra parameter's value, and that it is a double's
---     slots X, stays X, goes X   its part of a signature, and of what a walk has at exit
---     passed X d, value X x      its value as the last part of the arguments, and back.       words X x     its machine values
---     locals X, after X i, operands X     its part of the MIR: its local, the number of the local that is numbered i where there is none, and how it is handed on
---     blocks X l, room X l, dies X l, cell X l d     its part of the memory, its local's block being l
--- and a rule for each step of a walk at which there may be one more. Assumes nothing.
+-- What a reader takes beside the bytes and the cursor, X: nothing, or a double (the default of `read_dd`). The walks are stated once, over X.
+--     Value X, Sound X d                the extra parameter's value, and that it is a double's
+--     slots X, rows X, stays X, goes X     its part of a signature, and of what a walk has at exit
+--     passed X d, value X x             its value as the last part of the arguments, and back.        words X x     its machine values
+--     locals X, after X i, operands X   its part of the MIR: its local, the number of what is the local i where X is none, and the operand that hands it on
+--     blocks X l, room X l, dies X l, cell X l d     its part of the memory, where its local is the block l
+-- and a rule for each step of a walk in which it counts. Assumes nothing.
 use mathlib.Core.Path.{_≡_, refl}
 use Prim.Native.Nat.{ℕ, suc}
 use mathlib.Core.List.{[], _∷_, _++_, List}
@@ -20,7 +20,7 @@ use prog.Wp.{Heap, Env, Spot, noLocal}
 use ghost.Atoms.{Atoms}
 use types.Kit.{Given, Item, ‵, nth, put, Goal, allocs, passes, frees, Seq, Step, step, _$_, drop, rewrite, fjoin}
 use types.Run.{Walks, Finds, Opds, look, init, forget, from, stop, load, and-then, no-more, alloc1, pass1, free1}
-use denote.RattleType.{Denots, Valss, flat, owns}
+use denote.RattleType.{RattleType, Denots, Valss, flat, owns}
 use denote.Laws.{Is, Ises, Are, Spells, valss, Tellss}
 use denote.Floats.{float-vals, float-tells, float-lawful, float-makes}
 use denote.Builtin.{f64}
@@ -53,11 +53,14 @@ module _ (n : ℕ) where
   stays double = (stay-none (λ _. f64) yes, tt)
 
   module _ (κs : Lfts n) where
-    abbrev pub passed : (X : Extra) → Value X → Denots (typesAt (slots X) κs)
+    abbrev pub rows : Extra → List RattleType
+    rows X = typesAt (slots X) κs
+
+    abbrev pub passed : (X : Extra) → Value X → Denots (rows X)
     passed none d = tt
     passed double d = (d, tt)
 
-    abbrev pub value : (X : Extra) → Denots (typesAt (slots X) κs) → Value X
+    abbrev pub value : (X : Extra) → Denots (rows X) → Value X
     value none x = tt
     value double x = x .0
 
@@ -65,31 +68,32 @@ module _ (n : ℕ) where
     value-passed none d = refl
     value-passed double d = refl
 
-    abbrev pub spells : (X : Extra) → Spells (typesAt (slots X) κs)
+    abbrev pub spells : (X : Extra) → Spells (rows X)
     spells none = tt
     spells double = (float-vals binary64, tt)
 
-    pub tells : (X : Extra) → Tellss (typesAt (slots X) κs) (Ises (typesAt (slots X) κs)) (spells X)
+    pub tells : (X : Extra) → Tellss (rows X) (Ises (rows X)) (spells X)
     tells none = tt
     tells double = (float-tells binary64, tt)
 
-    abbrev pub words : (X : Extra) → Denots (typesAt (slots X) κs) → Valss (typesAt (slots X) κs)
-    words X x = valss (typesAt (slots X) κs) (spells X) x
+    abbrev pub words : (X : Extra) → Denots (rows X) → Valss (rows X)
+    words X x = valss (rows X) (spells X) x
 
-    pub value-sound : (X : Extra) (x : Denots (typesAt (slots X) κs)) → Are (typesAt (slots X) κs) (Ises (typesAt (slots X) κs)) x (words X x) → Sound X (value X x)
+    pub value-sound : (X : Extra) (x : Denots (rows X)) → Are (rows X) (Ises (rows X)) x (words X x) → Sound X (value X x)
     value-sound none x are = tt
     value-sound double x are = are .0
 
     -- at exit nothing is bound for it
-    abbrev pub unbound : (X : Extra) (x : Denots (typesAt (slots X) κs)) → Fins κs (slots X) (all yes (slots X)) x
+    abbrev pub unbound : (X : Extra) (x : Denots (rows X)) → Fins κs (slots X) (all yes (slots X)) x
     unbound none x = tt
     unbound double x = (tt, tt)
 
-    pub fits : (X : Extra) (x : Denots (typesAt (slots X) κs)) → fitsOf κs (slots X) (all yes (slots X)) (stays X) x (unbound X x)
+    pub fits : (X : Extra) (x : Denots (rows X)) → fitsOf κs (slots X) (all yes (slots X)) (stays X) x (unbound X x)
     fits none x = tt
     fits double x = (tt, tt)
 
-pub goes : {M : Type 1} (𝓤 : URA M) (H : Heap 𝓤) (A : Atoms 𝓤) (W : Given 𝓤 H A) (n : ℕ) (X : Extra) → AllGo 𝓤 H A W n (slots n X) (all yes (slots n X)) (stays n X)
+pub goes : {M : Type 1} (𝓤 : URA M) (H : Heap 𝓤) (A : Atoms 𝓤) (W : Given 𝓤 H A) (n : ℕ) (X : Extra)
+    → AllGo 𝓤 H A W n (slots n X) (all yes (slots n X)) (stays n X)
 goes 𝓤 H A W n none = tt
 goes 𝓤 H A W n double = (goes-none 𝓤 H A W n (λ _. f64) yes (λ κs x f. refl), tt)
 
@@ -127,11 +131,11 @@ cell double l d = fat fullShare (tyFloat binary64) l 0 (vfloat binary64 d)
 module _ {M : Type 1} {𝓤 : URA M} {H : Heap 𝓤} {A : Atoms 𝓤} {K : Type 0} {W : Given 𝓤 H A} {Γ : List (Item 𝓤)} where
   -- what is owned of it, on a call and at exit, is had for nothing
   pub owned-extra : K → (n : ℕ) (κs : Lfts n) (X : Extra) (d : Value X) → Sound X d → {G : Goal 𝓤 H}
-      → Step K W (‵ (owns (typesAt (slots n X) κs) (passed n κs X d) (words n κs X (passed n κs X d))) ∷ Γ) G Γ G
+      → Step K W (‵ (owns (rows n κs X) (passed n κs X d) (words n κs X (passed n κs X d))) ∷ Γ) G Γ G
   owned-extra t n κs none d is = nothing t
   owned-extra t n κs double d is = step (λ s. nothing t $ owned t f64 (Is f64) (float-makes 𝓤 H A W binary64) d _ is $ fjoin t $ s)
 
-  pub had-extra : K → (n : ℕ) (κs : Lfts n) (X : Extra) (x : Denots (typesAt (slots n X) κs)) → Sound X (value n κs X x) → {G : Goal 𝓤 H}
+  pub had-extra : K → (n : ℕ) (κs : Lfts n) (X : Extra) (x : Denots (rows n κs X)) → Sound X (value n κs X x) → {G : Goal 𝓤 H}
       → Step K W (‵ (hasOf κs (slots n X) (all yes (slots n X)) (stays n X) x (unbound n κs X x) (words n κs X x)) ∷ Γ) G Γ G
   had-extra t n κs none x is = nothing t
   had-extra t n κs double x is = step (λ s. nothing t $ owned t f64 (Is f64) (float-makes 𝓤 H A W binary64) (x .0) _ is $ fjoin t $ s)
@@ -141,14 +145,14 @@ module _ {M : Type 1} {𝓤 : URA M} {H : Heap 𝓤} {A : Atoms 𝓤} {K : Type 
   alloc-extra t none k = nothing t $ nothing t $ k 0
   alloc-extra t double k = alloc1 t k
 
-  pub pass-extra : K → (n : ℕ) (κs : Lfts n) (X : Extra) (x : Denots (typesAt (slots n X) κs)) → Sound X (value n κs X x)
+  pub pass-extra : K → (n : ℕ) (κs : Lfts n) (X : Extra) (x : Denots (rows n κs X)) → Sound X (value n κs X x)
       → (l : ℕ) (E : Env 𝓤 H) (i : ℕ) {g : Goal 𝓤 H} → nth 𝓤 H A i Γ ≡ ‵ (room X l)
-      → Step K W (put 𝓤 H A i (‵ (cell X l (value n κs X x))) Γ) (passes E [] g) Γ (passes (blocks X l ++ E) (flat (typesAt (slots n X) κs) (words n κs X x)) g)
+      → Step K W (put 𝓤 H A i (‵ (cell X l (value n κs X x))) Γ) (passes E [] g) Γ (passes (blocks X l ++ E) (flat (rows n κs X) (words n κs X x)) g)
   pass-extra t n κs none x is l E i e = rewrite t i (λ (_ : Unit {0}). ‵ ftrue) {x = tt} {y = tt} refl e
   pass-extra t n κs double x is l E i e = pass1 t (init t i e (float-lawful 𝓤 H A W binary64 .typed (x .0) _ is .0))
 
   pub operands-extra : K → (n : ℕ) (κs : Lfts n) (X : Extra) (d : Value X) (l : ℕ) (E : Env 𝓤 H) (i : ℕ) {e₀ e₁ e₂ : Ty × ℕ} → nth 𝓤 H A i Γ ≡ ‵ (cell X l d)
-      → Opds K W Γ (e₀ ∷ e₁ ∷ e₂ ∷ (blocks X l ++ E)) (operands X) (flat (typesAt (slots n X) κs) (words n κs X (passed n κs X d)))
+      → Opds K W Γ (e₀ ∷ e₁ ∷ e₂ ∷ (blocks X l ++ E)) (operands X) (flat (rows n κs X) (words n κs X (passed n κs X d)))
   operands-extra t n κs none d l E i e = no-more t
   operands-extra t n κs double d l E i e = and-then t (load t (from t (stop t)) (look t i e)) (no-more t)
 
@@ -158,7 +162,8 @@ module _ {M : Type 1} {𝓤 : URA M} {H : Heap 𝓤} {A : Atoms 𝓤} {K : Type 
   from-after t none l E i w = from t w
   from-after t double l E i w = from t w
 
-  pub forget-extra : K → (X : Extra) (d : Value X) (l : ℕ) (i : ℕ) {G : Goal 𝓤 H} → nth 𝓤 H A i Γ ≡ ‵ (cell X l d) → Step K W (put 𝓤 H A i (‵ (room X l)) Γ) G Γ G
+  pub forget-extra : K → (X : Extra) (d : Value X) (l : ℕ) (i : ℕ) {G : Goal 𝓤 H} → nth 𝓤 H A i Γ ≡ ‵ (cell X l d)
+      → Step K W (put 𝓤 H A i (‵ (room X l)) Γ) G Γ G
   forget-extra t none d l i e = rewrite t i (λ (_ : Unit {0}). ‵ ftrue) {x = tt} {y = tt} refl e
   forget-extra t double d l i e = forget t i e
 
