@@ -58,11 +58,11 @@ pub record Longer (γ δ : Payloads) : Type 0 where
 
 -- whether a string reader is lent, and its end bit
 pub record Reader : Type 0 where
-  pub lent : Bool
+  pub has-reader : Bool
   pub end : ℕ
 
 abbrev pub readerOf : Bool → ℕ → Reader
-readerOf lent end = record { lent = lent; end = end }
+readerOf has-reader end = record { has-reader = has-reader; end = end }
 
 pub stay-both : (γ : Payloads) (p : Places) → Onward γ p p
 stay-both γ p = record { main = stay (γ .main) (p .main); string = stay (γ .string) (p .string) }

@@ -17,10 +17,10 @@ use Rattle.bitcursor.specs.Format.{pure, refuse as refuse-format, _>>=_ as bind
 use Rattle.bitcursor.specs.Fields.{at-least, partIn}
 use Rattle.text.specs.declared.Text.{Text}
 use Rattle.text.specs.Units.{units, units-read}
-use Rattle.text.specs.Texts.{judged, TV, TV-read}
+use Rattle.text.specs.Texts.{checked-units, TV, TV-read}
 use Rattle.text.specs.Fields.{here, inline, past-end, room-for, from-reader}
 use Rattle.text.specs.Layouts.{reader-text}
-use Rattle.text.specs.TextField.{lent, TV-field, TV-read as TV-field-read}
+use Rattle.text.specs.TextField.{has-reader, TV-field, TV-read as TV-field-read}
 use Rattle.text.specs.Answers.{released, readerText}
 use Rattle.common_entity.specs.declared.CommonEntityBits.{CommonEntityBits}
 use Rattle.common_entity.specs.Prefix.{chain, extended, drawing, graphics, name, prefixBy}
@@ -39,7 +39,7 @@ use Rattle.hatch_format.specs.Patterns.{pattern-line-read, pattern-line, patter
 use Rattle.hatch_format.specs.Gradients.{color-read, color, block-read, block, gradient-read, gradient}
 use Rattle.hatch_format.specs.Hatch.{plane-read, plane, hatch-read, hatch}
 use Rattle.hatch_format.specs.Entries.{words, numbers}
-use Rattle.hatch_format.specs.Call.{Strings, none, lent as lent-reader, callOn, hatchCall}
+use Rattle.hatch_format.specs.Call.{Strings, none, lent, callOn, hatchCall}
 use Rattle.cases.specs.Shown.{Shown, reading, refusal, shown, shown-both, Case, of-each-release, Holds, holds, allSame}
 
 abbrev number-of : ℕ → List ℤ
@@ -101,8 +101,8 @@ cases =
     record { computed = hatch-call 3 (0xc0 ∷ []) none 0 0; stated = refusal 2 2 0 }
     ∷ record { computed = hatch-call 2 (0xa9 ∷ 0xa7 ∷ 0xfc ∷ []) none 0 0; stated = refusal 3 22 0 }
     ∷ record { computed = hatch-call 2 (0xa9 ∷ 0xa4 ∷ 0x06 ∷ 0x40 ∷ 0x41 ∷ 0x40 ∷ []) none 0 0; stated = refusal 4 42 0 }
-    ∷ record { computed = hatch-call 2 (0xa9 ∷ []) (lent-reader (0x40 ∷ 0x40 ∷ []) 0 16) 0 0; stated = refusal 6 8 10 }
-    ∷ record { computed = hatch-call 2 (0xa9 ∷ []) (lent-reader (0x40 ∷ 0x40 ∷ 0x36 ∷ 0x00 ∷ []) 0 32) 0 0; stated = refusal 7 8 26 }
+    ∷ record { computed = hatch-call 2 (0xa9 ∷ []) (lent (0x40 ∷ 0x40 ∷ []) 0 16) 0 0; stated = refusal 6 8 10 }
+    ∷ record { computed = hatch-call 2 (0xa9 ∷ []) (lent (0x40 ∷ 0x40 ∷ 0x36 ∷ 0x00 ∷ []) 0 32) 0 0; stated = refusal 7 8 26 }
     ∷ record { computed = hatch-call 2 (0xa9 ∷ 0xaa ∷ 0x90 ∷ 0x10 ∷ replicate 16 0) none 0 1; stated = refusal 11 156 0 }
     ∷ []))
 
@@ -111,7 +111,7 @@ unfolding cases allSame
     signed-BS BS BS-read BD BD-read BLL BLL-read B B-read BB RC RD RL BL BL-read HANDLE HANDLE-read HANDLE-value tagged byTag checked
     raw _>>=_ tabled mapped measured give refuse held lowFirst highFirst bytes bytes-read lowNumber skip window bitsOf digits number limited
     pure refuse-format bind-format peek relay either partIn at-least
-    readerText units units-read judged released TV TV-read TV-field TV-field-read lent reader-text from-reader past-end room-for here inline
+    readerText units units-read checked-units released TV TV-read TV-field TV-field-read has-reader reader-text from-reader past-end room-for here inline
     prefixCall prefix prefixBy extended chain graphics drawing name
     callOn hatch hatch-read plane plane-read gradient gradient-read block block-read color color-read rest rest-read tail tail-read ending ending-read
     pattern pattern-read pattern-line pattern-line-read paths path path-read segments segments-read handle-count handle-count-read edge edge-read

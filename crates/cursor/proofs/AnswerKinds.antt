@@ -1,11 +1,14 @@
 -- What the walks know of an answer's type: the enum, and the struct of an answer and the cursor afterwards. One record for all six, so that each walk is
 -- stated once, over it.
---     Kind         the enum and its laws, the struct's name, its two fields, and that it is no more than they
+--     Kind         the enum and its laws, the struct's name, its two fields, and that it is no more than they; the values read, and what a reading of one gives
 --     made K       the struct as a declared type.        made-laws K      its laws
 --     number, bool, i16, i32, f64, handle      the six
 -- Assumes nothing.
 use mathlib.Core.Path.{_≡_}
+use mathlib.Core.Bool.{Bool}
 use mathlib.Core.List.{List, [], _∷_}
+use Prim.Native.Nat.{ℕ}
+use lib.IntN.{ℤ}
 use mir.Syntax.{Sym, Ty, tyStruct, tcons, tnil}
 use denote.RattleType.{RattleType, Denots}
 use denote.Lowered.{Lowered}
@@ -15,6 +18,9 @@ use denote.Enum.Laws as EL
 use denote.Struct.Field.{Field, rows}
 use denote.Struct.Declared as S
 use denote.Struct.Laws as LL
+use Rattle.bitcursor.specs.Reading.{Out}
+use Rattle.bitcursor.specs.declared.Handle.{Handle}
+use Rattle.cursor.specs.Cursors as C
 use Rattle.cursor.specs.declared.BitCursor.{BitCursor}
 use Rattle.cursor.proofs.BitCursor as T
 use Rattle.cursor.proofs.BitCursor.Laws as T′
@@ -60,6 +66,8 @@ pub record Kind : Type 2 where
   pub answer : D → N .D
   pub cursor : D → BitCursor
   pub to-one : (x y : D) → both-at N (answer x) (cursor x) ≡ both-at N (answer y) (cursor y) → x ≡ y
+  pub Values : Type 0
+  pub moved : Out ℕ Values → D
 
 abbrev pub made : Kind → S.Declared
 made K = record {
@@ -98,6 +106,8 @@ number = record {
   answer = λ d. d .answer;
   cursor = λ d. d .cursor;
   to-one = M.the-type .to-one;
+  Values = ℕ;
+  moved = C.moved;
 }
 
 abbrev pub bool : Kind
@@ -111,6 +121,8 @@ bool = record {
   answer = λ d. d .answer;
   cursor = λ d. d .cursor;
   to-one = MBool.the-type .to-one;
+  Values = Bool;
+  moved = C.movedBool;
 }
 
 abbrev pub i16 : Kind
@@ -124,6 +136,8 @@ i16 = record {
   answer = λ d. d .answer;
   cursor = λ d. d .cursor;
   to-one = MI16.the-type .to-one;
+  Values = ℤ;
+  moved = C.movedI16;
 }
 
 abbrev pub i32 : Kind
@@ -137,6 +151,8 @@ i32 = record {
   answer = λ d. d .answer;
   cursor = λ d. d .cursor;
   to-one = MI32.the-type .to-one;
+  Values = ℤ;
+  moved = C.movedI32;
 }
 
 abbrev pub f64 : Kind
@@ -150,6 +166,8 @@ f64 = record {
   answer = λ d. d .answer;
   cursor = λ d. d .cursor;
   to-one = MF64.the-type .to-one;
+  Values = ℕ;
+  moved = C.movedF64;
 }
 
 abbrev pub handle : Kind
@@ -163,4 +181,6 @@ handle = record {
   answer = λ d. d .answer;
   cursor = λ d. d .cursor;
   to-one = MHandle.the-type .to-one;
+  Values = Handle;
+  moved = C.movedHandle;
 }

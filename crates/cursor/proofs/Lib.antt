@@ -1,6 +1,5 @@
 pub mod Moves
 pub mod AnswerKinds
+pub mod Extra
 pub mod CursorReader
-pub mod CursorReaderWith
 pub mod CursorCaller
-pub mod CursorCallerWith

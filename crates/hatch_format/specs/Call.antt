@@ -47,12 +47,12 @@ abbrev pub stringEnd : Strings → ℕ
 stringEnd none = 0
 stringEnd (lent bytes start end) = end
 
-abbrev pub isLent : Strings → Bool
-isLent none = false
-isLent (lent bytes start end) = true
+abbrev pub hasReader : Strings → Bool
+hasReader none = false
+hasReader (lent bytes start end) = true
 
 abbrev pub payloadsOf : Call → Payloads
-payloadsOf c = payloads (c .main) (stringBytes (c .strings)) (isLent (c .strings)) (stringEnd (c .strings))
+payloadsOf c = payloads (c .main) (stringBytes (c .strings)) (hasReader (c .strings)) (stringEnd (c .strings))
 
 abbrev pub startsOf : Call → Places
 startsOf c = record { main = c .start; string = stringStart (c .strings) }

@@ -24,7 +24,7 @@ use Rattle.hatch_format.specs.Layouts.{BodyLaid}
 use Rattle.hatch_format.specs.Entries.{words, numbers}
 use Rattle.hatch_format.specs.Hatch.{hatch}
 use Rattle.hatch_format.specs.Begins.{body-begins}
-use Rattle.hatch_format.specs.Call.{Strings, none, lent, stringBytes, stringStart, stringEnd, isLent}
+use Rattle.hatch_format.specs.Call.{Strings, none, lent, stringBytes, stringStart, stringEnd, hasReader}
 use Rattle.hatch_format.specs.Call.{Call, payloadsOf, startsOf, roomFor, callBy, callOn, hatchCall}
 
 -- "its release is known, its payloads are within document 01's limit and, from the start bits, begin with a layout of a hatch body for that
@@ -190,9 +190,9 @@ module _ {n : ℕ} where
   same-end both-none = refl
   same-end (both-lent h) = refl
 
-  same-lent : {s t : Strings} → AlikeStrings s t n → isLent t ≡ isLent s
-  same-lent both-none = refl
-  same-lent (both-lent h) = refl
+  same-reader : {s t : Strings} → AlikeStrings s t n → hasReader t ≡ hasReader s
+  same-reader both-none = refl
+  same-reader (both-lent h) = refl
 
   alike-bytes : {s t : Strings} → AlikeStrings s t n → Alike (stringBytes s) (stringBytes t) n
   alike-bytes both-none = record { lengths = refl; bits = λ i h. refl }
@@ -207,7 +207,7 @@ module _ (c d : Call) where
     same-length = alike-bytes (h .strings) .lengths
 
     agree : Agree (payloadsOf c) (payloadsOf d) q
-    agree = record { main = h .main; string = alike-bytes (h .strings); reader = same-lent (h .strings); end = same-end (h .strings) }
+    agree = record { main = h .main; string = alike-bytes (h .strings); reader = same-reader (h .strings); end = same-end (h .strings) }
 
   by-tests : (m : MaybeVersion) (s t u : Bool) → AlikeCalls c d (place (by c m s t u)) → by d m s t u ≡ by c m s t u
   by-tests Unknown s t u h = ap (refused UnknownRelease) (same-starts h)

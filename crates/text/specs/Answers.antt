@@ -23,7 +23,7 @@ use Rattle.text.specs.declared.version.MaybeVersion.the-variants.{Known,
 use Rattle.text.specs.declared.version.Version.{Version}
 use Rattle.text.specs.Releases.{versionOf}
 use Rattle.text.specs.Units.{units}
-use Rattle.text.specs.Texts.{UnitWidth, wide, unitBytes, unclosed, valid, Written, judged, TV}
+use Rattle.text.specs.Texts.{UnitWidth, wide, unitBytes, unclosed, valid, Written, checked-units, TV}
 use Rattle.text.specs.Fields.{textAt, textOf, widthOf}
 
 abbrev pub asText : Out ℕ Text → ReadText
@@ -53,7 +53,7 @@ readerText end xs p =
       | true ↦ got (textAt String wide p 0) p
       | false ↦ andThen ((measured BS) .read xs p) (λ m q.
           elim (eqb (m .1) 0 || leb (q + 16 * m .1) end) [
-            | true ↦ andThen ((units 2 (m .1)) .read xs q) (λ laid r. placed String wide p ((judged wide (m .0) laid) .read xs r))
+            | true ↦ andThen ((units 2 (m .1)) .read xs q) (λ laid r. placed String wide p ((checked-units wide (m .0) laid) .read xs r))
             | false ↦ refused TextPastEnd q
           ])
     ]

@@ -15,7 +15,7 @@ use Rattle.text.specs.declared.Source.the-variants.{Main, String}
 use Rattle.text.specs.declared.Text.{Text}
 use Rattle.text.specs.declared.version.Version.{Version}
 use Rattle.text.specs.Units.{units}
-use Rattle.text.specs.Texts.{UnitWidth, wide, Written, judged, TV}
+use Rattle.text.specs.Texts.{UnitWidth, wide, Written, checked-units, TV}
 use Rattle.text.specs.Fields.{textOf, textAt, widthOf, here, inline, past-end, room-for, from-reader}
 use Rattle.text.specs.Answers.{placed, inlineText, readerText}
 
@@ -29,29 +29,29 @@ module _ (γ : Payloads) (p : Places) where
       go (got t n) = refl
       go (refused r n) = refl
 
-  -- the units of a reader's text, read and judged
+  -- the units of a reader's text, read and checked
   unfoldable units-of : ℕ × ℕ → Format both Text
-  units-of m = field string (units 2 (m .1)) >>= λ laid. field string (judged wide (m .0) laid) >>= λ t. pure (textOf String wide (p .string) t)
+  units-of m = field string (units 2 (m .1)) >>= λ laid. field string (checked-units wide (m .0) laid) >>= λ t. pure (textOf String wide (p .string) t)
 
   -- the same in the reader's payload alone, behind the units
   abbrev placed-after : ℕ × ℕ → List ℕ → ℕ → Out ℕ Text
-  placed-after m laid r = placed String wide (p .string) ((judged wide (m .0) laid) .read (γ .string) r)
+  placed-after m laid r = placed String wide (p .string) ((checked-units wide (m .0) laid) .read (γ .string) r)
 
   rest-reads : (m : ℕ × ℕ) (q : ℕ) → (units-of m) .read γ (movedIn string p q)
       ≡ lifted string p (andThen ((units 2 (m .1)) .read (γ .string) q) (placed-after m))
   unfolding units-of _>>=_ partIn pure
   rest-reads m q = units-go ((units 2 (m .1)) .read (γ .string) q)
     where
-      judged-go : (k : ℕ) (o : Out ℕ Written) → andThen (lifted string (movedIn string p k) o) (λ t s. got (textOf String wide (p .string) t) s)
+      checked-go : (k : ℕ) (o : Out ℕ Written) → andThen (lifted string (movedIn string p k) o) (λ t s. got (textOf String wide (p .string) t) s)
           ≡ lifted string p (placed String wide (p .string) o)
-      judged-go k (got t n) = refl
-      judged-go k (refused r n) = refl
+      checked-go k (got t n) = refl
+      checked-go k (refused r n) = refl
 
       units-go : (o : Out ℕ (List ℕ))
           → andThen (lifted string (movedIn string p q) o) (λ laid s.
-          andThen (lifted string s ((judged wide (m .0) laid) .read (γ .string) (s .string))) (λ t s. got (textOf String wide (p .string) t) s))
+          andThen (lifted string s ((checked-units wide (m .0) laid) .read (γ .string) (s .string))) (λ t s. got (textOf String wide (p .string) t) s))
           ≡ lifted string p (andThen o (placed-after m))
-      units-go (got laid r) = judged-go r ((judged wide (m .0) laid) .read (γ .string) r)
+      units-go (got laid r) = checked-go r ((checked-units wide (m .0) laid) .read (γ .string) r)
       units-go (refused k r) = refl
 
   -- what follows the length code, in the reader's payload alone

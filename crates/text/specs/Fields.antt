@@ -18,7 +18,7 @@ use Rattle.text.specs.declared.Text.{Text}
 use Rattle.text.specs.declared.version.Version.{Version}
 use Rattle.text.specs.Releases.{releaseNumber}
 use Rattle.text.specs.Units.{units}
-use Rattle.text.specs.Texts.{UnitWidth, narrow, wide, unitBytes, Written, judged, TV}
+use Rattle.text.specs.Texts.{UnitWidth, narrow, wide, unitBytes, Written, checked-units, TV}
 
 -- document 01's text: payload, unit width, position of the first unit, unit count
 abbrev pub textAt : Source → UnitWidth → ℕ → ℕ → Text
@@ -26,7 +26,7 @@ textAt source w position count = record { source = source; width = 8 * unitBytes
 
 -- the text whose length code begins at `at`
 abbrev pub textOf : Source → UnitWidth → ℕ → Written → Text
-textOf source w at t = textAt source w (at + t .lead) (length (t .units))
+textOf source w at t = textAt source w (at + t .code-bits) (length (t .units))
 
 -- the place in a payload
 unfoldable pub here : Payload → Format both ℕ
@@ -62,5 +62,5 @@ from-reader = do
     room ← room-for (m .1)
     either room (do
       laid ← field string (units 2 (m .1))
-      t ← field string (judged wide (m .0) laid)
+      t ← field string (checked-units wide (m .0) laid)
       pure (textOf String wide at t)) (refuse TextPastEnd tt))

@@ -20,7 +20,7 @@ use Rattle.bitcursor.specs.Fields.{string, Field, field, lifted, movedIn}
 use Rattle.text.specs.declared.Source.the-variants.{String}
 use Rattle.text.specs.declared.Text.{Text}
 use Rattle.text.specs.Units.{units, units-there, units-short}
-use Rattle.text.specs.Texts.{wide, unclosed, valid, Written, written, judged, TV, TV-read}
+use Rattle.text.specs.Texts.{wide, unclosed, valid, Written, written, checked-units, TV, TV-read}
 use Rattle.text.specs.Fields.{textAt, textOf, from-reader}
 use Rattle.text.specs.Answers.{placed, unitsText, readerText}
 use Rattle.text.specs.Steps.{reader-over, reader-refused, reader-past, reader-empty, reader-units}
@@ -28,7 +28,7 @@ use Rattle.text.specs.FieldReads.{reader-reads}
 
 pub data ReaderText (γ : Payloads) (t : Text) (p q : Places) : Type 0 where
   over : γ .end ≤ p .string → t ≡ textAt String wide (p .string) 0 → q ≡ p → ReaderText γ t p q
-  laid : (u : Written) → p .string < γ .end → Field string (TV wide) γ u p q → (q .string ≤ γ .end) ⊎ (q .string ≡ p .string + u .lead)
+  laid : (u : Written) → p .string < γ .end → Field string (TV wide) γ u p q → (q .string ≤ γ .end) ⊎ (q .string ≡ p .string + u .code-bits)
       → t ≡ textOf String wide (p .string) u → ReaderText γ t p q
 
 -- ---- the parts of a text of 16-bit units
@@ -43,7 +43,7 @@ record Parts (xs : List ℕ) (p : ℕ) (u : Written) (s : ℕ) : Type 0 where
 
 module _ (xs : List ℕ) (p : ℕ) where
   parts : (u : Written) (s : ℕ) → (TV wide) .read xs p ≡ got u s → Parts xs p u s
-  unfolding TV tabled TV-read _>>=_ measured judged checked give refuse
+  unfolding TV tabled TV-read _>>=_ measured checked-units checked give refuse
   parts u s e = from-length (BS .read xs p) refl e
     where
       judge : (n r : ℕ) (l : List ℕ) (t : ℕ) → BS .read xs p ≡ got n r → (units 2 n) .read xs r ≡ got l t → (b : Bool) → valid wide (unclosed l) ≡ b
@@ -55,12 +55,12 @@ module _ (xs : List ℕ) (p : ℕ) where
       judge n r l t f g false h k = never k
 
       from-units : (n r : ℕ) → BS .read xs p ≡ got n r → (o : Out ℕ (List ℕ)) → (units 2 n) .read xs r ≡ o
-          → andThen o (λ l t. (judged wide (r - p) l) .read xs t) ≡ got u s → Parts xs p u s
+          → andThen o (λ l t. (checked-units wide (r - p) l) .read xs t) ≡ got u s → Parts xs p u s
       from-units n r f (got l t) g k = judge n r l t f g (valid wide (unclosed l)) refl k
       from-units n r f (refused a t) g k = never k
 
       from-length : (o : Out ℕ ℕ) → BS .read xs p ≡ o
-          → andThen (measured-out BS p o) (λ m r. andThen ((units 2 (m .1)) .read xs r) (λ l t. (judged wide (m .0) l) .read xs t)) ≡ got u s
+          → andThen (measured-out BS p o) (λ m r. andThen ((units 2 (m .1)) .read xs r) (λ l t. (checked-units wide (m .0) l) .read xs t)) ≡ got u s
           → Parts xs p u s
       from-length (got n r) f k = from-units n r f ((units 2 n) .read xs r) refl k
       from-length (refused a r) f k = never k
@@ -76,9 +76,9 @@ module _ (xs : List ℕ) (p : ℕ) where
       (λ (w : size xs - r < 8 * (2 * n)). never (sym (units-short 2 n xs r w) ∙ e))
       (le-or-lt (8 * (2 * n)) (size xs - r))
 
-  judged-got : (k : ℕ) (l : List ℕ) (t : ℕ) → valid wide (unclosed l) ≡ true → (judged wide k l) .read xs t ≡ got (written k (unclosed l)) t
-  unfolding judged checked give
-  judged-got k l t e = go (valid wide (unclosed l)) e
+  checked-got : (k : ℕ) (l : List ℕ) (t : ℕ) → valid wide (unclosed l) ≡ true → (checked-units wide k l) .read xs t ≡ got (written k (unclosed l)) t
+  unfolding checked-units checked give
+  checked-got k l t e = go (valid wide (unclosed l)) e
     where
       go : (b : Bool) → b ≡ true → (checked b (give (written k (unclosed l))) (refuse NotUtf16 tt)) .read xs t ≡ got (written k (unclosed l)) t
       go true e = refl
@@ -88,13 +88,13 @@ module _ (xs : List ℕ) (p : ℕ) where
   join : {u : Written} {s : ℕ} → Parts xs p u s → (TV wide) .read xs p ≡ got u s
   unfolding TV tabled TV-read _>>=_ measured
   join {u} {s} t =
-      rw (t .length-code, t .units-read) (judged-got (t .r - p) (t .units-laid) s (t .valid-units) ∙ ap (λ (v : Written). got v s) (sym (t .whole)))
+      rw (t .length-code, t .units-read) (checked-got (t .r - p) (t .units-laid) s (t .valid-units) ∙ ap (λ (v : Written). got v s) (sym (t .whole)))
 
-  ruled : (end : ℕ) {u : Written} {s : ℕ} → Parts xs p u s → p < end → (s ≤ end) ⊎ (s ≡ p + u .lead) → readerText end xs p ≡ got (textOf String wide p u) s
+  ruled : (end : ℕ) {u : Written} {s : ℕ} → Parts xs p u s → p < end → (s ≤ end) ⊎ (s ≡ p + u .code-bits) → readerText end xs p ≡ got (textOf String wide p u) s
   ruled end {u} {s} t h f =
       let on = code-on (t .length-code) in
       let e = units-end (t .n) (t .r) (t .units-read) in
-      let lead : u .lead ≡ t .r - p = ap (λ (v : Written). v .lead) (t .whole) in
+      let bits : u .code-bits ≡ t .r - p = ap (λ (v : Written). v .code-bits) (t .whole) in
       let text : unitsText String wide (t .r) ((units 2 (t .n)) .read xs (t .r)) ≡ got (textOf String wide p u) s =
       ap (unitsText String wide (t .r)) (t .units-read) ∙ shown (t .r) (t .units-laid) s u (t .valid-units) (t .whole) on in
       ⊎-elim
@@ -102,7 +102,7 @@ module _ (xs : List ℕ) (p : ℕ) where
       let y : t .n ≡ 0 = omega arith in
       reader-empty end xs p h (t .length-code) on y ∙ ap (λ (m : ℕ). unitsText String wide (t .r) ((units 2 m) .read xs (t .r))) (sym y) ∙ text)
       (λ (z : 0 < t .n).
-      let room : t .r + 16 * t .n ≤ end = ⊎-elim (λ (w : s ≤ end). omega arith) (λ (w : s ≡ p + u .lead). absurd (omega arith)) f in
+      let room : t .r + 16 * t .n ≤ end = ⊎-elim (λ (w : s ≤ end). omega arith) (λ (w : s ≡ p + u .code-bits). absurd (omega arith)) f in
       reader-units end xs p h (t .length-code) on (λ y. omega arith) room ∙ text)
       (le-or-lt (t .n) 0)
     where
@@ -115,7 +115,7 @@ module _ (xs : List ℕ) (p : ℕ) where
 
 -- ---- the rule's readings are these layouts
 module _ (γ : Payloads) (t : Text) (p q : Places) where
-  -- units that were read and judged after a length code
+  -- units that were read and checked after a length code
   finish : (n r : ℕ) → BS .read (γ .string) (p .string) ≡ got n r → p .string < γ .end → (n ≡ 0) ⊎ (r + 16 * n ≤ γ .end)
       → lifted string p (unitsText String wide r ((units 2 n) .read (γ .string) r)) ≡ got t q → ReaderText γ t p q
   finish n r f h room e = by-units ((units 2 n) .read (γ .string) r) refl e
@@ -129,12 +129,12 @@ module _ (γ : Payloads) (t : Text) (p q : Places) where
           let eq : q ≡ movedIn string p s = cc in
           let on = code-on (γ .string) (p .string) f in
           let ends = units-end (γ .string) (p .string) n r g in
-          let lead : p .string + (r - p .string) ≡ r = omega arith in
+          let after : p .string + (r - p .string) ≡ r = omega arith in
           let es : q .string ≡ s = ap (λ (w : Places). w .string) eq in
           let read = join (γ .string) (p .string) (record { n = n; r = r; units-laid = l; length-code = f; units-read = g; valid-units = k; whole = refl }) in
           laid u h (record { end = s; laid = (TV wide) .sound (γ .string) u (p .string) s read; moved = eq })
           (⊎-elim (λ (z : n ≡ 0). inr (omega arith)) (λ (z : r + 16 * n ≤ γ .end). inl (omega arith)) room)
-          (et ∙ ap (λ (k : ℕ). textAt String wide k (length (unclosed l))) (sym lead))
+          (et ∙ ap (λ (k : ℕ). textAt String wide k (length (unclosed l))) (sym after))
 
       by-units : (o : Out ℕ (List ℕ)) → (units 2 n) .read (γ .string) r ≡ o → lifted string p (unitsText String wide r o) ≡ got t q → ReaderText γ t p q
       by-units (refused a s) g m = never m
@@ -177,8 +177,8 @@ module _ (γ : Payloads) (t : Text) (p q : Places) where
   reader-from (laid u h l f e) =
       let r = (TV wide) .complete (γ .string) u (p .string) (l .end) (l .laid) in
       let m : q .string ≡ l .end = ap (λ (s : Places). s .string) (l .moved) in
-      let ends : (l .end ≤ γ .end) ⊎ (l .end ≡ p .string + u .lead) =
-      ⊎-elim (λ (w : q .string ≤ γ .end). inl (omega arith)) (λ (w : q .string ≡ p .string + u .lead). inr (omega arith)) f in
+      let ends : (l .end ≤ γ .end) ⊎ (l .end ≡ p .string + u .code-bits) =
+      ⊎-elim (λ (w : q .string ≤ γ .end). inl (omega arith)) (λ (w : q .string ≡ p .string + u .code-bits). inr (omega arith)) f in
       let read = ruled (γ .string) (p .string) (γ .end) (parts (γ .string) (p .string) u (l .end) r) h ends in
       from-reader .sound γ t p q (reader-reads γ p ∙ ap (lifted string p) read ∙ ap₂ got (sym e) (sym (l .moved)))
 

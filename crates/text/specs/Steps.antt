@@ -16,15 +16,15 @@ use Rattle.bitcursor.specs.Handles.{checked}
 use Rattle.text.specs.declared.Source.{Source}
 use Rattle.text.specs.declared.Source.the-variants.{Main, String}
 use Rattle.text.specs.Units.{units}
-use Rattle.text.specs.Texts.{UnitWidth, wide, unitBytes, unclosed, valid, judged, written, TV, TV-read}
+use Rattle.text.specs.Texts.{UnitWidth, wide, unitBytes, unclosed, valid, checked-units, written, TV, TV-read}
 use Rattle.text.specs.Fields.{textAt}
 use Rattle.text.specs.Answers.{placed, unitsText, readerText}
 
 -- ---- after a length code that ends at p
 module _ (source : Source) (w : UnitWidth) (xs : List ℕ) (at p : ℕ) (on : at ≤ p) where
-  judged-text : (laid : List ℕ) (q : ℕ) → placed source w at ((judged w (p - at) laid) .read xs q) ≡ unitsText source w p (got laid q)
-  unfolding judged checked give refuse
-  judged-text laid q = go (valid w (unclosed laid))
+  checked-text : (laid : List ℕ) (q : ℕ) → placed source w at ((checked-units w (p - at) laid) .read xs q) ≡ unitsText source w p (got laid q)
+  unfolding checked-units checked give refuse
+  checked-text laid q = go (valid w (unclosed laid))
     where
       e : at + (p - at) ≡ p
       e = omega arith
@@ -34,12 +34,12 @@ module _ (source : Source) (w : UnitWidth) (xs : List ℕ) (at p : ℕ) (on : at
       go true = ap (λ (m : ℕ). got (textAt source w m (length (unclosed laid))) q) e
       go false = refl
 
-  pub inline-rest : (o : Out ℕ (List ℕ)) → placed source w at (andThen o (λ laid q. (judged w (p - at) laid) .read xs q)) ≡ unitsText source w p o
-  inline-rest (got laid q) = judged-text laid q
+  pub inline-rest : (o : Out ℕ (List ℕ)) → placed source w at (andThen o (λ laid q. (checked-units w (p - at) laid) .read xs q)) ≡ unitsText source w p o
+  inline-rest (got laid q) = checked-text laid q
   inline-rest (refused r q) = refl
 
-  pub reader-rest : (o : Out ℕ (List ℕ)) → andThen o (λ laid q. placed source w at ((judged w (p - at) laid) .read xs q)) ≡ unitsText source w p o
-  reader-rest (got laid q) = judged-text laid q
+  pub reader-rest : (o : Out ℕ (List ℕ)) → andThen o (λ laid q. placed source w at ((checked-units w (p - at) laid) .read xs q)) ≡ unitsText source w p o
+  reader-rest (got laid q) = checked-text laid q
   reader-rest (refused r q) = refl
 
 -- ---- inline text, by its length code
@@ -62,7 +62,7 @@ module _ (end : ℕ) (xs : List ℕ) (at : ℕ) where
   module _ (before : at < end) where
     reader-on : {m : ℕ × ℕ} {q : ℕ} → (measured BS) .read xs at ≡ got m q → readerText end xs at
         ≡ elim (eqb (m .1) 0 || leb (q + 16 * m .1) end) [
-          | true ↦ andThen ((units 2 (m .1)) .read xs q) (λ laid r. placed String wide at ((judged wide (m .0) laid) .read xs r))
+          | true ↦ andThen ((units 2 (m .1)) .read xs q) (λ laid r. placed String wide at ((checked-units wide (m .0) laid) .read xs r))
           | false ↦ refused TextPastEnd q
         ]
     unfolding readerText

@@ -28,12 +28,12 @@ abbrev pub TextLaid : Version → Payloads → Text → Places → Places → Ty
 TextLaid v γ = TextBy (γ .reader) v γ
 
 -- ---- its reading
-unfoldable pub lent : Format both Bool
-lent = peek both (λ reader p. reader .lent)
+unfoldable pub has-reader : Format both Bool
+has-reader = peek both (λ reader p. reader .has-reader)
 
 unfoldable pub TV-read : Version → Format both Text
 TV-read v = do
-  reader ← lent
+  reader ← has-reader
   either reader reader-text (inline (widthOf v))
 
 inline-to : (w : UnitWidth) (γ : Payloads) (t : Text) (p q : Places) → (inline w) .lays γ t p q → InlineText w γ t p q
@@ -50,7 +50,7 @@ unfolding inline here peek _>>=_ pure partIn
 inline-from w γ t p q l = (p .main, p, (refl, refl), (l .0, q, l .1, (l .2, refl)))
 
 pub text-to : (v : Version) (γ : Payloads) (t : Text) (p q : Places) → (TV-read v) .lays γ t p q → TextLaid v γ t p q
-unfolding TV-read lent peek _>>=_ either reader-text relay
+unfolding TV-read has-reader peek _>>=_ either reader-text relay
 text-to v γ t p q l =
     go (γ .reader) (subst₂ (λ (b : Bool) (r : Places). (either b reader-text (inline (widthOf v))) .lays γ t r q) (l .2 .0) (l .2 .1) (l .3))
   where
@@ -59,7 +59,7 @@ text-to v γ t p q l =
     go false m = inline-to (widthOf v) γ t p q m
 
 pub text-from : (v : Version) (γ : Payloads) (t : Text) (p q : Places) → TextLaid v γ t p q → (TV-read v) .lays γ t p q
-unfolding TV-read lent peek _>>=_ either reader-text relay
+unfolding TV-read has-reader peek _>>=_ either reader-text relay
 text-from v γ t p q l = (γ .reader, p, (refl, refl), go (γ .reader) l)
   where
     go : (b : Bool) → TextBy b v γ t p q → (either b reader-text (inline (widthOf v))) .lays γ t p q
@@ -72,9 +72,9 @@ TV-field v = relay (TV-read v) (TextLaid v) (text-to v) (text-from v)
 -- what it reads, by the one-payload definitions
 module _ (γ : Payloads) (p : Places) (v : Version) where
   pub field-reader : γ .reader ≡ true → (TV-field v) .read γ p ≡ lifted string p (readerText (γ .end) (γ .string) (p .string))
-  unfolding TV-field TV-read lent peek _>>=_ reader-text relay
+  unfolding TV-field TV-read has-reader peek _>>=_ reader-text relay
   field-reader e = reads (either-yes reader-text (inline (widthOf v)) e) γ p ∙ reader-reads γ p
 
   pub field-inline : γ .reader ≡ false → (TV-field v) .read γ p ≡ lifted main p (inlineText v (γ .main) (p .main))
-  unfolding TV-field TV-read lent peek _>>=_ relay
+  unfolding TV-field TV-read has-reader peek _>>=_ relay
   field-inline e = reads (either-no reader-text (inline (widthOf v)) e) γ p ∙ inline-reads γ p v

@@ -87,11 +87,11 @@ valid-from wide us l = utf16-test us .1 l
 
 -- ---- a text as it is written: how many bits its length code has, and its units without a closing zero
 pub record Written : Type 0 where
-  pub lead : ℕ
+  pub code-bits : ℕ
   pub units : List ℕ
 
 abbrev pub written : ℕ → List ℕ → Written
-written lead us = record { lead = lead; units = us }
+written bits us = record { code-bits = bits; units = us }
 
 -- length code, units, optional closing zero
 pub data TV-codes (w : UnitWidth) : Written → List Bool → Type 0 where
@@ -99,17 +99,17 @@ pub data TV-codes (w : UnitWidth) : Written → List Bool → Type 0 where
       → TV-codes w (written (length ds) us) (ds ++ unitBits (unitBytes w) laid)
 
 -- what is made of the units: refusal 7 after all of them
-unfoldable pub judged : UnitWidth → ℕ → List ℕ → Code Written
-judged w lead laid = checked (valid w (unclosed laid)) (give (written lead (unclosed laid))) (refuse NotUtf16 tt)
+unfoldable pub checked-units : UnitWidth → ℕ → List ℕ → Code Written
+checked-units w bits laid = checked (valid w (unclosed laid)) (give (written bits (unclosed laid))) (refuse NotUtf16 tt)
 
 unfoldable pub TV-read : UnitWidth → Code Written
 TV-read w = do
   m ← measured BS
   laid ← units (unitBytes w) (m .1)
-  judged w (m .0) laid
+  checked-units w (m .0) laid
 
 pub TV-to : (w : UnitWidth) (t : Written) (cs : List Bool) → (TV-read w) .codes t cs → TV-codes w t cs
-unfolding TV-read judged _>>=_ measured units tabled checked give refuse BS
+unfolding TV-read checked-units _>>=_ measured units tabled checked give refuse BS
 TV-to w t cs l = go (valid w (unclosed laid)) refl (l .4 .4)
   where
     laid : List ℕ
@@ -126,7 +126,7 @@ TV-to w t cs l = go (valid w (unclosed laid)) refl (l .4 .4)
     go false e m = absurd m
 
 pub TV-from : (w : UnitWidth) (t : Written) (cs : List Bool) → TV-codes w t cs → (TV-read w) .codes t cs
-unfolding TV-read judged _>>=_ measured units tabled checked give BS
+unfolding TV-read checked-units _>>=_ measured units tabled checked give BS
 TV-from w t cs (TV-of {laid = laid} {us = us} {ds = ds} h a c v) =
     let bs = unitBits (unitBytes w) laid in
     let e : unclosed laid ≡ us = unclosed-closed laid us c in
