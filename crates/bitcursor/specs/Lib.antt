@@ -3,6 +3,7 @@ pub mod BitLaws
 pub mod Refusals
 pub mod Reading
 pub mod Code
+pub mod Joins
 pub mod Bytes
 pub mod Codes
 pub mod Doubles

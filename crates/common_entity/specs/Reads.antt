@@ -17,17 +17,17 @@ use Rattle.bitcursor.specs.Bytes.{lowFirst}
 use Rattle.bitcursor.specs.Codes.{BB, RC, RL, BS, BL}
 use Rattle.bitcursor.specs.Ranges.{bytes-pow, raw-below, low-below, BS-below, BL-below}
 use Rattle.bitcursor.specs.Sequence.{held, thenRead, valueOf, resume, step-below, held-below}
-use Rattle.common_entity.specs.declared.CommonEntityBits.{CommonEntityBits}
-use Rattle.common_entity.specs.declared.table.Row.{Row}
-use Rattle.common_entity.specs.declared.parts.Head.{Head}
-use Rattle.common_entity.specs.declared.parts.Modes.{Modes}
-use Rattle.common_entity.specs.declared.parts.Colours.{Colours}
-use Rattle.common_entity.specs.declared.parts.Styles.{Styles}
-use Rattle.common_entity.specs.declared.parts.Tail.{Tail}
-use Rattle.common_entity.specs.Values.{hasRgb, hasAlpha}
-use Rattle.common_entity.specs.Prefix.{prefixBy, fieldsOf, BIT, graphics, extended}
-use Rattle.common_entity.specs.Parts.{headOf, modesOf, coloursOf, stylesOf, tailOf, head-reads, modes-read, colours-read, styles-read, tail-reads}
-use Rattle.common_entity.specs.Record.{InRange, bitsOf}
+use Rattle.prefix_format.specs.declared.CommonEntityBits.{CommonEntityBits}
+use Rattle.prefix_format.specs.declared.table.Row.{Row}
+use Rattle.prefix_parts.specs.declared.Head.{Head}
+use Rattle.prefix_parts.specs.declared.Modes.{Modes}
+use Rattle.prefix_parts.specs.declared.Colours.{Colours}
+use Rattle.prefix_parts.specs.declared.Styles.{Styles}
+use Rattle.prefix_parts.specs.declared.Tail.{Tail}
+use Rattle.prefix_format.specs.Values.{hasRgb, hasAlpha}
+use Rattle.prefix_format.specs.Prefix.{prefixBy, fieldsOf, BIT, graphics, extended}
+use Rattle.prefix_parts.specs.Parts.{headOf, modesOf, coloursOf, stylesOf, tailOf, head-reads, modes-read, colours-read, styles-read, tail-reads}
+use Rattle.common_entity.specs.Numbers.{InRange, bitsOf}
 
 module _ (row : Row) (xs : List ℕ) (p : ℕ) where
   abbrev pub h : Head
@@ -48,7 +48,7 @@ module _ (row : Row) (xs : List ℕ) (p : ℕ) where
   -- the record of the parts' numbers, with the last answer's number for the lineweight
   abbrev recordTo : ℕ → CommonEntityBits
   recordTo weight =
-      fieldsOf row (h .xdata) (h .drawn) (valueOf (h .last)) (m .mode) (m .reactors) (m .«no_dictionary») (m .binary) (m .«by_layer»)
+      fieldsOf row (h .xdata) (h .«had_graphics») (valueOf (h .last)) (m .mode) (m .reactors) (m .«no_dictionary») (m .binary) (m .«by_layer»)
       (valueOf (m .last)) (c .colour) (c .rgb) (c .alpha) (t .scale) (t .linetype) (t .plot) (t .material) (valueOf (t .last))
       (e .full) (e .face) (e .edge) (e .invisible) weight
 

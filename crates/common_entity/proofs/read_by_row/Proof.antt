@@ -1,7 +1,7 @@
 -- Each part continues behind the one before it, and the last part says whether all were read.
 use mathlib.Core.Path.{_≡_, refl, sym, ap, _∙_}
 use denote.Ref.{now}
-use Rattle.common_entity.specs.Call.{asBits}
+use Rattle.prefix_format.specs.Call.{asBits}
 use Rattle.common_entity.specs.Reads.{parts-in-range, parts-whole, parts-stopped}
 use Rattle.common_entity.proofs.Laws.{read-as}
 use borrow.Author.Needs.{needs}

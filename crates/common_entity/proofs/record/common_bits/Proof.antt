@@ -7,24 +7,24 @@ use lib.IntN.{ℤ}
 use mir.Syntax.{w16}
 use mir.ValLaws.{toZ-ofZ}
 use Rattle.bitcursor.specs.Codes.{signed}
-use Rattle.common_entity.specs.declared.EntityMode.{EntityMode}
-use Rattle.common_entity.specs.declared.CommonEntityBits.{CommonEntityBits}
-use Rattle.common_entity.specs.declared.table.Row.{Row}
-use Rattle.common_entity.specs.declared.parts.Announced.{Announced}
-use Rattle.common_entity.specs.declared.parts.Head.{Head}
-use Rattle.common_entity.specs.declared.parts.Modes.{Modes}
-use Rattle.common_entity.specs.declared.parts.Colours.{Colours}
-use Rattle.common_entity.specs.declared.parts.Styles.{Styles}
-use Rattle.common_entity.specs.declared.parts.Tail.{Tail}
-use Rattle.common_entity.specs.Values.{modeOf, maybe}
-use Rattle.common_entity.specs.Parts.{announcedBy}
-use Rattle.common_entity.specs.Record.{bitsOf}
+use Rattle.prefix_format.specs.declared.EntityMode.{EntityMode}
+use Rattle.prefix_format.specs.declared.CommonEntityBits.{CommonEntityBits}
+use Rattle.prefix_format.specs.declared.table.Row.{Row}
+use Rattle.prefix_parts.specs.declared.PresentFields.{PresentFields}
+use Rattle.prefix_parts.specs.declared.Head.{Head}
+use Rattle.prefix_parts.specs.declared.Modes.{Modes}
+use Rattle.prefix_parts.specs.declared.Colours.{Colours}
+use Rattle.prefix_parts.specs.declared.Styles.{Styles}
+use Rattle.prefix_parts.specs.declared.Tail.{Tail}
+use Rattle.prefix_format.specs.Values.{modeOf, maybe}
+use Rattle.prefix_parts.specs.Parts.{presentFields}
+use Rattle.common_entity.specs.Numbers.{bitsOf}
 use borrow.Author.Needs.{needs}
 use Rattle.common_entity.proofs.record.common_bits.Statement.{statement}
 use Rattle.common_entity.proofs.record.common_bits.Tie as tie
 
-announced-by-requires : tie.Need-announced-by-requires
-announced-by-requires c κs = search needs
+present-fields-requires : tie.Need-present-fields-requires
+present-fields-requires c κs = search needs
 
 cast-t8 : tie.Need-cast-t8
 cast-t8 c = search needs
@@ -82,10 +82,10 @@ cast-t32 c =
     let known11 = from-weight (c .before .before .before) in
     record { fits = entry (known11 .before) .pre .end }
 
--- the record with the mode, the signed invisibility and what the colour announces as they were made
+-- the record with the mode, the signed invisibility and which fields behind the colour are present, as they were made
 module _ (row : Row) (h : Head) (m : Modes) (c : Colours) (t : Styles) (e : Tail) where
-  made : {mode : EntityMode} {invisible : ℤ} {has : Announced} → mode ≡ modeOf (m .mode) → invisible ≡ signed 16 (e .invisible)
-      → has ≡ announcedBy row (c .colour)
+  made : {mode : EntityMode} {invisible : ℤ} {has : PresentFields} → mode ≡ modeOf (m .mode) → invisible ≡ signed 16 (e .invisible)
+      → has ≡ presentFields row (c .colour)
       → record {
         «raw_mode» = m .mode;
         mode = mode;
@@ -106,7 +106,7 @@ module _ (row : Row) (h : Head) (m : Modes) (c : Colours) (t : Styles) (e : Tail
         «ltype_flags» = t .linetype;
         «visual_style_flags» = eqb 1 (e .full) ∷ (eqb 1 (e .face) ∷ (eqb 1 (e .edge) ∷ []));
         lineweight = e .weight;
-        «had_graphics» = eqb 1 (h .drawn);
+        «had_graphics» = eqb 1 (h .«had_graphics»);
         «had_extended_data» = eqb 1 (h .xdata);
         «data_end_bits» = maybe (row .«data_end») (h .end);
       }
@@ -123,13 +123,13 @@ returns c =
     let has = mode .before .before in
     let a = has .before .args in
     let signed = toZ-ofZ w16 (short .short-of .result) (record { sfits = short .short-of .ok }) in
-    made (a .row) (a .h) (a .m) (a .c) (a .t) (a .e) (mode .entity-mode .ensures) (signed ∙ short .short-of .ensures) (has .announced-by .ensures)
+    made (a .row) (a .h) (a .m) (a .c) (a .t) (a .e) (mode .entity-mode .ensures) (signed ∙ short .short-of .ensures) (has .present-fields .ensures)
 
 pub common-bits-spec : {M : Type 1} → statement M
 common-bits-spec =
     tie.close
     (tie.spec
-    announced-by-requires
+    present-fields-requires
     cast-t8
     entity-mode-requires
     cast-t10
