@@ -12,6 +12,7 @@ pub mod Stops
 pub mod Ranges
 pub mod Answers
 pub mod Sequence
+pub mod OneByte
 pub mod Format
 pub mod Whole
 pub mod Chains

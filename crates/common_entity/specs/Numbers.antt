@@ -1,7 +1,9 @@
--- The parts' numbers: their fields' ranges, and the record that they make. Assumes nothing.
+-- The parts' numbers: their fields' ranges, which of them are present, and the record that they make. Assumes nothing.
+use mathlib.Core.Path.{_≡_}
 use Prim.Native.Nat.{_^_, _<_}
 use Rattle.prefix_format.specs.declared.CommonEntityBits.{CommonEntityBits}
 use Rattle.prefix_format.specs.declared.table.Row.{Row}
+use Rattle.prefix_format.specs.Values.{hasRgb, hasAlpha}
 use Rattle.prefix_format.specs.Prefix.{fieldsOf}
 use Rattle.prefix_parts.specs.declared.Head.{Head}
 use Rattle.prefix_parts.specs.declared.Modes.{Modes}
@@ -23,6 +25,11 @@ pub record InRange (h : Head) (m : Modes) (c : Colours) (t : Styles) (e : Tail) 
   pub shadow : t .shadow < 2 ^ 8
   pub invisible : e .invisible < 2 ^ 16
   pub weight : e .weight < 2 ^ 8
+
+-- rgb and alpha are present exactly by the colour's bits
+pub record PresentByColour (row : Row) (c : Colours) : Type 0 where
+  pub rgb : c .«has_rgb» ≡ hasRgb row (c .colour)
+  pub alpha : c .«has_alpha» ≡ hasAlpha row (c .colour)
 
 abbrev pub bitsOf : Row → Head → Modes → Colours → Styles → Tail → CommonEntityBits
 bitsOf row h m c t e =

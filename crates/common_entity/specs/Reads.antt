@@ -1,4 +1,4 @@
--- The five parts together read what the prefix's definition reads, and their numbers are in their fields' ranges. Assumes nothing.
+-- The five parts together read what the prefix's definition reads, and their numbers are as the record asks. Assumes nothing.
 use mathlib.Core.Path.{_≡_, refl, sym, ap, _∙_}
 use mathlib.Core.Bool.{Bool, true, false}
 use mathlib.Core.List.{List}
@@ -27,7 +27,7 @@ use Rattle.prefix_parts.specs.declared.Tail.{Tail}
 use Rattle.prefix_format.specs.Values.{hasRgb, hasAlpha}
 use Rattle.prefix_format.specs.Prefix.{prefixBy, fieldsOf, BIT, graphics, extended}
 use Rattle.prefix_parts.specs.Parts.{headOf, modesOf, coloursOf, stylesOf, tailOf, head-reads, modes-read, colours-read, styles-read, tail-reads}
-use Rattle.common_entity.specs.Numbers.{InRange, bitsOf}
+use Rattle.common_entity.specs.Numbers.{InRange, PresentByColour, bitsOf}
 
 module _ (row : Row) (xs : List ℕ) (p : ℕ) where
   abbrev pub h : Head
@@ -138,6 +138,10 @@ module _ (row : Row) (xs : List ℕ) (p : ℕ) where
         weight = f .1;
       }
 
+  present-by-colour : PresentByColour row c
+  unfolding coloursOf
+  present-by-colour = record { rgb = refl; alpha = refl }
+
   -- the record is what was laid out
   whole : {v q : ℕ} → e .last ≡ Value v q → (prefixBy row) .read xs p ≡ got (bitsOf row h m c t e) q
   unfolding headOf modesOf stylesOf tailOf give
@@ -152,8 +156,8 @@ module _ (row : Row) (xs : List ℕ) (p : ℕ) where
   -- the same of parts that were read so
   module _ (h′ : Head) (m′ : Modes) (c′ : Colours) (t′ : Styles) (e′ : Tail) (eh : h′ ≡ headOf row xs p) (em : m′ ≡ modesOf row xs (h′ .last))
       (ec : c′ ≡ coloursOf row xs (m′ .last)) (et : t′ ≡ stylesOf row xs (c′ .last)) (ee : e′ ≡ tailOf row xs (t′ .last)) where
-    pub parts-in-range : InRange h′ m′ c′ t′ e′
-    parts-in-range = rw (ee, et, ec, em, eh) in-range
+    pub parts-asked : InRange h′ m′ c′ t′ e′ × PresentByColour row c′
+    parts-asked = rw (ee, et, ec, em, eh) (in-range, present-by-colour)
 
     pub parts-whole : {v q : ℕ} → e′ .last ≡ Value v q → (prefixBy row) .read xs p ≡ got (bitsOf row h′ m′ c′ t′ e′) q
     parts-whole l = rw (ee, et, ec, em, eh) (whole (rw (ee, et, ec, em, eh) at l))

@@ -3,7 +3,7 @@ ghost use mathlib.Core.Path.{_≡_};
 ghost use lib.Dec.{eqb};
 ghost use Rattle.prefix_format.specs.Values.{modeOf};
 ghost use Rattle.prefix_format.specs.Record.{dataOf, zeroBits};
-ghost use Rattle.common_entity.specs.Numbers.{InRange, bitsOf};
+ghost use Rattle.common_entity.specs.Numbers.{InRange, PresentByColour, bitsOf};
 use prefix_format::CommonEntityBits;
 use prefix_format::CommonEntityData;
 use prefix_format::EntityMode;
@@ -27,10 +27,9 @@ fn entity_mode(v: u64) -> EntityMode
 }
 
 pub fn common_bits(row: Row, h: Head, m: Modes, c: Colours, t: Styles, e: Tail) -> CommonEntityBits
-    requires { ⌜ InRange h m c t e ⌝ }
+    requires { ⌜ InRange h m c t e × PresentByColour row c ⌝ }
     ensures { λ r. ⌜ r ≡ bitsOf row h m c t e ⌝ }
 {
-    let has = prefix_parts::present_fields(row, c.colour);
     CommonEntityBits {
         raw_mode: m.mode as u8,
         mode: entity_mode(m.mode),
@@ -46,11 +45,11 @@ pub fn common_bits(row: Row, h: Head, m: Modes, c: Colours, t: Styles, e: Tail) 
         nolinks: 1 == m.links,
         color_raw: c.colour as u16,
         color_rgb: MaybeLong {
-            present: has.rgb,
+            present: c.has_rgb,
             value: c.rgb as u32,
         },
         color_alpha: MaybeLong {
-            present: has.alpha,
+            present: c.has_alpha,
             value: c.alpha as u32,
         },
         ltype_scale: t.scale,

@@ -58,7 +58,15 @@ module _ (row : Row) (xs : List ℕ) where
       let x₃ = thenRead ((held (hasAlpha row c) BL 0) .read xs) x₂ in
       let x₄ = thenRead ((held (hasName row c) (name (row .«wide_names»)) 0) .read xs) x₃ in
       let x₅ = thenRead ((held (hasBookName row c) (name (row .«wide_names»)) 0) .read xs) x₄ in
-      record { colour = c; rgb = valueOf x₂; alpha = valueOf x₃; named = valueOf x₄; last = x₅ }
+      record {
+        colour = c;
+        «has_rgb» = hasRgb row c;
+        rgb = valueOf x₂;
+        «has_alpha» = hasAlpha row c;
+        alpha = valueOf x₃;
+        named = valueOf x₄;
+        last = x₅;
+      }
 
   unfoldable pub stylesOf : Read → Styles
   stylesOf x =

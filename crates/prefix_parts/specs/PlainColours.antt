@@ -50,16 +50,36 @@ module _ (row : Row) (xs : List ℕ) where
       let x₃ = thenRead ((held alpha BL 0) .read xs) x₂ in
       let x₄ = thenRead ((held named (name (row .«wide_names»)) 0) .read xs) x₃ in
       let x₅ = thenRead ((held book (name (row .«wide_names»)) 0) .read xs) x₄ in
-      record { colour = valueOf x₁; rgb = valueOf x₂; alpha = valueOf x₃; named = valueOf x₄; last = x₅ }
+      record {
+        colour = valueOf x₁;
+        «has_rgb» = rgb;
+        rgb = valueOf x₂;
+        «has_alpha» = alpha;
+        alpha = valueOf x₃;
+        named = valueOf x₄;
+        last = x₅;
+      }
 
-  nothing : (x : Read) → withPresent false false false false x
-      ≡ record { colour = valueOf x; rgb = 0; alpha = 0; named = 0; last = thenRead ((held false (raw 1) 0) .read xs) x }
+  -- with none
+  abbrev pub without : Read → Colours
+  without x =
+      record {
+        colour = valueOf x;
+        «has_rgb» = false;
+        rgb = 0;
+        «has_alpha» = false;
+        alpha = 0;
+        named = 0;
+        last = thenRead ((held false (raw 1) 0) .read xs) x;
+      }
+
+  nothing : (x : Read) → withPresent false false false false x ≡ without x
   unfolding held give
   nothing (Value v p) = refl
   nothing (Refused r p) = refl
 
   pub plain-colours : (x : Read) {y : Read} → y ≡ thenRead (BS .read xs) x → valueOf y < 0x2000
-      → coloursOf row xs x ≡ record { colour = valueOf y; rgb = 0; alpha = 0; named = 0; last = thenRead ((held false (raw 1) 0) .read xs) y }
+      → coloursOf row xs x ≡ without y
   unfolding coloursOf
   plain-colours x {y} e h =
       let k = valueOf y in

@@ -33,7 +33,9 @@ pub struct Modes {
 // The colour, and the fields behind it that are present.
 pub struct Colours {
     pub colour: u64,
+    pub has_rgb: bool,
     pub rgb: u64,
+    pub has_alpha: bool,
     pub alpha: u64,
     pub named: u64,
     pub last: Read,
@@ -112,7 +114,7 @@ fn flag(colour: u64, k: u64) -> bool
 }
 
 // Which of the colour's fields follow: rgb if 80 is set and 40 clear, alpha if 20 is set, names if 41 or 42 are all set.
-pub fn present_fields(row: Row, colour: u64) -> PresentFields
+fn present_fields(row: Row, colour: u64) -> PresentFields
     ensures { λ r. ⌜ r ≡ presentFields row colour ⌝ }
 {
     if !row.color_flags {
@@ -142,7 +144,9 @@ pub fn read_colours(s: &[u8], prior: Read, row: Row) -> Colours
         // none of 80, 40 and 20 is set, so nothing follows
         return Colours {
             colour: value,
+            has_rgb: false,
             rgb: 0,
+            has_alpha: false,
             alpha: 0,
             named: 0,
             last: sequence::then_bits(s, colour, 1, false, 0),
@@ -155,13 +159,16 @@ pub fn read_colours(s: &[u8], prior: Read, row: Row) -> Colours
     let book = prefix_fields::then_name(s, name, has.book_name, row.wide_names);
     Colours {
         colour: value,
+        has_rgb: has.rgb,
         rgb: sequence::value_of(rgb),
+        has_alpha: has.alpha,
         alpha: sequence::value_of(alpha),
         named: sequence::value_of(name),
         last: book,
     }
 }
 
+// An RC is read as eight bits (here and below): that is one comparison less than a byte's reader has.
 pub fn read_styles(s: &[u8], prior: Read, row: Row) -> Styles
     requires { ⌜ length (now s) ≤ limit ⌝ }
     ensures { λ r. ⌜ r ≡ stylesOf row (now (s .entry)) prior ⌝ }
@@ -170,7 +177,7 @@ pub fn read_styles(s: &[u8], prior: Read, row: Row) -> Styles
     let linetype = sequence::then_bits(s, scale, 2, row.ltype_and_plotstyle, 0);
     let plot = sequence::then_bits(s, linetype, 2, row.ltype_and_plotstyle, 0);
     let material = sequence::then_bits(s, plot, 2, row.material_and_shadow, 0);
-    let shadow = sequence::then_low(s, material, 1, row.material_and_shadow, 0);
+    let shadow = sequence::then_bits(s, material, 8, row.material_and_shadow, 0);
     Styles {
         scale: sequence::value_of(scale),
         linetype: sequence::value_of(linetype),
@@ -189,7 +196,7 @@ pub fn read_tail(s: &[u8], prior: Read, row: Row) -> Tail
     let face = sequence::then_bits(s, full, 1, row.visual_styles, 0);
     let edge = sequence::then_bits(s, face, 1, row.visual_styles, 0);
     let invisible = sequence::then_bs(s, edge);
-    let weight = sequence::then_low(s, invisible, 1, row.lineweight, 0);
+    let weight = sequence::then_bits(s, invisible, 8, row.lineweight, 0);
     Tail {
         full: sequence::value_of(full),
         face: sequence::value_of(face),

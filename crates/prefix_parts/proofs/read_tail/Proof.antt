@@ -1,6 +1,7 @@
 -- Each step goes on from the one before it.
 use mathlib.Core.Path.{_≡_, refl, sym, ap, _∙_}
-use Rattle.bitcursor.specs.Codes.{RC}
+use denote.Ref.{now}
+use Rattle.bitcursor.specs.OneByte.{then-byte}
 use Rattle.prefix_parts.specs.Parts.{tailOf}
 use borrow.Author.Needs.{needs}
 use Rattle.prefix_parts.proofs.read_tail.Statement.{statement}
@@ -18,8 +19,8 @@ then-bits-requires-3 c κs = search needs
 then-bs-requires : tie.Need-then-bs-requires
 then-bs-requires c κs = search needs
 
-then-low-requires : tie.Need-then-low-requires
-then-low-requires c κs = search needs
+then-bits-requires-4 : tie.Need-then-bits-requires-4
+then-bits-requires-4 c κs = search needs
 
 value-of-requires : tie.Need-value-of-requires
 value-of-requires c κs = search needs
@@ -37,7 +38,7 @@ value-of-requires-5 : tie.Need-value-of-requires-5
 value-of-requires-5 c κs = search needs
 
 returns : tie.Need-returns
-unfolding tailOf RC
+unfolding tailOf
 returns c =
     let invisibles = c .before in
     let edges = invisibles .before in
@@ -48,8 +49,10 @@ returns c =
     let edge = invisible .before in
     let face = edge .before in
     let full = face .before in
+    let a = full .before .before .args in
+    let byte = then-byte (a .row .lineweight) 0 (now (a .s)) (invisible .then-bs .result) in
     rw (c .value-of5 .ensures, invisibles .value-of4 .ensures, edges .value-of3 .ensures, faces .value-of2 .ensures, fulls .value-of .ensures)
-    (rw (weight .then-low .ensures, invisible .then-bs .ensures, edge .then-bits3 .ensures, face .then-bits2 .ensures, full .then-bits .ensures))
+    (rw (weight .then-bits4 .ensures, byte, invisible .then-bs .ensures, edge .then-bits3 .ensures, face .then-bits2 .ensures, full .then-bits .ensures))
 
 pub read-tail-spec : {M : Type 1} → statement M
 read-tail-spec =
@@ -59,7 +62,7 @@ read-tail-spec =
     then-bits-requires-2
     then-bits-requires-3
     then-bs-requires
-    then-low-requires
+    then-bits-requires-4
     value-of-requires
     value-of-requires-2
     value-of-requires-3
