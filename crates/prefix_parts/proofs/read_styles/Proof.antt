@@ -53,7 +53,8 @@ returns c =
     let a = scale .before .before .args in
     let byte = then-byte (a .row .«material_and_shadow») 0 (now (a .s)) (material .then-bits3 .result) in
     rw (c .value-of5 .ensures, materials .value-of4 .ensures, plots .value-of3 .ensures, linetypes .value-of2 .ensures, scales .value-of .ensures)
-    (rw (shadow .then-bits4 .ensures, byte, material .then-bits3 .ensures, plot .then-bits2 .ensures, linetype .then-bits .ensures, scale .then-bd-bits .ensures))
+    (rw (shadow .then-bits4 .ensures, byte, material .then-bits3 .ensures)
+    (rw (plot .then-bits2 .ensures, linetype .then-bits .ensures, scale .then-bd-bits .ensures)))
 
 pub read-styles-spec : {M : Type 1} → statement M
 read-styles-spec =
