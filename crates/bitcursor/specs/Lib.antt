@@ -1,6 +1,7 @@
 pub mod Refusals
 pub mod Reading
 pub mod Code
+pub mod Joins
 pub mod Bytes
 pub mod Codes
 pub mod Doubles

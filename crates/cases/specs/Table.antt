@@ -22,10 +22,10 @@ use Rattle.text.specs.Fields.{here, inline, past-end, room-for, from-reader}
 use Rattle.text.specs.Layouts.{reader-text}
 use Rattle.text.specs.TextField.{has-reader, TV-field, TV-read as TV-field-read}
 use Rattle.text.specs.Answers.{released, readerText}
-use Rattle.common_entity.specs.declared.CommonEntityBits.{CommonEntityBits}
-use Rattle.common_entity.specs.Prefix.{chain, extended, drawing, graphics, name, prefixBy}
-use Rattle.common_entity.specs.Format.{prefix}
-use Rattle.common_entity.specs.Call.{prefixCall}
+use Rattle.prefix_format.specs.declared.CommonEntityBits.{CommonEntityBits}
+use Rattle.prefix_format.specs.Prefix.{chain, extended, graphicsBlock, graphics, name, prefixBy}
+use Rattle.prefix_format.specs.Format.{prefix}
+use Rattle.prefix_format.specs.Call.{prefixCall}
 use Rattle.hatch_format.specs.Caps.{documentCaps}
 use Rattle.hatch_format.specs.HandleRule.{in-payload}
 use Rattle.hatch_format.specs.Values.{Body}
@@ -112,7 +112,7 @@ unfolding cases allSame
     raw _>>=_ tabled mapped measured give refuse held lowFirst highFirst bytes bytes-read lowNumber skip window bitsOf digits number limited
     pure refuse-format bind-format peek relay either partIn at-least
     readerText units units-read checked-units released TV TV-read TV-field TV-field-read has-reader reader-text from-reader past-end room-for here inline
-    prefixCall prefix prefixBy extended chain graphics drawing name
+    prefixCall prefix prefixBy extended chain graphics graphicsBlock name
     callOn hatch hatch-read plane plane-read gradient gradient-read block block-read color color-read rest rest-read tail tail-read ending ending-read
     pattern pattern-read pattern-line pattern-line-read paths path path-read segments segments-read handle-count handle-count-read edge edge-read
     edge-of spline-edge spline-read spline-counts spline-controls spline-lists fits fits-read fitted-by arc-edge arc-read ellipse-edge ellipse-read

@@ -1,46 +1,13 @@
--- What the prefix reader's proofs share: a name that is read past, the mode, and the answer of a reading. Assumes nothing.
-use mathlib.Core.Path.{_≡_, refl, sym, ap, ap₂, _∙_}
-use mathlib.Core.List.{List}
+-- What the proofs of the record and of the calls need: the mode, and the answer of a reading. Assumes nothing.
+use mathlib.Core.Path.{_≡_, refl, sym, ap, _∙_}
 use Prim.Native.Nat.{ℕ, zero, suc}
-use native.Mathlib.Omega.{arith}
-use Rattle.bitcursor.specs.declared.Refusal.{Refusal}
-use Rattle.bitcursor.specs.Reading.{Out, got, refused, andThen}
-use Rattle.bitcursor.specs.Code.{mapped, tabled, _>>=_, give}
-use Rattle.text.specs.declared.Source.the-variants.{Main}
-use Rattle.text.specs.declared.Text.{Text}
-use Rattle.text.specs.declared.ReadText.{ReadText}
-use Rattle.text.specs.declared.ReadText.the-variants.{Found, Refused}
-use Rattle.text.specs.Texts.{UnitWidth, Written, TV}
-use Rattle.text.specs.Fields.{widthBy}
-use Rattle.text.specs.Answers.{asText, placed}
-use mathlib.Core.Bool.{Bool}
-use Rattle.common_entity.specs.declared.EntityMode.the-variants.{Reserved}
-use Rattle.common_entity.specs.declared.Outcome.the-variants.{Read}
-use Rattle.common_entity.specs.declared.CommonEntityBits.{CommonEntityBits}
-use Rattle.common_entity.specs.declared.PrefixBits.{PrefixBits}
-use Rattle.common_entity.specs.Values.{modeOf}
-use Rattle.common_entity.specs.Call.{asBits}
-use Rattle.common_entity.specs.Prefix.{name}
-
-module _ (b : Bool) (xs : List ℕ) (p : ℕ) {x : ReadText} (e : x ≡ asText (placed Main (widthBy b) p ((TV (widthBy b)) .read xs p))) where
-  pub name-found : {t : Text} {q : ℕ} → x ≡ Found t q → (name b) .read xs p ≡ got 0 q
-  unfolding name mapped tabled _>>=_ give
-  name-found {t} {q} h = go ((TV (widthBy b)) .read xs p) (sym e ∙ h)
-    where
-      go : (o : Out ℕ Written) → asText (placed Main (widthBy b) p o) ≡ Found t q → andThen {B = ℕ} o (λ u r. got 0 r) ≡ got 0 q
-      go (got u r) k = let f : r ≡ q = cc in ap (got 0) f
-      go (refused n r) k = let z : _≡_ {A = ℕ} 0 1 = cc in absurd (omega arith)
-
-  pub name-refused : {n : Refusal} {q : ℕ} → x ≡ Refused n q → (name b) .read xs p ≡ refused n q
-  unfolding name mapped tabled _>>=_ give
-  name-refused {n} {q} h = go ((TV (widthBy b)) .read xs p) (sym e ∙ h)
-    where
-      go : (o : Out ℕ Written) → asText (placed Main (widthBy b) p o) ≡ Refused n q → andThen {B = ℕ} o (λ u r. got 0 r) ≡ refused n q
-      go (got u r) k = let z : _≡_ {A = ℕ} 0 1 = cc in absurd (omega arith)
-      go (refused m r) k =
-          let f : m ≡ n = cc in
-          let g : r ≡ q = cc in
-          ap₂ refused f g
+use Rattle.bitcursor.specs.Reading.{Out, got}
+use Rattle.prefix_format.specs.declared.EntityMode.the-variants.{Reserved}
+use Rattle.prefix_format.specs.declared.Outcome.the-variants.{Read}
+use Rattle.prefix_format.specs.declared.CommonEntityBits.{CommonEntityBits}
+use Rattle.prefix_format.specs.declared.PrefixBits.{PrefixBits}
+use Rattle.prefix_format.specs.Values.{modeOf}
+use Rattle.prefix_format.specs.Call.{asBits}
 
 pub mode-other : (v : ℕ) → (v ≡ 0 → ⊥) → (v ≡ 1 → ⊥) → (v ≡ 2 → ⊥) → modeOf v ≡ Reserved
 mode-other zero a b c = absurd (a refl)

@@ -1,14 +1,2 @@
-pub mod Rows
-pub mod Values
-pub mod Layouts
-pub mod Joins
-pub mod Prefix
-pub mod FieldLaws
-pub mod Format
-pub mod Blocks
-pub mod Parts
-pub mod PlainColours
-pub mod Record
-pub mod Call
+pub mod Numbers
 pub mod Reads
-pub mod Demand3

@@ -1,4 +1,4 @@
--- The five parts together read what the prefix's definition reads, and their numbers are in their fields' ranges. Assumes nothing.
+-- The five parts together read what the prefix's definition reads, and their numbers are as the record asks. Assumes nothing.
 use mathlib.Core.Path.{_≡_, refl, sym, ap, _∙_}
 use mathlib.Core.Bool.{Bool, true, false}
 use mathlib.Core.List.{List}
@@ -18,17 +18,17 @@ use Rattle.bitcursor.specs.Codes.{BB, RC, RL, BS, BL}
 use Rattle.bitcursor.specs.Ranges.{bytes-pow, raw-below, low-below, BS-below, BL-below}
 use Rattle.bitcursor.specs.Held.{held, held-below}
 use Rattle.sequence.specs.Sequence.{thenRead, valueOf, resume, step-below}
-use Rattle.common_entity.specs.declared.CommonEntityBits.{CommonEntityBits}
-use Rattle.common_entity.specs.declared.table.Row.{Row}
-use Rattle.common_entity.specs.declared.parts.Head.{Head}
-use Rattle.common_entity.specs.declared.parts.Modes.{Modes}
-use Rattle.common_entity.specs.declared.parts.Colours.{Colours}
-use Rattle.common_entity.specs.declared.parts.Styles.{Styles}
-use Rattle.common_entity.specs.declared.parts.Tail.{Tail}
-use Rattle.common_entity.specs.Values.{hasRgb, hasAlpha}
-use Rattle.common_entity.specs.Prefix.{prefixBy, fieldsOf, BIT, graphics, extended}
-use Rattle.common_entity.specs.Parts.{headOf, modesOf, coloursOf, stylesOf, tailOf, head-reads, modes-read, colours-read, styles-read, tail-reads}
-use Rattle.common_entity.specs.Record.{InRange, bitsOf}
+use Rattle.prefix_format.specs.declared.CommonEntityBits.{CommonEntityBits}
+use Rattle.prefix_format.specs.declared.table.Row.{Row}
+use Rattle.prefix_parts.specs.declared.Head.{Head}
+use Rattle.prefix_parts.specs.declared.Modes.{Modes}
+use Rattle.prefix_parts.specs.declared.Colours.{Colours}
+use Rattle.prefix_parts.specs.declared.Styles.{Styles}
+use Rattle.prefix_parts.specs.declared.Tail.{Tail}
+use Rattle.prefix_format.specs.Values.{hasRgb, hasAlpha}
+use Rattle.prefix_format.specs.Prefix.{prefixBy, fieldsOf, BIT, graphics, extended}
+use Rattle.prefix_parts.specs.Parts.{headOf, modesOf, coloursOf, stylesOf, tailOf, head-reads, modes-read, colours-read, styles-read, tail-reads}
+use Rattle.common_entity.specs.Numbers.{InRange, PresentByColour, bitsOf}
 
 module _ (row : Row) (xs : List ℕ) (p : ℕ) where
   abbrev pub h : Head
@@ -49,7 +49,7 @@ module _ (row : Row) (xs : List ℕ) (p : ℕ) where
   -- the record of the parts' numbers, with the last answer's number for the lineweight
   abbrev recordTo : ℕ → CommonEntityBits
   recordTo weight =
-      fieldsOf row (h .xdata) (h .drawn) (valueOf (h .last)) (m .mode) (m .reactors) (m .«no_dictionary») (m .binary) (m .«by_layer»)
+      fieldsOf row (h .xdata) (h .«had_graphics») (valueOf (h .last)) (m .mode) (m .reactors) (m .«no_dictionary») (m .binary) (m .«by_layer»)
       (valueOf (m .last)) (c .colour) (c .rgb) (c .alpha) (t .scale) (t .linetype) (t .plot) (t .material) (valueOf (t .last))
       (e .full) (e .face) (e .edge) (e .invisible) weight
 
@@ -139,6 +139,10 @@ module _ (row : Row) (xs : List ℕ) (p : ℕ) where
         weight = f .1;
       }
 
+  present-by-colour : PresentByColour row c
+  unfolding coloursOf
+  present-by-colour = record { rgb = refl; alpha = refl }
+
   -- the record is what was laid out
   whole : {v q : ℕ} → e .last ≡ Value v q → (prefixBy row) .read xs p ≡ got (bitsOf row h m c t e) q
   unfolding headOf modesOf stylesOf tailOf give
@@ -153,8 +157,8 @@ module _ (row : Row) (xs : List ℕ) (p : ℕ) where
   -- the same of parts that were read so
   module _ (h′ : Head) (m′ : Modes) (c′ : Colours) (t′ : Styles) (e′ : Tail) (eh : h′ ≡ headOf row xs p) (em : m′ ≡ modesOf row xs (h′ .last))
       (ec : c′ ≡ coloursOf row xs (m′ .last)) (et : t′ ≡ stylesOf row xs (c′ .last)) (ee : e′ ≡ tailOf row xs (t′ .last)) where
-    pub parts-in-range : InRange h′ m′ c′ t′ e′
-    parts-in-range = rw (ee, et, ec, em, eh) in-range
+    pub parts-asked : InRange h′ m′ c′ t′ e′ × PresentByColour row c′
+    parts-asked = rw (ee, et, ec, em, eh) (in-range, present-by-colour)
 
     pub parts-whole : {v q : ℕ} → e′ .last ≡ Value v q → (prefixBy row) .read xs p ≡ got (bitsOf row h′ m′ c′ t′ e′) q
     parts-whole l = rw (ee, et, ec, em, eh) (whole (rw (ee, et, ec, em, eh) at l))

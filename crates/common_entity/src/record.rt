@@ -1,19 +1,19 @@
 // The record of a prefix from its parts' numbers, and the record of a refused call, which is zero throughout.
 ghost use mathlib.Core.Path.{_≡_};
 ghost use lib.Dec.{eqb};
-ghost use Rattle.common_entity.specs.Values.{modeOf};
-ghost use Rattle.common_entity.specs.Record.{InRange, bitsOf, dataOf, zeroBits};
-use crate::CommonEntityBits;
-use crate::CommonEntityData;
-use crate::EntityMode;
-use crate::MaybeLong;
-use crate::parts;
-use crate::parts::Colours;
-use crate::parts::Head;
-use crate::parts::Modes;
-use crate::parts::Styles;
-use crate::parts::Tail;
-use crate::table::Row;
+ghost use Rattle.prefix_format.specs.Values.{modeOf};
+ghost use Rattle.prefix_format.specs.Record.{dataOf, zeroBits};
+ghost use Rattle.common_entity.specs.Numbers.{InRange, PresentByColour, bitsOf};
+use prefix_format::CommonEntityBits;
+use prefix_format::CommonEntityData;
+use prefix_format::EntityMode;
+use prefix_format::MaybeLong;
+use prefix_format::table::Row;
+use prefix_parts::Colours;
+use prefix_parts::Head;
+use prefix_parts::Modes;
+use prefix_parts::Styles;
+use prefix_parts::Tail;
 
 fn entity_mode(v: u64) -> EntityMode
     ensures { λ r. ⌜ r ≡ modeOf v ⌝ }
@@ -27,10 +27,9 @@ fn entity_mode(v: u64) -> EntityMode
 }
 
 pub fn common_bits(row: Row, h: Head, m: Modes, c: Colours, t: Styles, e: Tail) -> CommonEntityBits
-    requires { ⌜ InRange h m c t e ⌝ }
+    requires { ⌜ InRange h m c t e × PresentByColour row c ⌝ }
     ensures { λ r. ⌜ r ≡ bitsOf row h m c t e ⌝ }
 {
-    let has = parts::announced_by(row, c.colour);
     CommonEntityBits {
         raw_mode: m.mode as u8,
         mode: entity_mode(m.mode),
@@ -46,18 +45,18 @@ pub fn common_bits(row: Row, h: Head, m: Modes, c: Colours, t: Styles, e: Tail) 
         nolinks: 1 == m.links,
         color_raw: c.colour as u16,
         color_rgb: MaybeLong {
-            present: has.rgb,
+            present: c.has_rgb,
             value: c.rgb as u32,
         },
         color_alpha: MaybeLong {
-            present: has.alpha,
+            present: c.has_alpha,
             value: c.alpha as u32,
         },
         ltype_scale: t.scale,
         ltype_flags: t.linetype as u8,
         visual_style_flags: [1 == e.full, 1 == e.face, 1 == e.edge],
         lineweight: e.weight as u8,
-        had_graphics: 1 == h.drawn,
+        had_graphics: 1 == h.had_graphics,
         had_extended_data: 1 == h.xdata,
         data_end_bits: MaybeLong {
             present: row.data_end,

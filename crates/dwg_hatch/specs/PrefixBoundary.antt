@@ -5,12 +5,12 @@ use Prim.Native.Nat.{ℕ}
 use lib.Ieee.{ofBits, binary64}
 use lib.ListN.{getD}
 use Rattle.bitcursor.specs.Refusals.{refusalNumber}
-use Rattle.common_entity.specs.declared.EntityMode.{EntityMode}
-use Rattle.common_entity.specs.declared.EntityMode.the-variants.{ByLayer, ByPreviousEntity, InBlock, Reserved}
-use Rattle.common_entity.specs.declared.Outcome.{Outcome}
-use Rattle.common_entity.specs.declared.Outcome.the-variants.{Read, Refused}
-use Rattle.common_entity.specs.declared.CommonEntityBits.{CommonEntityBits}
-use Rattle.common_entity.specs.declared.PrefixBits.{PrefixBits}
+use Rattle.prefix_format.specs.declared.EntityMode.{EntityMode}
+use Rattle.prefix_format.specs.declared.EntityMode.the-variants.{ByLayer, ByPreviousEntity, InBlock, Reserved}
+use Rattle.prefix_format.specs.declared.Outcome.{Outcome}
+use Rattle.prefix_format.specs.declared.Outcome.the-variants.{Read, Refused}
+use Rattle.prefix_format.specs.declared.CommonEntityBits.{CommonEntityBits}
+use Rattle.prefix_format.specs.declared.PrefixBits.{PrefixBits}
 use Rattle.dwg_hatch.specs.declared.PrefixFields.{PrefixFields}
 use Rattle.dwg_hatch.specs.declared.PrefixAnswer.{PrefixAnswer}
 use Rattle.dwg_hatch.specs.declared.PrefixBitsAnswer.{PrefixBitsAnswer}

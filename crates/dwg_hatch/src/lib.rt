@@ -9,7 +9,7 @@ ghost use Rattle.bitcursor.specs.Handles.{BLL, HANDLE};
 ghost use Rattle.bitcursor.specs.Answers.{limited};
 ghost use Rattle.text.specs.Releases.{versionOf};
 ghost use Rattle.text.specs.Answers.{inlineText, readerText, released};
-ghost use Rattle.common_entity.specs.Call.{asBits, prefixCall};
+ghost use Rattle.prefix_format.specs.Call.{asBits, prefixCall};
 ghost use Rattle.dwg_hatch.specs.PrefixBoundary.{bitsAnswer, doubleAnswer as prefixDoubleAnswer};
 ghost use Rattle.dwg_hatch.specs.Boundary.{boolAnswer, codeAnswer, signedAnswer, doubleAnswer, handleAnswer, textAnswer};
 

@@ -5,10 +5,10 @@ use crate::PrefixAnswer;
 use crate::PrefixBitsAnswer;
 use crate::PrefixFields;
 use crate::answers;
-use common_entity::CommonEntityBits;
-use common_entity::EntityMode;
-use common_entity::Outcome;
-use common_entity::PrefixBits;
+use prefix_format::CommonEntityBits;
+use prefix_format::EntityMode;
+use prefix_format::Outcome;
+use prefix_format::PrefixBits;
 
 fn mode_number(mode: EntityMode) -> u8
     ensures { λ n. ⌜ n ≡ modeNumber mode ⌝ }

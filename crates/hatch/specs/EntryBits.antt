@@ -19,7 +19,8 @@ use Rattle.hatch_format.specs.Values.{edges, Path, polylined, derived, PatternL
 use Rattle.hatch_format.specs.Entries.{every, edgeWords, segmentWords, pathWords, lineWords, words, pointNumbers, vertexNumbers, fitNumbers, edgeNumbers}
 use Rattle.hatch_format.specs.Entries.{segmentNumbers, pathNumbers, lineNumbers, numbers}
 use Rattle.bitcursor.specs.Chains.{_⨾_, Nothing, EachBy, Each}
-use Rattle.hatch_format.specs.Layouts.{Coded, Count, Listed, PointLaid, VertexLaid, ArcLaid, EllipseLaid, FitsLaid, SplineLaid, EdgeLaid, SegmentsLaid}
+use Rattle.bitcursor.specs.Joins.{Coded}
+use Rattle.hatch_format.specs.Layouts.{Count, Listed, PointLaid, VertexLaid, ArcLaid, EllipseLaid, FitsLaid, SplineLaid, EdgeLaid, SegmentsLaid}
 use Rattle.hatch_format.specs.Layouts.{HandlesLaid, PathLaid, LineLaid, PatternLaid, EndingLaid, TailLaid, RestLaid}
 use Rattle.hatch_format.specs.Takes.{takes-RC, takes-RD, takes-BD, takes-BL, takes-BS}
 

@@ -10,12 +10,13 @@ use Rattle.bitcursor.specs.Codes.{BL}
 use Rattle.bitcursor.specs.Doubles.{BD}
 use Rattle.bitcursor.specs.Inputs.{Places, Payloads}
 use Rattle.bitcursor.specs.Fields.{coded}
+use Rattle.bitcursor.specs.Joins.{Coded}
 use Rattle.text.specs.declared.version.Version.{Version}
 use Rattle.text.specs.Releases.{releaseNumber}
 use Rattle.hatch_format.specs.declared.Caps.{Caps}
 use Rattle.hatch_format.specs.HandleRule.{Handles}
 use Rattle.hatch_format.specs.Values.{Plane, Gradient, Body}
-use Rattle.hatch_format.specs.Layouts.{Coded, InMain, PlaneLaid, GradientLaid, BodyLaid}
+use Rattle.hatch_format.specs.Layouts.{InMain, PlaneLaid, GradientLaid, BodyLaid}
 use Rattle.hatch_format.specs.Takes.{moved, takes-BL, takes-BD}
 
 pub BL-begins : (xs : List ℕ) (n p q : ℕ) → Coded xs BL n p q → p < size xs

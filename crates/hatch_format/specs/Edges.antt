@@ -8,10 +8,11 @@ use Rattle.bitcursor.specs.Codes.{RC}
 use Rattle.bitcursor.specs.Format.{Format, pure, refuse, _>>=_, relay}
 use Rattle.bitcursor.specs.Inputs.{one}
 use Rattle.bitcursor.specs.Fields.{coded}
+use Rattle.bitcursor.specs.Joins.{Coded}
 use Rattle.text.specs.declared.version.Version.{Version}
 use Rattle.hatch_format.specs.declared.Caps.{Caps}
 use Rattle.hatch_format.specs.Values.{Point, Arc, Ellipse, Spline, Edge, line, arc, ellipse, spline}
-use Rattle.hatch_format.specs.Layouts.{Coded, EdgeLaid}
+use Rattle.hatch_format.specs.Layouts.{EdgeLaid}
 use Rattle.hatch_format.specs.Takes.{Takes, takes-less, takes-first, takes-RC}
 use Rattle.hatch_format.specs.Points.{point, arc-edge, ellipse-edge}
 use Rattle.hatch_format.specs.Splines.{spline-edge}

@@ -7,13 +7,15 @@ use Prim.Native.Nat.{ℕ, _+_, _-_, _≤_, _<_}
 use lib.Dec.{leb}
 use lib.ListN.{length}
 use Rattle.loads.specs.Bits.{size}
-use Rattle.bitcursor.specs.Code.{Code, Laid}
+use Rattle.bitcursor.specs.Code.{Code}
+use Rattle.bitcursor.specs.Joins.{Coded}
 use Rattle.bitcursor.specs.Chains.{_⨾_, Nothing, EachBy, Each}
 use Rattle.bitcursor.specs.Codes.{B, RC, RD, BS, signed-BS, BL}
 use Rattle.bitcursor.specs.Doubles.{BD}
 use Rattle.bitcursor.specs.Held.{held}
 use Rattle.bitcursor.specs.Inputs.{Places, Payloads}
-use Rattle.bitcursor.specs.Fields.{main, PartIn}
+use Rattle.bitcursor.specs.Inputs.{main}
+use Rattle.bitcursor.specs.Fields.{Within}
 use Rattle.text.specs.declared.Text.{Text}
 use Rattle.text.specs.declared.version.Version.{Version}
 use Rattle.text.specs.Releases.{releaseNumber}
@@ -28,13 +30,9 @@ use Rattle.hatch_format.specs.Values.{PatternLine, Pattern, no-pattern, 
 
 -- ---- of one payload
 module _ (xs : List ℕ) where
-  -- a code of the value
-  abbrev pub Coded : {A : Type 0} → Code A → A → ℕ → ℕ → Type 0
-  Coded c a p q = Laid (c .codes) xs a p q
-
   -- a count that is not above its cap
   abbrev pub Count : ℕ → Code ℕ → ℕ → ℕ → ℕ → Type 0
-  Count cap c n p q = Coded c n p q × (n ≤ cap)
+  Count cap c n p q = Coded xs c n p q × (n ≤ cap)
 
   -- such a count that is not above the bits after it either, to the end of the payload
   abbrev pub Bounded : ℕ → Code ℕ → ℕ → ℕ → ℕ → Type 0
@@ -48,19 +46,19 @@ module _ (xs : List ℕ) where
   Listed cap c L items = Count cap c (length items) ⨾ Each L items
 
   abbrev pub PointLaid : Point → ℕ → ℕ → Type 0
-  PointLaid a = Coded RD (a .x) ⨾ Coded RD (a .y)
+  PointLaid a = Coded xs RD (a .x) ⨾ Coded xs RD (a .y)
 
   -- a vertex with a bulge or without, a control point with a weight or without
   abbrev pub VertexLaid : Bool → Vertex → ℕ → ℕ → Type 0
-  VertexLaid more a = PointLaid (a .point) ⨾ Coded (held more BD 0) (a .extra)
+  VertexLaid more a = PointLaid (a .point) ⨾ Coded xs (held more BD 0) (a .extra)
 
   abbrev pub ArcLaid : Arc → ℕ → ℕ → Type 0
-  ArcLaid a = PointLaid (a .center) ⨾ Coded BD (a .radius) ⨾ Coded BD (a .start-angle) ⨾ Coded BD (a .end-angle) ⨾ Coded B (a .counter-clockwise)
+  ArcLaid a = PointLaid (a .center) ⨾ Coded xs BD (a .radius) ⨾ Coded xs BD (a .start-angle) ⨾ Coded xs BD (a .end-angle) ⨾ Coded xs B (a .counter-clockwise)
 
   abbrev pub EllipseLaid : Ellipse → ℕ → ℕ → Type 0
   EllipseLaid a =
       PointLaid (a .center) ⨾ PointLaid (a .endpoint)
-      ⨾ Coded BD (a .axis-ratio) ⨾ Coded BD (a .start-angle) ⨾ Coded BD (a .end-angle) ⨾ Coded B (a .counter-clockwise)
+      ⨾ Coded xs BD (a .axis-ratio) ⨾ Coded xs BD (a .start-angle) ⨾ Coded xs BD (a .end-angle) ⨾ Coded xs B (a .counter-clockwise)
 
   -- fits, from release 5: a count and, if it is not 0, the points and two tangents
   abbrev pub FitsLaid : ℕ → Bool → Fits → ℕ → ℕ → Type 0
@@ -72,21 +70,21 @@ module _ (xs : List ℕ) where
   -- both counts stand before the knots
   abbrev pub SplineLaid : Caps → Version → Spline → ℕ → ℕ → Type 0
   SplineLaid caps v a =
-      Coded BL (a .degree) ⨾ Coded B (a .rational) ⨾ Coded B (a .periodic)
+      Coded xs BL (a .degree) ⨾ Coded xs B (a .rational) ⨾ Coded xs B (a .periodic)
       ⨾ Count (caps .knots) BL (length (a .knots)) ⨾ Count (caps .«control_points») BL (length (a .control-points))
-      ⨾ Each (Coded BD) (a .knots) ⨾ Each (VertexLaid (a .rational)) (a .control-points)
+      ⨾ Each (Coded xs BD) (a .knots) ⨾ Each (VertexLaid (a .rational)) (a .control-points)
       ⨾ FitsLaid (caps .«fit_points») (leb 5 (releaseNumber v)) (a .fits)
 
   abbrev pub EdgeLaid : Caps → Version → Edge → ℕ → ℕ → Type 0
-  EdgeLaid caps v (line start end) = Coded RC 1 ⨾ PointLaid start ⨾ PointLaid end
-  EdgeLaid caps v (arc a) = Coded RC 2 ⨾ ArcLaid a
-  EdgeLaid caps v (ellipse a) = Coded RC 3 ⨾ EllipseLaid a
-  EdgeLaid caps v (spline a) = Coded RC 4 ⨾ SplineLaid caps v a
+  EdgeLaid caps v (line start end) = Coded xs RC 1 ⨾ PointLaid start ⨾ PointLaid end
+  EdgeLaid caps v (arc a) = Coded xs RC 2 ⨾ ArcLaid a
+  EdgeLaid caps v (ellipse a) = Coded xs RC 3 ⨾ EllipseLaid a
+  EdgeLaid caps v (spline a) = Coded xs RC 4 ⨾ SplineLaid caps v a
 
   -- a polyline where the flags say so, else edges
   abbrev pub SegmentsLaid : Caps → Version → Bool → Segments → ℕ → ℕ → Type 0
   SegmentsLaid caps v true (polyline bulge closed vertices) =
-      Coded B bulge ⨾ Coded B closed ⨾ Listed (caps .vertices) BL (VertexLaid bulge) vertices
+      Coded xs B bulge ⨾ Coded xs B closed ⨾ Listed (caps .vertices) BL (VertexLaid bulge) vertices
   SegmentsLaid caps v false (edges es) = Listed (caps .edges) BL (EdgeLaid caps v) es
   SegmentsLaid caps v true (edges es) = λ p q. ⊥
   SegmentsLaid caps v false (polyline bulge closed vertices) = λ p q. ⊥
@@ -99,49 +97,49 @@ module _ (xs : List ℕ) where
 
   abbrev pub PathLaid : Caps → Handles → Version → ℕ → Path → ℕ → ℕ → Type 0
   PathLaid caps handles v sum a =
-      Coded BL (a .flags) ⨾ SegmentsLaid caps v (polylined (a .flags)) (a .segments)
+      Coded xs BL (a .flags) ⨾ SegmentsLaid caps v (polylined (a .flags)) (a .segments)
       ⨾ HandlesLaid (caps .«boundary_handles») handles sum (a .boundary-handles)
 
   abbrev pub LineLaid : ℕ → PatternLine → ℕ → ℕ → Type 0
   LineLaid cap a =
-      Coded BD (a .angle) ⨾ Coded BD (a .origin .x) ⨾ Coded BD (a .origin .y) ⨾ Coded BD (a .offset .x) ⨾ Coded BD (a .offset .y)
-      ⨾ Listed cap BS (Coded BD) (a .dashes)
+      Coded xs BD (a .angle) ⨾ Coded xs BD (a .origin .x) ⨾ Coded xs BD (a .origin .y) ⨾ Coded xs BD (a .offset .x) ⨾ Coded xs BD (a .offset .y)
+      ⨾ Listed cap BS (Coded xs BD) (a .dashes)
 
   -- a solid hatch has none
   abbrev pub PatternLaid : Caps → Bool → Pattern → ℕ → ℕ → Type 0
   PatternLaid caps true a = λ p q. (a ≡ no-pattern) × Nothing p q
   PatternLaid caps false a =
-      Coded BD (a .angle) ⨾ Coded BD (a .scale) ⨾ Coded B (a .double) ⨾ Listed (caps .«pattern_lines») BS (LineLaid (caps .dashes)) (a .lines)
+      Coded xs BD (a .angle) ⨾ Coded xs BD (a .scale) ⨾ Coded xs B (a .double) ⨾ Listed (caps .«pattern_lines») BS (LineLaid (caps .dashes)) (a .lines)
 
   -- the pixel size is there if any path comes from a boundary object
   abbrev pub EndingLaid : Caps → Bool → Ending → ℕ → ℕ → Type 0
-  EndingLaid caps pixel a = Coded (held pixel BD 0) (a .pixel-size) ⨾ Listed (caps .«seed_points») BL PointLaid (a .seed-points)
+  EndingLaid caps pixel a = Coded xs (held pixel BD 0) (a .pixel-size) ⨾ Listed (caps .«seed_points») BL PointLaid (a .seed-points)
 
   abbrev pub TailLaid : Caps → Bool → Bool → Tail → ℕ → ℕ → Type 0
   TailLaid caps solid pixel a =
-      Coded BS (a .pattern-style) ⨾ Coded BS (a .pattern-type) ⨾ PatternLaid caps solid (a .pattern) ⨾ EndingLaid caps pixel (a .ending)
+      Coded xs BS (a .pattern-style) ⨾ Coded xs BS (a .pattern-type) ⨾ PatternLaid caps solid (a .pattern) ⨾ EndingLaid caps pixel (a .ending)
 
   abbrev pub RestLaid : Caps → Handles → Version → Rest → ℕ → ℕ → Type 0
   RestLaid caps handles v a =
-      Coded B (a .solid) ⨾ Coded B (a .associative) ⨾ ListedBy (caps .paths) BL (PathLaid caps handles v) addHandles 0 (a .paths)
+      Coded xs B (a .solid) ⨾ Coded xs B (a .associative) ⨾ ListedBy (caps .paths) BL (PathLaid caps handles v) addHandles 0 (a .paths)
       ⨾ TailLaid caps (a .solid) (derived (a .paths)) (a .tail)
 
   abbrev pub PlaneLaid : Plane → ℕ → ℕ → Type 0
-  PlaneLaid a = Coded BD (a .elevation) ⨾ Coded BD (a .x) ⨾ Coded BD (a .y) ⨾ Coded BD (a .z)
+  PlaneLaid a = Coded xs BD (a .elevation) ⨾ Coded xs BD (a .x) ⨾ Coded xs BD (a .y) ⨾ Coded xs BD (a .z)
 
   abbrev pub ColorLaid : GradientColorBits → ℕ → ℕ → Type 0
   ColorLaid a =
-      Coded BD (a .«unknown_double») ⨾ Coded signed-BS (a .«unknown_short») ⨾ Coded BL (a .rgb) ⨾ Coded RC (a .«ignored_color_byte»)
+      Coded xs BD (a .«unknown_double») ⨾ Coded xs signed-BS (a .«unknown_short») ⨾ Coded xs BL (a .rgb) ⨾ Coded xs RC (a .«ignored_color_byte»)
 
   abbrev pub BlockLaid : ℕ → Block → ℕ → ℕ → Type 0
   BlockLaid cap a =
-      Coded BL (a .flag) ⨾ Coded BL (a .ignored) ⨾ Coded BD (a .angle) ⨾ Coded BD (a .shift) ⨾ Coded BL (a .single-color) ⨾ Coded BD (a .tint)
+      Coded xs BL (a .flag) ⨾ Coded xs BL (a .ignored) ⨾ Coded xs BD (a .angle) ⨾ Coded xs BD (a .shift) ⨾ Coded xs BL (a .single-color) ⨾ Coded xs BD (a .tint)
       ⨾ Listed cap BL ColorLaid (a .colors)
 
 -- ---- of both payloads
 -- in the main payload
 abbrev pub InMain : {A : Type 0} → (List ℕ → A → ℕ → ℕ → Type 0) → Payloads → A → Places → Places → Type 0
-InMain L γ a = PartIn main L γ a
+InMain L γ a = Within main L γ a
 
 -- from release 3: the block and the name, with flag 0 too
 abbrev pub GradientLaid : ℕ → Version → Bool → Payloads → Gradient → Places → Places → Type 0

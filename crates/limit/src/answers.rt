@@ -1,7 +1,7 @@
 // What the calls answer that are no codes: a refusal's number and its place, or the place of a reading, whose value is not looked at.
-use common_entity::Outcome;
-use common_entity::PrefixBits;
 use hatch::HatchBitsAnswer;
+use prefix_format::Outcome;
+use prefix_format::PrefixBits;
 use stored::answers::Code;
 use stored::answers::refused;
 use text::ReadText;

@@ -1,9 +1,9 @@
 // The requests for an entity prefix: the call, and its answer as a list of numbers, the fields in the order of the Rust's answer.
 ghost use Prim.Native.Nat.{_≤_};
-use common_entity::CommonEntityBits;
-use common_entity::EntityMode;
-use common_entity::MaybeLong;
-use common_entity::Outcome;
+use prefix_format::CommonEntityBits;
+use prefix_format::EntityMode;
+use prefix_format::MaybeLong;
+use prefix_format::Outcome;
 use stored::answers;
 use stored::record::ROOM;
 

@@ -1,8 +1,8 @@
 -- Each part continues behind the one before it, and the last part says whether all were read.
 use mathlib.Core.Path.{_≡_, refl, sym, ap, _∙_}
 use denote.Ref.{now}
-use Rattle.common_entity.specs.Call.{asBits}
-use Rattle.common_entity.specs.Reads.{parts-in-range, parts-whole, parts-stopped}
+use Rattle.prefix_format.specs.Call.{asBits}
+use Rattle.common_entity.specs.Reads.{parts-asked, parts-whole, parts-stopped}
 use Rattle.common_entity.proofs.Laws.{read-as}
 use borrow.Author.Needs.{needs}
 use Rattle.common_entity.proofs.read_by_row.Statement.{statement}
@@ -35,7 +35,7 @@ common-bits-requires c κs =
     let after-read-head = after-read-modes .before in
     let entry = after-read-head .before .before in
     let a = entry .args in
-    parts-in-range (a .row) (now (a .s)) (a .start) (after-read-head .read-head .result) (after-read-modes .read-modes .result)
+    parts-asked (a .row) (now (a .s)) (a .start) (after-read-head .read-head .result) (after-read-modes .read-modes .result)
     (after-read-colours .read-colours .result) (after-read-styles .read-styles .result) (after-read-tail .read-tail .result)
     (after-read-head .read-head .ensures) (after-read-modes .read-modes .ensures) (after-read-colours .read-colours .ensures)
     (after-read-styles .read-styles .ensures) (after-read-tail .read-tail .ensures)

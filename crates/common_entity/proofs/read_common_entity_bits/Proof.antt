@@ -6,10 +6,10 @@ use Rattle.bitcursor.specs.Format.{relay}
 use Rattle.bitcursor.specs.Answers.{limited}
 use Rattle.bitcursor.proofs.Steps.{limit-within, limit-above}
 use Rattle.text.proofs.FieldLaws.{released-known, released-unknown}
-use Rattle.common_entity.specs.declared.table.Row.{Row}
-use Rattle.common_entity.specs.Prefix.{prefixBy}
-use Rattle.common_entity.specs.Format.{prefix}
-use Rattle.common_entity.specs.Call.{asBits, prefixCall}
+use Rattle.prefix_format.specs.declared.table.Row.{Row}
+use Rattle.prefix_format.specs.Prefix.{prefixBy}
+use Rattle.prefix_format.specs.Format.{prefix}
+use Rattle.prefix_format.specs.Call.{asBits, prefixCall}
 use borrow.Author.Needs.{needs}
 use Rattle.common_entity.proofs.read_common_entity_bits.Statement.{statement}
 use Rattle.common_entity.proofs.read_common_entity_bits.Tie as tie

@@ -3,11 +3,11 @@ use mathlib.Core.Path.{_≡_, refl, sym, ap, _∙_}
 use Prim.Native.Nat.{ℕ}
 use denote.Ref.{now}
 use Rattle.bitcursor.specs.Reading.{Out, got, refused}
-use Rattle.common_entity.specs.declared.CommonEntityBits.{CommonEntityBits}
-use Rattle.common_entity.specs.declared.Prefix.{Prefix}
-use Rattle.common_entity.specs.declared.PrefixBits.{PrefixBits}
-use Rattle.common_entity.specs.Record.{dataOf}
-use Rattle.common_entity.specs.Call.{asBits, asData, prefixCall}
+use Rattle.prefix_format.specs.declared.CommonEntityBits.{CommonEntityBits}
+use Rattle.prefix_format.specs.declared.Prefix.{Prefix}
+use Rattle.prefix_format.specs.declared.PrefixBits.{PrefixBits}
+use Rattle.prefix_format.specs.Record.{dataOf}
+use Rattle.prefix_format.specs.Call.{asBits, asData, prefixCall}
 use borrow.Author.Needs.{needs}
 use Rattle.common_entity.proofs.read_common_entity_data.Statement.{statement}
 use Rattle.common_entity.proofs.read_common_entity_data.Tie as tie

@@ -7,42 +7,37 @@ use lib.IntN.{ℤ}
 use mir.Syntax.{w16}
 use mir.ValLaws.{toZ-ofZ}
 use Rattle.bitcursor.specs.Codes.{signed}
-use Rattle.common_entity.specs.declared.EntityMode.{EntityMode}
-use Rattle.common_entity.specs.declared.CommonEntityBits.{CommonEntityBits}
-use Rattle.common_entity.specs.declared.table.Row.{Row}
-use Rattle.common_entity.specs.declared.parts.Announced.{Announced}
-use Rattle.common_entity.specs.declared.parts.Head.{Head}
-use Rattle.common_entity.specs.declared.parts.Modes.{Modes}
-use Rattle.common_entity.specs.declared.parts.Colours.{Colours}
-use Rattle.common_entity.specs.declared.parts.Styles.{Styles}
-use Rattle.common_entity.specs.declared.parts.Tail.{Tail}
-use Rattle.common_entity.specs.Values.{modeOf, maybe}
-use Rattle.common_entity.specs.Parts.{announcedBy}
-use Rattle.common_entity.specs.Record.{bitsOf}
+use Rattle.prefix_format.specs.declared.EntityMode.{EntityMode}
+use Rattle.prefix_format.specs.declared.CommonEntityBits.{CommonEntityBits}
+use Rattle.prefix_format.specs.declared.table.Row.{Row}
+use Rattle.prefix_parts.specs.declared.Head.{Head}
+use Rattle.prefix_parts.specs.declared.Modes.{Modes}
+use Rattle.prefix_parts.specs.declared.Colours.{Colours}
+use Rattle.prefix_parts.specs.declared.Styles.{Styles}
+use Rattle.prefix_parts.specs.declared.Tail.{Tail}
+use Rattle.prefix_format.specs.Values.{modeOf, maybe}
+use Rattle.common_entity.specs.Numbers.{PresentByColour, bitsOf}
 use borrow.Author.Needs.{needs}
 use Rattle.common_entity.proofs.record.common_bits.Statement.{statement}
 use Rattle.common_entity.proofs.record.common_bits.Tie as tie
 
-announced-by-requires : tie.Need-announced-by-requires
-announced-by-requires c κs = search needs
-
-cast-t8 : tie.Need-cast-t8
-cast-t8 c = search needs
+cast-t7 : tie.Need-cast-t7
+cast-t7 c = search needs
 
 entity-mode-requires : tie.Need-entity-mode-requires
 entity-mode-requires c κs = search needs
 
-cast-t10 : tie.Need-cast-t10
-cast-t10 c = search needs
+cast-t9 : tie.Need-cast-t9
+cast-t9 c = search needs
+
+cast-t13 : tie.Need-cast-t13
+cast-t13 c = search needs
 
 cast-t14 : tie.Need-cast-t14
 cast-t14 c = search needs
 
 cast-t15 : tie.Need-cast-t15
 cast-t15 c = search needs
-
-cast-t16 : tie.Need-cast-t16
-cast-t16 c = search needs
 
 short-of-requires : tie.Need-short-of-requires
 short-of-requires c κs = search needs
@@ -53,8 +48,7 @@ entry s =
     let known8 = s .before .before .before in
     let known5 = known8 .before .before .before in
     let known2 = known5 .before .before .before in
-    let has = known2 .before .before .before in
-    has .before
+    known2 .before .before .before
 
 -- where the rgb is cast, from where the lineweight is
 abbrev from-weight : tie.After-struct-known17 → tie.After-struct-known11
@@ -62,30 +56,29 @@ from-weight s =
     let known14 = s .before .before .before in
     known14 .before .before .before
 
+cast-t18 : tie.Need-cast-t18
+cast-t18 c = record { fits = entry c .pre .0 .colour }
+
 cast-t19 : tie.Need-cast-t19
-cast-t19 c = record { fits = entry c .pre .colour }
+cast-t19 c = record { fits = entry (c .before) .pre .0 .rgb }
 
-cast-t20 : tie.Need-cast-t20
-cast-t20 c = record { fits = entry (c .before) .pre .rgb }
+cast-t21 : tie.Need-cast-t21
+cast-t21 c = record { fits = entry (c .before .before) .pre .0 .alpha }
 
-cast-t22 : tie.Need-cast-t22
-cast-t22 c = record { fits = entry (c .before .before) .pre .alpha }
+cast-t23 : tie.Need-cast-t23
+cast-t23 c = record { fits = entry (c .before .before .before) .pre .0 .linetype }
 
-cast-t24 : tie.Need-cast-t24
-cast-t24 c = record { fits = entry (c .before .before .before) .pre .linetype }
+cast-t28 : tie.Need-cast-t28
+cast-t28 c = let known11 = from-weight c in record { fits = entry (known11 .before) .pre .0 .weight }
 
-cast-t29 : tie.Need-cast-t29
-cast-t29 c = let known11 = from-weight c in record { fits = entry (known11 .before) .pre .weight }
-
-cast-t32 : tie.Need-cast-t32
-cast-t32 c =
+cast-t31 : tie.Need-cast-t31
+cast-t31 c =
     let known11 = from-weight (c .before .before .before) in
-    record { fits = entry (known11 .before) .pre .end }
+    record { fits = entry (known11 .before) .pre .0 .end }
 
--- the record with the mode, the signed invisibility and what the colour announces as they were made
+-- the record with the mode, the signed invisibility and whether rgb and alpha are present, as they were made
 module _ (row : Row) (h : Head) (m : Modes) (c : Colours) (t : Styles) (e : Tail) where
-  made : {mode : EntityMode} {invisible : ℤ} {has : Announced} → mode ≡ modeOf (m .mode) → invisible ≡ signed 16 (e .invisible)
-      → has ≡ announcedBy row (c .colour)
+  made : {mode : EntityMode} {invisible : ℤ} → mode ≡ modeOf (m .mode) → invisible ≡ signed 16 (e .invisible) → PresentByColour row c
       → record {
         «raw_mode» = m .mode;
         mode = mode;
@@ -100,18 +93,18 @@ module _ (row : Row) (h : Head) (m : Modes) (c : Colours) (t : Styles) (e : Tail
         invisibility = invisible;
         nolinks = eqb 1 (m .links);
         «color_raw» = c .colour;
-        «color_rgb» = maybe (has .rgb) (c .rgb);
-        «color_alpha» = maybe (has .alpha) (c .alpha);
+        «color_rgb» = maybe (c .«has_rgb») (c .rgb);
+        «color_alpha» = maybe (c .«has_alpha») (c .alpha);
         «ltype_scale» = t .scale;
         «ltype_flags» = t .linetype;
         «visual_style_flags» = eqb 1 (e .full) ∷ (eqb 1 (e .face) ∷ (eqb 1 (e .edge) ∷ []));
         lineweight = e .weight;
-        «had_graphics» = eqb 1 (h .drawn);
+        «had_graphics» = eqb 1 (h .«had_graphics»);
         «had_extended_data» = eqb 1 (h .xdata);
         «data_end_bits» = maybe (row .«data_end») (h .end);
       }
       ≡ bitsOf row h m c t e
-  made p q r = rw (p, q, r)
+  made p q s = rw (p, q, s .rgb, s .alpha)
 
 returns : tie.Need-returns
 returns c =
@@ -120,27 +113,26 @@ returns c =
     let known6 = short .before .before .before in
     let known3 = known6 .before .before .before in
     let mode = known3 .before .before in
-    let has = mode .before .before in
-    let a = has .before .args in
+    let entry = mode .before .before in
+    let a = entry .args in
     let signed = toZ-ofZ w16 (short .short-of .result) (record { sfits = short .short-of .ok }) in
-    made (a .row) (a .h) (a .m) (a .c) (a .t) (a .e) (mode .entity-mode .ensures) (signed ∙ short .short-of .ensures) (has .announced-by .ensures)
+    made (a .row) (a .h) (a .m) (a .c) (a .t) (a .e) (mode .entity-mode .ensures) (signed ∙ short .short-of .ensures) (entry .pre .1)
 
 pub common-bits-spec : {M : Type 1} → statement M
 common-bits-spec =
     tie.close
     (tie.spec
-    announced-by-requires
-    cast-t8
+    cast-t7
     entity-mode-requires
-    cast-t10
+    cast-t9
+    cast-t13
     cast-t14
     cast-t15
-    cast-t16
     short-of-requires
+    cast-t18
     cast-t19
-    cast-t20
-    cast-t22
-    cast-t24
-    cast-t29
-    cast-t32
+    cast-t21
+    cast-t23
+    cast-t28
+    cast-t31
     returns)
