@@ -57,7 +57,7 @@ use Rattle.cursor.specs.declared.BitCursor.{BitCursor}
 use Rattle.cursor.proofs.BitCursor as T
 use Rattle.cursor.proofs.BitCursor.Laws as T′
 use Rattle.cursor.proofs.AnswerKinds.{Kind, made, made-laws, AnswerRow, MadeRow, answer-mir, made-mir}
-use Rattle.cursor.proofs.Extra.{Extra, Value, Sound, slots, rows, stays, goes, passed, value, value-passed, spells, tells, words, value-sound, unbound}
+use Rattle.cursor.proofs.Extra.{Extra, Value, Sound, rows, stays, goes, passed, value, value-passed, spells, tells, words, value-sound, unbound}
 use Rattle.cursor.proofs.Extra.{fits, locals, after, operands, owned-extra, had-extra, alloc-extra, pass-extra, operands-extra, from-after, forget-extra}
 use Rattle.cursor.proofs.Extra.{free-extra}
 use Rattle.cursor.proofs.CursorReader.{reading, reader-ended, cursor-reader-ended, ReaderC, CursorReaderC}

@@ -1,10 +1,10 @@
 -- A reader over a cursor behind a `&mut`, whatever the answer's type, the extra parameter and the covered reader are:
 --     let m = reader(bytes, *self, extra); *self = m.cursor; m.answer
 -- One walk of its MIR, over the answer's kind K, the extra parameter X, the covered reader's name k, and the code that it reads.
---     cursor-reader K X k                 the MIR
---     ReaderC K X code, CursorReaderC K X code
---                                         the covered reader's clauses and the function's, as `rattle check` makes them of the source
---     cursor-reader-spec                  the function meets its contract, from that the covered reader meets its own
+--     cursor-reader K X k       the MIR
+--     reading K X code          what the code gives at a cursor, over the extra parameter's value
+--     ReaderC K X code, CursorReaderC K X code     the covered reader's clauses and the function's, as `rattle check` makes them of the source
+--     cursor-reader-spec        the function meets its contract, from that the covered reader meets its own
 -- Assumes nothing.
 use mathlib.Core.Path.{_≡_, refl, ap, _∙_}
 use Prim.Native.Nat.{ℕ}
@@ -26,7 +26,7 @@ use contract.Lifetimes.{Lfts}
 use contract.Running.{Running, GhostRules, givenOf, tables, tablesOf}
 use types.Kit.{Given, ‵, raw, given, _⊛_, ⋆, some, later, _$_, _∵_, !, qed, by, move, keep, drop, use1, use3, split, join, learn, pick, rewrite, fsplit}
 use types.Kit.{fsplit3, fjoin, fjoin3, feqI, suffices, frame, await, done}
-use types.Run.{look, look-raw, init, store-raw, forget, stop, hop, fld, from, load, of-opd, and-then, no-more, assigns, land, returns, enter, alloc1, alloc0}
+use types.Run.{look, look-raw, init, store-raw, forget, stop, hop, fld, from, load, of-opd, and-then, assigns, land, returns, enter, alloc1, alloc0}
 use types.Run.{params1, pass1, pass0, free1, free0}
 use types.Part.{whole, sub, look-in}
 use types.SemTy.{Body}
@@ -77,7 +77,6 @@ cursor-reader K X k = record {
       (seq (assign (place 0 []) (rvOpd (copy (place (after X 3) (field 0 ∷ []))))) return)));
 }
 
--- what a code gives at a cursor, over the extra parameter
 abbrev pub reading : (K : Kind) (X : Extra) → (Value X → Code (K .Values)) → List ℕ → BitCursor → Value X → K .D
 reading K X code xs c d = K .moved (readAt (code d) xs c)
 
