@@ -14,8 +14,7 @@ use Rattle.bitcursor.specs.Codes.{B, RC, RD, BS, signed-BS, BL}
 use Rattle.bitcursor.specs.Doubles.{BD}
 use Rattle.bitcursor.specs.Held.{held}
 use Rattle.bitcursor.specs.Inputs.{Places, Payloads}
-use Rattle.bitcursor.specs.Inputs.{main}
-use Rattle.bitcursor.specs.Fields.{Within}
+use Rattle.bitcursor.specs.Fields.{main, PartIn}
 use Rattle.text.specs.declared.Text.{Text}
 use Rattle.text.specs.declared.version.Version.{Version}
 use Rattle.text.specs.Releases.{releaseNumber}
@@ -139,7 +138,7 @@ module _ (xs : List ℕ) where
 -- ---- of both payloads
 -- in the main payload
 abbrev pub InMain : {A : Type 0} → (List ℕ → A → ℕ → ℕ → Type 0) → Payloads → A → Places → Places → Type 0
-InMain L γ a = Within main L γ a
+InMain L γ a = PartIn main L γ a
 
 -- from release 3: the block and the name, with flag 0 too
 abbrev pub GradientLaid : ℕ → Version → Bool → Payloads → Gradient → Places → Places → Type 0
