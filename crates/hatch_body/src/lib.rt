@@ -1,4 +1,6 @@
-// A body of a known release, of payloads within the limit: its front, then the rest measured and, where both lists are long enough, filled.
+// A hatch body of a known release, of payloads within the limit: src/entities/hatch.rs of dwg-rs; section 20.4.75 of the specification.
+// Its front, then the rest measured and, where both lists are long enough, filled; the order of refusals is document 01's.
+// specs/ promise the body's parts or its refusal, and the lists afterwards, as hatch_format's `callOn` reads them.
 ghost use mathlib.Core.Path.{_≡_};
 ghost use Prim.Native.Nat.{_*_, _≤_};
 ghost use lib.ListN.{length};
@@ -12,8 +14,8 @@ ghost use Rattle.hatch_format.specs.Call.{roomFor, callOn};
 ghost use Rattle.hatch_points.specs.Gathered.{gathered};
 ghost use Rattle.hatch_points.specs.Lists.{lists, Stored};
 ghost use Rattle.hatch_rest.specs.Rests.{noSizes, restEntries, restWalk};
-ghost use Rattle.hatch.specs.Calls.{laidOver, CallIs};
-ghost use Rattle.hatch.specs.Parts.{noneLent, Walked, restRead, restLists};
+ghost use Rattle.hatch_body.specs.Calls.{CallIs};
+ghost use Rattle.hatch_body.specs.Parts.{noneLent, Walked, restRead, restLists};
 use bitcursor::Refusal;
 use hatch_format::Caps;
 use hatch_front::Front;

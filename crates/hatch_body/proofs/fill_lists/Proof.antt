@@ -3,14 +3,14 @@ use mathlib.Core.Path.{sym, _∙_}
 use denote.Ref.{now}
 use Rattle.hatch_format.specs.HandleRule.{in-payload}
 use Rattle.hatch_format.specs.Patterns.{rest}
-use Rattle.hatch.proofs.BodyLaws.{none-laid}
+use Rattle.hatch_body.proofs.BodyLaws.{none-laid}
 use borrow.Author.Needs.{needs}
-use Rattle.hatch.proofs.bodies.fill_lists.Statement.{statement}
-use Rattle.hatch.proofs.bodies.fill_lists.Tie as tie
-use Rattle.hatch.proofs.bodies.fill_lists.Reads as reads
-use Rattle.hatch.proofs.bodies.fill_lists.Lts as lts
-use Rattle.hatch.proofs.bodies.none_lent.Reads as none-lent-reads
-use Rattle.hatch.proofs.bodies.walk_rest.Reads as walk-rest-reads
+use Rattle.hatch_body.proofs.fill_lists.Statement.{statement}
+use Rattle.hatch_body.proofs.fill_lists.Tie as tie
+use Rattle.hatch_body.proofs.fill_lists.Reads as reads
+use Rattle.hatch_body.proofs.fill_lists.Lts as lts
+use Rattle.hatch_body.proofs.none_lent.Reads as none-lent-reads
+use Rattle.hatch_body.proofs.walk_rest.Reads as walk-rest-reads
 
 none-lent-requires : tie.Need-none-lent-requires
 none-lent-requires c κs = search needs

@@ -1,10 +1,10 @@
 -- Each length is tested by itself.
 use mathlib.Core.Path.{refl}
 use borrow.Author.Tests.{le-leb, lt-leb}
-use Rattle.hatch.proofs.bodies.none_lent.Statement.{statement}
-use Rattle.hatch.proofs.bodies.none_lent.Tie as tie
-use Rattle.hatch.proofs.bodies.none_lent.Reads as reads
-use Rattle.hatch.proofs.bodies.none_lent.Lts as lts
+use Rattle.hatch_body.proofs.none_lent.Statement.{statement}
+use Rattle.hatch_body.proofs.none_lent.Tie as tie
+use Rattle.hatch_body.proofs.none_lent.Reads as reads
+use Rattle.hatch_body.proofs.none_lent.Lts as lts
 
 returns : tie.Need-returns
 returns c =

@@ -33,10 +33,10 @@ use Rattle.hatch_rest.specs.declared.rests.RestWalk.the-variants.{Done, Refused
 use Rattle.hatch_rest.specs.Tails.{Gives}
 use Rattle.hatch_rest.specs.Rests.{noSizes, restOf, restEntries, restWalk}
 use Rattle.hatch_front.specs.declared.Front.{Front}
-use Rattle.hatch.specs.declared.bodies.Parts.{Parts}
-use Rattle.hatch.specs.declared.bodies.BodyRead.{BodyRead}
-use Rattle.hatch.specs.declared.bodies.BodyRead.the-variants.{Done as DoneBody, Refused as RefusedBody}
-use Rattle.hatch.specs.Parts.{placed, noneLent, Walked, longEnough, partsIf, restRead, laidIf, restLists}
+use Rattle.hatch_body.specs.declared.Parts.{Parts}
+use Rattle.hatch_body.specs.declared.BodyRead.{BodyRead}
+use Rattle.hatch_body.specs.declared.BodyRead.the-variants.{Done as DoneBody, Refused as RefusedBody}
+use Rattle.hatch_body.specs.Parts.{placed, noneLent, Walked, longEnough, partsIf, restRead, laidIf, restLists}
 
 -- ---- from the rest's answer, what was read
 pub rest-done : (o : Out ℕ RestValue) {t : Rest} {q : ℕ} {z : Sizes} → Done t q z ≡ restWalk o

@@ -3,10 +3,10 @@ use mathlib.Core.Path.{sym, _∙_}
 use denote.Ref.{now}
 use Rattle.hatch_format.specs.HandleRule.{in-payload}
 use Rattle.hatch_format.specs.Patterns.{rest}
-use Rattle.hatch.proofs.BodyLaws.{short-words, short-numbers, long-enough, rest-short, rest-full, rest-refused, laid-from}
+use Rattle.hatch_body.proofs.BodyLaws.{short-words, short-numbers, long-enough, rest-short, rest-full, rest-refused, laid-from}
 use borrow.Author.Needs.{needs}
-use Rattle.hatch.proofs.bodies.fill_rest.Statement.{statement}
-use Rattle.hatch.proofs.bodies.fill_rest.Tie as tie
+use Rattle.hatch_body.proofs.fill_rest.Statement.{statement}
+use Rattle.hatch_body.proofs.fill_rest.Tie as tie
 
 walk-rest-requires : tie.Need-walk-rest-requires
 walk-rest-requires c κs =

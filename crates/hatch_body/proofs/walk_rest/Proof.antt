@@ -4,13 +4,13 @@ use denote.Ref.{now}
 use Rattle.hatch_format.specs.HandleRule.{in-payload}
 use Rattle.hatch_format.specs.Patterns.{rest}
 use Rattle.hatch_points.specs.Lists.{lists}
-use Rattle.hatch.proofs.BodyLaws.{filled, measured}
+use Rattle.hatch_body.proofs.BodyLaws.{filled, measured}
 use borrow.Author.Needs.{needs}
-use Rattle.hatch.proofs.bodies.walk_rest.Statement.{statement}
-use Rattle.hatch.proofs.bodies.walk_rest.Tie as tie
-use Rattle.hatch.proofs.bodies.walk_rest.Reads as reads
-use Rattle.hatch.proofs.bodies.walk_rest.Lts as lts
-use Rattle.hatch.proofs.bodies.measure_rest.Reads as measure-rest-reads
+use Rattle.hatch_body.proofs.walk_rest.Statement.{statement}
+use Rattle.hatch_body.proofs.walk_rest.Tie as tie
+use Rattle.hatch_body.proofs.walk_rest.Reads as reads
+use Rattle.hatch_body.proofs.walk_rest.Lts as lts
+use Rattle.hatch_body.proofs.measure_rest.Reads as measure-rest-reads
 use Rattle.hatch_rest.proofs.rests.decode_rest.Reads as decode-rest-reads
 
 decode-rest-requires : tie.Need-decode-rest-requires
