@@ -26,8 +26,8 @@ use Rattle.hatch_rest.specs.Rests.{noSizes, restEntries}
 use Rattle.hatch_front.specs.Answers.{sixteenOf}
 use Rattle.hatch_body.specs.declared.BodyRead.{BodyRead}
 use Rattle.hatch_body.specs.Parts.{partsOf, BodyIs}
-use Rattle.hatch_body.specs.Calls.{laidOver, CallIs}
 use Rattle.hatch_body.proofs.BodyLaws.{laid-words, laid-numbers, used-words, used-numbers}
+use Rattle.hatch_call.specs.Calls.{laidOver, CallIs}
 use Rattle.hatch_record.specs.declared.Outcome.the-variants.{Read}
 use Rattle.hatch_record.specs.Records.{recordWith, answerIn, lengthsOf}
 use Rattle.hatch.specs.Calls.{asBits, filled, doubles, asLengths, ReadsParts}

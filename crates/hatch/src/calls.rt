@@ -24,7 +24,7 @@ pub fn read(
     };
     let words_room = words.len();
     let numbers_room = numbers.len();
-    hatch_body::read_call(
+    hatch_call::read_call(
         main,
         &main[..0],
         at,
@@ -58,7 +58,7 @@ pub fn read_bits(
     };
     let words_room = words.len();
     let numbers_room = bits.len();
-    hatch_body::read_call(
+    hatch_call::read_call(
         main,
         &main[..0],
         at,
@@ -96,7 +96,7 @@ pub fn read_with_strings(
     };
     let words_room = words.len();
     let numbers_room = numbers.len();
-    hatch_body::read_call(
+    hatch_call::read_call(
         main,
         string,
         at,
@@ -133,7 +133,7 @@ pub fn read_with_strings_bits(
     };
     let words_room = words.len();
     let numbers_room = bits.len();
-    hatch_body::read_call(
+    hatch_call::read_call(
         main,
         string,
         at,

@@ -113,7 +113,7 @@ pub fn measure(main: &[u8], start: usize, release: u64) -> Lengths
         main: start,
         string: 0,
     };
-    let read = hatch_body::read_call(
+    let read = hatch_call::read_call(
         main,
         &main[..0],
         at,
@@ -148,7 +148,7 @@ pub fn measure_with_strings(
         main: start,
         string: string_start,
     };
-    let read = hatch_body::read_call(
+    let read = hatch_call::read_call(
         main,
         string,
         at,

@@ -1,2 +1,1 @@
 pub mod BodyLaws
-pub mod CallLaws

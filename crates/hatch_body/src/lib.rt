@@ -1,32 +1,25 @@
-// A hatch body of a known release, of payloads within the limit: src/entities/hatch.rs of dwg-rs; section 20.4.75 of the specification.
-// Its front, then the rest measured and, where both lists are long enough, filled; the order of refusals is document 01's.
-// specs/ promise the body's parts or its refusal, and the lists afterwards, as hatch_format's `callOn` reads them.
+// A hatch body's parts: what follows its front measured and, where both lists are long enough, filled. src/entities/hatch.rs of dwg-rs.
+// Section 20.4.75 of the specification, from the solid fill bit on; refusal 11 is document 01's.
+// specs/ promise the parts or the refusal, and the lists afterwards, as hatch_format's `rest` reads them.
 ghost use mathlib.Core.Path.{_≡_};
 ghost use Prim.Native.Nat.{_*_, _≤_};
 ghost use lib.ListN.{length};
 ghost use Rattle.bitcursor.specs.Answers.{limit};
-ghost use Rattle.text.specs.Answers.{payloads, placesOf};
 ghost use Rattle.hatch_format.specs.Caps.{documentCaps, NowhereAbove};
 ghost use Rattle.hatch_format.specs.HandleRule.{in-payload};
 ghost use Rattle.hatch_format.specs.Patterns.{rest};
-ghost use Rattle.hatch_format.specs.Hatch.{hatch};
-ghost use Rattle.hatch_format.specs.Call.{roomFor, callOn};
 ghost use Rattle.hatch_points.specs.Gathered.{gathered};
 ghost use Rattle.hatch_points.specs.Lists.{lists, Stored};
 ghost use Rattle.hatch_rest.specs.Rests.{noSizes, restEntries, restWalk};
-ghost use Rattle.hatch_body.specs.Calls.{CallIs};
 ghost use Rattle.hatch_body.specs.Parts.{noneLent, Walked, restRead, restLists};
 use bitcursor::Refusal;
 use hatch_format::Caps;
 use hatch_front::Front;
-use hatch_front::FrontRead;
 use hatch_points::lists::Sizes;
 use hatch_rest::rests;
 use hatch_rest::rests::Rest;
 use hatch_rest::rests::RestWalk;
 use text::Places;
-use text::version;
-use text::version::MaybeVersion;
 use text::version::Version;
 
 // What a readable body gives but for its list entries: its parts, the lengths used of the lists and its final places.
@@ -121,7 +114,7 @@ fn fill_lists(
 }
 
 // What follows a front: measured, and filled only where both lists are long enough.
-fn fill_rest(
+pub fn fill_rest(
     main: &[u8],
     p: Places,
     v: Version,
@@ -168,100 +161,5 @@ fn fill_rest(
                 string: string,
             },
         ),
-    }
-}
-
-// A body of a known release, of payloads within the limit.
-fn read_body(
-    main: &[u8],
-    string: &[u8],
-    at: Places,
-    reader: bool,
-    end: usize,
-    v: Version,
-    caps: Caps,
-    words_room: usize,
-    numbers_room: usize,
-    numbers: &mut [f64],
-    bits: &mut [u64],
-    words: &mut [u32],
-) -> BodyRead
-    requires { ⌜ (length (now main) ≤ limit) × ((length (now string) ≤ limit) × NowhereAbove caps documentCaps) ⌝ }
-    ensures { λ r. ⌜ CallIs (now (main .entry)) (roomFor «words_room» «numbers_room»
-        ((hatch caps in-payload v) .read (payloads (now (main .entry)) (now (string .entry)) reader end) (placesOf at)))
-        (lists (now (numbers .entry)) (now (bits .entry)) (now (words .entry))) (lists (now (numbers .exit)) (now (bits .exit)) (now (words .exit))) r ⌝ }
-{
-    match hatch_front::read_front(main, string, at, reader, end, v, caps) {
-        FrontRead::Done(front, p) => fill_rest(
-            main,
-            p,
-            v,
-            caps,
-            front,
-            words_room,
-            numbers_room,
-            numbers,
-            bits,
-            words,
-        ),
-        FrontRead::Refused(k, p) => BodyRead::Refused(k, p),
-    }
-}
-
-// A call on any input: refusal 9, then 10 of either payload, then a string start past its payload, then the body.
-pub fn read_call(
-    main: &[u8],
-    string: &[u8],
-    at: Places,
-    reader: bool,
-    end: usize,
-    release: u64,
-    caps: Caps,
-    words_room: usize,
-    numbers_room: usize,
-    numbers: &mut [f64],
-    bits: &mut [u64],
-    words: &mut [u32],
-) -> BodyRead
-    requires { ⌜ NowhereAbove caps documentCaps ⌝ }
-    ensures { λ r. ⌜ CallIs (now (main .entry)) (callOn caps in-payload «words_room» «numbers_room»
-        (payloads (now (main .entry)) (now (string .entry)) reader end) (placesOf at) release)
-        (lists (now (numbers .entry)) (now (bits .entry)) (now (words .entry))) (lists (now (numbers .exit)) (now (bits .exit)) (now (words .exit))) r ⌝ }
-{
-    match version::version_of(release) {
-        MaybeVersion::Known(v) => {
-            if bitcursor::LIMIT < main.len() {
-                return BodyRead::Refused(Refusal::PayloadTooLong, at);
-            }
-            if bitcursor::LIMIT < string.len() {
-                return BodyRead::Refused(Refusal::PayloadTooLong, at);
-            }
-            let start = at.string;
-            let last = string.len() * 8;
-            if last < start {
-                return BodyRead::Refused(
-                    Refusal::TooFewBits,
-                    Places {
-                        main: at.main,
-                        string: last,
-                    },
-                );
-            }
-            read_body(
-                main,
-                string,
-                at,
-                reader,
-                end,
-                v,
-                caps,
-                words_room,
-                numbers_room,
-                numbers,
-                bits,
-                words,
-            )
-        }
-        MaybeVersion::Unknown => BodyRead::Refused(Refusal::UnknownRelease, at),
     }
 }

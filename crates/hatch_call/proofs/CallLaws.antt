@@ -37,12 +37,12 @@ use Rattle.hatch_front.specs.declared.FrontRead.{FrontRead}
 use Rattle.hatch_front.specs.declared.FrontRead.the-variants.{Done as DoneFront, Refused as RefusedFront}
 use Rattle.hatch_front.specs.Fronts.{Front, front, named, whole, hatch-front}
 use Rattle.hatch_front.specs.Answers.{ColorsAt, frontOf, FrontIs}
 use Rattle.hatch_body.specs.declared.Parts.{Parts}
 use Rattle.hatch_body.specs.declared.BodyRead.{BodyRead}
 use Rattle.hatch_body.specs.declared.BodyRead.the-variants.{Done, Refused as RefusedBody}
 use Rattle.hatch_body.specs.Parts.{BodyIs, Readable, placed, longEnough, partsIf, restRead, laidIf, restLists}
-use Rattle.hatch_body.specs.Calls.{laidOver, CallIs}
+use Rattle.hatch_call.specs.Calls.{laidOver, CallIs}
 use Rattle.hatch_body.proofs.BodyLaws.{used-words, used-numbers, rest-range}
 
 -- ---- from the front's answer, what was read
 pub front-got : (xs : List ℕ) (o : Out Places Front) {x : FrontRead} {f : CodeFront} {p : CodePlaces} → FrontIs xs o x → x ≡ DoneFront f p

@@ -4,10 +4,10 @@ use denote.Ref.{now}
 use Rattle.text.specs.Answers.{payloads, placesOf}
 use Rattle.hatch_format.specs.HandleRule.{in-payload}
 use Rattle.hatch_points.specs.Lists.{lists}
-use Rattle.hatch_body.proofs.CallLaws.{body-done, body-refused, body-starts}
+use Rattle.hatch_call.proofs.CallLaws.{body-done, body-refused, body-starts}
 use borrow.Author.Needs.{needs}
-use Rattle.hatch_body.proofs.read_body.Statement.{statement}
-use Rattle.hatch_body.proofs.read_body.Tie as tie
+use Rattle.hatch_call.proofs.read_body.Statement.{statement}
+use Rattle.hatch_call.proofs.read_body.Tie as tie
 
 read-front-requires : tie.Need-read-front-requires
 read-front-requires c κs =

@@ -11,10 +11,10 @@ use Rattle.text.specs.Answers.{payloads, placesOf}
 use Rattle.hatch_format.specs.HandleRule.{in-payload}
 use Rattle.hatch_format.specs.Values.{Body}
 use Rattle.hatch_points.specs.Lists.{lists}
-use Rattle.hatch_body.proofs.CallLaws.{unknown, main-long, string-long, start-past, body-read, refused-is, call-as}
+use Rattle.hatch_call.proofs.CallLaws.{unknown, main-long, string-long, start-past, body-read, refused-is, call-as}
 use borrow.Author.Needs.{needs}
-use Rattle.hatch_body.proofs.read_call.Statement.{statement}
-use Rattle.hatch_body.proofs.read_call.Tie as tie
+use Rattle.hatch_call.proofs.read_call.Statement.{statement}
+use Rattle.hatch_call.proofs.read_call.Tie as tie
 
 version-of-requires : tie.Need-version-of-requires
 version-of-requires c κs = search needs
