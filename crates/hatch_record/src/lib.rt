@@ -144,11 +144,12 @@ pub fn lengths_of(r: BodyRead) -> Lengths
 {
     let a = parts_of(r);
     let used = a.used;
+    let numbers = used.numbers;
     let places = a.places;
     Lengths {
         outcome: outcome_of(r),
         words: used.words,
-        numbers: used.numbers,
+        numbers: numbers,
         places: places,
     }
 }
