@@ -8,8 +8,8 @@ use Rattle.bitcursor.specs.Reading.{Out, got, refused}
 use Rattle.bitcursor.specs.Answers.{asRead, asBool, asI16, asI32, asF64, asHandle}
 use Rattle.text.specs.declared.Text.{Text}
 use Rattle.text.specs.Answers.{asText}
-use Rattle.dwg_hatch.specs.Boundary.{textAnswer, textNumbers, codeAnswer, boolAnswer, signedAnswer, doubleAnswer, handleAnswer, readNumbers}
-use Rattle.dwg_hatch.specs.Boundary.{boolNumbers, i16Numbers, i32Numbers, f64Numbers, handleNumbers}
+use Rattle.boundary.specs.Boundary.{textAnswer, textNumbers, codeAnswer, boolAnswer, signedAnswer, doubleAnswer, handleAnswer, readNumbers}
+use Rattle.boundary.specs.Boundary.{boolNumbers, i16Numbers, i32Numbers, f64Numbers, handleNumbers}
 
 pub as-read : (o : Out ℕ ℕ) → readNumbers (asRead o) ≡ codeAnswer o
 as-read (got v p) = refl

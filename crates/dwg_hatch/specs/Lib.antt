@@ -1,4 +1,2 @@
-pub mod Boundary
-pub mod PrefixBoundary
-pub mod HatchBoundary
+pub mod HatchCalls
 pub mod SeedBoundary

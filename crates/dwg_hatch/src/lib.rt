@@ -1,6 +1,6 @@
 // The C boundary: every call that a host links, on numbers and byte slices, thin over the proved calls of the other crates.
 // No file of the Rust and no section of the public document: the names are dwg_ and the call's own.
-// specs/Boundary promises that each answer is the call's: refusal 0 and the value, or the refusal's number and its place and 0.
+// specs/ of crate boundary and of this one promise that each answer is the call's: refusal 0 and the value, or the refusal's number and its place and 0.
 ghost use mathlib.Core.Path.{_≡_};
 ghost use lib.Ieee.{toBits, binary64};
 ghost use Rattle.bitcursor.specs.Codes.{B, BB, «3B», RC, RS, RL, RD, BS, BL, signed-BS, signed-BL};
@@ -10,106 +10,20 @@ ghost use Rattle.bitcursor.specs.Answers.{limited};
 ghost use Rattle.text.specs.Releases.{versionOf};
 ghost use Rattle.text.specs.Answers.{inlineText, readerText, released};
 ghost use Rattle.prefix_format.specs.Call.{asBits, prefixCall};
-ghost use Rattle.dwg_hatch.specs.PrefixBoundary.{bitsAnswer, doubleAnswer as prefixDoubleAnswer};
-ghost use Rattle.dwg_hatch.specs.Boundary.{boolAnswer, codeAnswer, signedAnswer, doubleAnswer, handleAnswer, textAnswer};
+ghost use Rattle.boundary.specs.PrefixBoundary.{bitsAnswer, doubleAnswer as prefixDoubleAnswer};
+ghost use Rattle.boundary.specs.Boundary.{boolAnswer, codeAnswer, signedAnswer, doubleAnswer, handleAnswer, textAnswer};
+use boundary::CodeAnswer;
+use boundary::DoubleAnswer;
+use boundary::HandleAnswer;
+use boundary::PrefixAnswer;
+use boundary::PrefixBitsAnswer;
+use boundary::SignedAnswer;
+use boundary::TextAnswer;
+use boundary::answers;
+use boundary::prefixes;
 
-mod answers;
 pub mod bodies;
-mod hatches;
-mod prefixes;
 pub mod seeds;
-
-// What one code gives: the refusal's number or 0, the final place, and the value or 0.
-#[repr(C)]
-pub struct CodeAnswer {
-    pub refusal: u64,
-    pub place: usize,
-    pub value: u64,
-}
-
-#[repr(C)]
-pub struct SignedAnswer {
-    pub refusal: u64,
-    pub place: usize,
-    pub value: i32,
-}
-
-#[repr(C)]
-pub struct DoubleAnswer {
-    pub refusal: u64,
-    pub place: usize,
-    pub value: f64,
-}
-
-#[repr(C)]
-pub struct HandleAnswer {
-    pub refusal: u64,
-    pub place: usize,
-    pub code: u8,
-    pub counter: u8,
-    pub value: u64,
-}
-
-// What a text gives: the refusal's number or 0, the final place, and document 01's text: the payload (1 main, 2 string, 0 none),
-// the bits of a unit, the bit position of the first unit and the unit count, or 0 for each.
-#[repr(C)]
-pub struct TextAnswer {
-    pub refusal: u64,
-    pub place: usize,
-    pub source: u8,
-    pub width: u8,
-    pub position: usize,
-    pub count: usize,
-}
-
-// The fields of a prefix but its linetype scale, under the Rust's names; a number that may be absent has its `has` beside it.
-#[repr(C)]
-pub struct PrefixFields {
-    pub raw_mode: u8,
-    pub mode: u8,
-    pub num_reactors: u32,
-    pub no_xdictionary: bool,
-    pub binary_chain: bool,
-    pub is_on_layer: bool,
-    pub non_fixed_ltype: bool,
-    pub plotstyle_flag: u8,
-    pub material_flag: u8,
-    pub shadow_flags: u8,
-    pub invisibility: i16,
-    pub nolinks: bool,
-    pub color_raw: u16,
-    pub has_color_rgb: bool,
-    pub color_rgb: u32,
-    pub has_color_alpha: bool,
-    pub color_alpha: u32,
-    pub ltype_flags: u8,
-    pub full_visual_style: bool,
-    pub face_visual_style: bool,
-    pub edge_visual_style: bool,
-    pub lineweight: u8,
-    pub had_graphics: bool,
-    pub had_extended_data: bool,
-    pub has_data_end_bits: bool,
-    pub data_end_bits: u32,
-}
-
-// What a prefix gives: the refusal's number or 0, the final place, and the fields or 0 for each. The mode's number is 0 by layer,
-// 1 by the previous entity, 2 in a block, 3 reserved.
-#[repr(C)]
-pub struct PrefixAnswer {
-    pub refusal: u64,
-    pub place: usize,
-    pub ltype_scale: f64,
-    pub fields: PrefixFields,
-}
-
-#[repr(C)]
-pub struct PrefixBitsAnswer {
-    pub refusal: u64,
-    pub place: usize,
-    pub ltype_scale: u64,
-    pub fields: PrefixFields,
-}
 
 // B: one bit, 0 or 1.
 #[no_mangle]

@@ -1,14 +1,13 @@
 -- A call's answer from the parts that were handed on, and its lists: where it read, its entries fit, so what was laid over them is their front. Assumes
 -- nothing.
 use mathlib.Core.Path.{_≡_, refl, sym, ap, ap₂, subst, _∙_}
-use mathlib.Core.List.{List, [], _++_}
-use Prim.Native.Nat.{ℕ, _+_, _≤_, _<_}
+use mathlib.Core.List.{List, _++_}
+use Prim.Native.Nat.{ℕ, _+_, _≤_}
 use native.Mathlib.Nat.{zero-add}
 use native.Mathlib.Omega.{arith}
 use lib.ListN.{length, drop}
 use lib.Seq.{sets, sets-eq}
 use Rattle.bitcursor.specs.Reading.{Out, got, refused}
-use Rattle.loads.specs.Bits.{limit}
 use Rattle.bitcursor.specs.Format.{pure, relay}
 use Rattle.bitcursor.specs.Inputs.{Places, Payloads}
 use Rattle.hatch_format.specs.declared.Caps.{Caps}
@@ -22,17 +21,16 @@ use Rattle.hatch_format.specs.Gradients.{color}
 use Rattle.hatch_format.specs.Call.{Call, callOn, hatchCall}
 use Rattle.hatch_format.specs.Demand3.{read-iff-laid}
 use Rattle.hatch_points.specs.declared.lists.Sizes.{Sizes}
-use Rattle.hatch_points.specs.Lists.{Lists, lists, doublesOf, length-doubles, grow}
+use Rattle.hatch_points.specs.Lists.{Lists, doublesOf, length-doubles, grow}
 use Rattle.hatch_rest.specs.Rests.{noSizes, restEntries}
 use Rattle.hatch_front.specs.Answers.{sixteenOf}
-use Rattle.hatch.specs.declared.Outcome.the-variants.{Read}
-use Rattle.hatch.specs.declared.HatchBitsAnswer.{HatchBitsAnswer}
-use Rattle.hatch.specs.declared.bodies.Parts.{Parts}
-use Rattle.hatch.specs.declared.bodies.BodyRead.{BodyRead}
-use Rattle.hatch.specs.declared.bodies.BodyRead.the-variants.{Done, Refused as RefusedBody}
-use Rattle.hatch.specs.Parts.{partsOf, BodyIs, Small, Readable, partsIn, numColors, colorsIn, recordWith, answerWith, answerIn, lengthsOf}
-use Rattle.hatch.specs.Calls.{asBits, filled, doubles, laidOver, asLengths, CallIs, ReadsParts}
-use Rattle.hatch.proofs.BodyLaws.{laid-words, laid-numbers, used-words, used-numbers}
+use Rattle.hatch_body.specs.declared.BodyRead.{BodyRead}
+use Rattle.hatch_body.specs.Parts.{partsOf, BodyIs}
+use Rattle.hatch_body.proofs.BodyLaws.{laid-words, laid-numbers, used-words, used-numbers}
+use Rattle.hatch_call.specs.Calls.{laidOver, CallIs}
+use Rattle.hatch_record.specs.declared.Outcome.the-variants.{Read}
+use Rattle.hatch_record.specs.Records.{recordWith, answerIn, lengthsOf}
+use Rattle.hatch.specs.Calls.{asBits, filled, doubles, asLengths, ReadsParts}
 
 -- ---- the record from the parts is the definition's
 pub answer-is : (xs : List ℕ) (o : Out Places Body) (r : BodyRead) → BodyIs xs o r → answerIn xs r ≡ asBits o
@@ -58,22 +56,6 @@ answer-is xs (got a q) r e =
 pub lengths-are : (xs : List ℕ) (o : Out Places Body) (r : BodyRead) → BodyIs xs o r → lengthsOf r ≡ asLengths o
 lengths-are xs (refused k q) r e = ap lengthsOf e
 lengths-are xs (got a q) r e = ap lengthsOf (e .1) ∙ rw (used-words (a .rest), used-numbers (a .rest))
-
--- without colours nothing is read again
-pub plain-is : (xs : List ℕ) (r : BodyRead) → numColors r ≡ 0 → answerWith (sixteen []) r ≡ answerIn xs r
-unfolding times relay times-read pure
-plain-is xs r e =
-    let g = partsIn r .front .gradient in
-    let none : sixteen [] ≡ colorsIn xs g = sym (ap (λ (n : ℕ). sixteenOf ((times n color) .read xs (g .«colors_at»))) e) in
-    ap (λ (cs : List GradientColorBits). answerWith cs r) none
-
-pub small-parts : (xs : List ℕ) (r : BodyRead) → Readable xs r → Small (partsIn r)
-small-parts xs (Done a) h = h .1
-small-parts xs (RefusedBody k p) h = (omega arith, (omega arith, omega arith))
-
-pub colored-within : (xs : List ℕ) (r : BodyRead) → Readable xs r → 0 < numColors r → length xs ≤ limit
-colored-within xs (Done a) h n = h .0
-colored-within xs (RefusedBody k p) h n = absurd (omega (arith, n))
 
 -- the call by caps that are known as others
 pub call-by : {x y : Caps} → x ≡ y → (xs : List ℕ) (nw nn : ℕ) (γ : Payloads) (p : Places) (release : ℕ) {l l′ : Lists} {r : BodyRead}

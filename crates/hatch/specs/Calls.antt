@@ -1,9 +1,7 @@
 -- What the calls answer, and the lists afterwards, from the definition of a whole call. Assumes nothing.
 use mathlib.Core.Path.{_≡_}
-use mathlib.Core.Bool.{Bool, true, false, _&&_}
-use mathlib.Core.List.{List, [], _++_}
+use mathlib.Core.List.{List, _++_}
 use Prim.Native.Nat.{ℕ}
-use lib.Dec.{leb}
 use lib.Ieee.{Float}
 use lib.ListN.{length, drop}
 use Rattle.bitcursor.specs.Reading.{Out, got, refused}
@@ -12,26 +10,22 @@ use Rattle.text.specs.Answers.{asPlaces}
 use Rattle.hatch_format.specs.Caps.{documentCaps}
 use Rattle.hatch_format.specs.Values.{Rest, Body}
 use Rattle.hatch_format.specs.Entries.{words, numbers}
-use Rattle.hatch_format.specs.Record.{recordOf, zeroRecord, asDoubles}
+use Rattle.hatch_format.specs.Record.{recordOf, zeroRecord}
 use Rattle.hatch_format.specs.HandleRule.{in-payload}
-use Rattle.hatch_format.specs.Call.{Strings, Call, hatchCall}
-use Rattle.hatch_format.specs.declared.HatchBits.{HatchBits}
-use Rattle.hatch.specs.declared.Outcome.the-variants.{Read, Refused}
-use Rattle.hatch.specs.declared.HatchAnswer.{HatchAnswer}
-use Rattle.hatch.specs.declared.HatchBitsAnswer.{HatchBitsAnswer}
-use Rattle.hatch.specs.declared.Lengths.{Lengths}
-use Rattle.hatch.specs.declared.bodies.BodyRead.{BodyRead}
-use Rattle.hatch.specs.Parts.{BodyIs, Readable}
-use Rattle.hatch_points.specs.Lists.{Lists, lists, doublesOf, store}
-use Rattle.hatch_rest.specs.Rests.{noSizes, restEntries}
+use Rattle.hatch_format.specs.Call.{Strings, hatchCall}
+use Rattle.hatch_points.specs.Lists.{doublesOf}
+use Rattle.hatch_body.specs.declared.BodyRead.{BodyRead}
+use Rattle.hatch_body.specs.Parts.{BodyIs, Readable}
+use Rattle.hatch_record.specs.declared.Outcome.the-variants.{Read, Refused}
+use Rattle.hatch_record.specs.declared.HatchAnswer.{HatchAnswer}
+use Rattle.hatch_record.specs.declared.HatchBitsAnswer.{HatchBitsAnswer}
+use Rattle.hatch_record.specs.declared.Lengths.{Lengths}
+use Rattle.hatch_record.specs.Records.{doublesIn}
 
 -- ---- the record beside the outcome: zero but for the places on a refusal
 abbrev pub asBits : Out Places Body → HatchBitsAnswer
 asBits (got a q) = record { outcome = Read; hatch = recordOf a q }
 asBits (refused k q) = record { outcome = Refused k; hatch = zeroRecord q }
-
-abbrev pub doublesIn : HatchBitsAnswer → HatchAnswer
-doublesIn r = record { outcome = r .outcome; hatch = asDoubles (r .hatch) }
 
 -- with each double as the double that it is, the NaN where its 64 bits are a NaN's
 abbrev pub asData : Out Places Body → HatchAnswer
@@ -67,17 +61,7 @@ callOf release xs start strings nw nn =
     hatchCall
     (record { release = release; main = xs; start = start; strings = strings; caps = documentCaps; handles = in-payload; words = nw; numbers = nn })
 
--- inside, before a list's room is known: what the lists are then
-abbrev pub laidOver : Lists → Out Places Body → Lists
-laidOver l (got a q) = store l noSizes (restEntries (a .rest))
-laidOver l (refused k q) = l
-
--- ---- what the functions ensure that hand on a body's parts: the lists before and after, and, for one list of numbers, the same in these terms
-pub record CallIs (xs : List ℕ) (o : Out Places Body) (l l′ : Lists) (r : BodyRead) : Type 0 where
-  pub body : BodyIs xs o r
-  pub readable : Readable xs r
-  pub lists : l′ ≡ laidOver l o
-
+-- ---- what the functions ensure that hand on a body's parts, for one list of numbers in the terms above
 pub record ReadsParts {A : Type 0} (e : Rest → List A) (xs : List ℕ) (o : Out Places Body) (r : BodyRead) (numbers numbers′ : List A)
     (words words′ : List ℕ) : Type 0 where
   pub body : BodyIs xs o r

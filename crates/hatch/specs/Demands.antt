@@ -13,9 +13,9 @@ use Rattle.hatch_format.specs.Values.{Rest, Body}
 use Rattle.hatch_format.specs.Record.{recordOf, zeroRecord, asDoubles}
 use Rattle.hatch_format.specs.Call.{Call, hatchCall}
 use Rattle.hatch_format.specs.Demand3.{HatchLaid, read-iff-laid, refused-none, AlikeCalls, alike-same}
-use Rattle.hatch.specs.declared.Outcome.the-variants.{Read, Refused}
-use Rattle.hatch.specs.declared.HatchBitsAnswer.{HatchBitsAnswer}
-use Rattle.hatch.specs.declared.HatchAnswer.{HatchAnswer}
+use Rattle.hatch_record.specs.declared.Outcome.the-variants.{Read, Refused}
+use Rattle.hatch_record.specs.declared.HatchBitsAnswer.{HatchBitsAnswer}
+use Rattle.hatch_record.specs.declared.HatchAnswer.{HatchAnswer}
 use Rattle.hatch.specs.Calls.{asBits, asData, filled}
 
 -- what is handed over of a reading and of a refusal, in both forms

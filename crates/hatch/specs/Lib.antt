@@ -1,5 +1,4 @@
 pub mod Seeds
-pub mod Parts
 pub mod Calls
 pub mod Demands
 pub mod EntryBits

@@ -3,8 +3,7 @@ ghost use lib.ListN.{length};
 ghost use Rattle.hatch_format.specs.Entries.{numbers};
 ghost use Rattle.hatch_format.specs.Call.{none, lent};
 ghost use Rattle.hatch.specs.Calls.{ReadsParts, callOf, doubles};
-use crate::bodies;
-use crate::bodies::BodyRead;
+use hatch_body::BodyRead;
 use text::Places;
 
 // A hatch body without a reader; doubles as f64.
@@ -25,7 +24,7 @@ pub fn read(
     };
     let words_room = words.len();
     let numbers_room = numbers.len();
-    bodies::read_call(
+    hatch_call::read_call(
         main,
         &main[..0],
         at,
@@ -59,7 +58,7 @@ pub fn read_bits(
     };
     let words_room = words.len();
     let numbers_room = bits.len();
-    bodies::read_call(
+    hatch_call::read_call(
         main,
         &main[..0],
         at,
@@ -97,7 +96,7 @@ pub fn read_with_strings(
     };
     let words_room = words.len();
     let numbers_room = numbers.len();
-    bodies::read_call(
+    hatch_call::read_call(
         main,
         string,
         at,
@@ -134,7 +133,7 @@ pub fn read_with_strings_bits(
     };
     let words_room = words.len();
     let numbers_room = bits.len();
-    bodies::read_call(
+    hatch_call::read_call(
         main,
         string,
         at,

@@ -5,40 +5,15 @@ ghost use mathlib.Core.Path.{_≡_};
 ghost use lib.ListN.{length};
 ghost use Rattle.hatch_format.specs.Call.{none, lent};
 ghost use Rattle.hatch.specs.Calls.{ReadsBits, Reads, asLengths, callOf, most};
-use bitcursor::Refusal;
-use hatch_format::Hatch;
-use hatch_format::HatchBits;
+use hatch_record::HatchAnswer;
+use hatch_record::HatchBitsAnswer;
+use hatch_record::Lengths;
+use hatch_record::bits;
+use hatch_record::doubles;
 use text::Places;
 
-pub mod bodies;
 pub mod calls;
-pub mod record;
 pub mod seeds;
-
-pub enum Outcome {
-    Read,
-    Refused(Refusal),
-}
-
-// What a call hands over by value; on a refusal the record is zero but for the places.
-pub struct HatchAnswer {
-    pub outcome: Outcome,
-    pub hatch: Hatch,
-}
-
-// The same with each double as its 64 bits.
-pub struct HatchBitsAnswer {
-    pub outcome: Outcome,
-    pub hatch: HatchBits,
-}
-
-// The lengths that the lists must have for a readable hatch, and its final places; zero and the refusal's places else.
-pub struct Lengths {
-    pub outcome: Outcome,
-    pub words: usize,
-    pub numbers: usize,
-    pub places: Places,
-}
 
 // A hatch body without a reader, from any bytes at any start bit, of any release number; doubles as their 64 bits.
 pub fn decode_bits(
@@ -52,7 +27,7 @@ pub fn decode_bits(
         (now (bits .entry)) (now (bits .exit)) (now (words .entry)) (now (words .exit)) ⌝ }
 {
     let read = calls::read_bits(main, start, release, bits, words);
-    record::bits_answer(main, read)
+    bits::bits_answer(main, read)
 }
 
 // The same with doubles as f64.
@@ -67,7 +42,7 @@ pub fn decode(
         (now (numbers .entry)) (now (numbers .exit)) (now (words .entry)) (now (words .exit)) ⌝ }
 {
     let read = calls::read(main, start, release, numbers, words);
-    record::doubles_answer(main, read)
+    doubles::doubles_answer(main, read)
 }
 
 // With a string reader over any bytes, from any start bit to any end bit.
@@ -94,7 +69,7 @@ pub fn decode_with_strings_bits(
         bits,
         words,
     );
-    record::bits_answer(main, read)
+    bits::bits_answer(main, read)
 }
 
 // The same with doubles as f64.
@@ -121,7 +96,7 @@ pub fn decode_with_strings(
         numbers,
         words,
     );
-    record::doubles_answer(main, read)
+    doubles::doubles_answer(main, read)
 }
 
 // Longer than any list is: what a measuring call takes both lists to be.
@@ -138,7 +113,7 @@ pub fn measure(main: &[u8], start: usize, release: u64) -> Lengths
         main: start,
         string: 0,
     };
-    let read = bodies::read_call(
+    let read = hatch_call::read_call(
         main,
         &main[..0],
         at,
@@ -152,7 +127,7 @@ pub fn measure(main: &[u8], start: usize, release: u64) -> Lengths
         &mut bits[..0],
         &mut words[..0],
     );
-    record::lengths(read)
+    hatch_record::lengths_of(read)
 }
 
 // The same with a string reader.
@@ -173,7 +148,7 @@ pub fn measure_with_strings(
         main: start,
         string: string_start,
     };
-    let read = bodies::read_call(
+    let read = hatch_call::read_call(
         main,
         string,
         at,
@@ -187,5 +162,5 @@ pub fn measure_with_strings(
         &mut bits[..0],
         &mut words[..0],
     );
-    record::lengths(read)
+    hatch_record::lengths_of(read)
 }

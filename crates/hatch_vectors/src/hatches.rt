@@ -5,9 +5,9 @@ use crate::entries;
 use crate::entries::LENT;
 use crate::fields;
 use crate::seeds;
-use hatch::HatchBitsAnswer;
-use hatch::Outcome;
 use hatch_format::HatchBits;
+use hatch_record::HatchBitsAnswer;
+use hatch_record::Outcome;
 use stored::answers;
 use stored::record::ROOM;
 

@@ -1,5 +1,5 @@
 // What the calls answer that are no codes: a refusal's number and its place, or the place of a reading, whose value is not looked at.
-use hatch::HatchBitsAnswer;
+use hatch_record::HatchBitsAnswer;
 use prefix_format::Outcome;
 use prefix_format::PrefixBits;
 use stored::answers::Code;
@@ -26,7 +26,7 @@ pub fn of_hatch(b: HatchBitsAnswer) -> Code {
     let hatch = b.hatch;
     let places = hatch.places;
     match outcome {
-        hatch::Outcome::Read => Code::Number(0, places.main),
-        hatch::Outcome::Refused(k) => refused(k, places.main),
+        hatch_record::Outcome::Read => Code::Number(0, places.main),
+        hatch_record::Outcome::Refused(k) => refused(k, places.main),
     }
 }

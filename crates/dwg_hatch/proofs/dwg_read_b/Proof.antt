@@ -3,7 +3,7 @@ use mathlib.Core.Path.{_≡_, sym, ap, _∙_}
 use denote.Ref.{now}
 use Rattle.bitcursor.specs.Codes.{B}
 use Rattle.bitcursor.specs.Answers.{limited}
-use Rattle.dwg_hatch.specs.Boundary.{boolNumbers}
+use Rattle.boundary.specs.Boundary.{boolNumbers}
 use Rattle.dwg_hatch.proofs.Joins.{as-bool}
 use borrow.Author.Needs.{needs}
 use Rattle.dwg_hatch.proofs.dwg_read_b.Statement.{statement}

@@ -1,6 +1,6 @@
 -- The call's answer, as numbers.
 use mathlib.Core.Path.{_≡_, refl, sym, ap, _∙_}
-use Rattle.dwg_hatch.specs.PrefixBoundary.{bitsAnswer}
+use Rattle.boundary.specs.PrefixBoundary.{bitsAnswer}
 use borrow.Author.Needs.{needs}
 use Rattle.dwg_hatch.proofs.dwg_read_common_entity_bits.Statement.{statement}
 use Rattle.dwg_hatch.proofs.dwg_read_common_entity_bits.Tie as tie

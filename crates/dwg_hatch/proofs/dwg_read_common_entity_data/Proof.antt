@@ -1,6 +1,6 @@
 -- The call's answer, as numbers.
 use mathlib.Core.Path.{_≡_, refl, sym, ap, _∙_}
-use Rattle.dwg_hatch.specs.PrefixBoundary.{doubleAnswer}
+use Rattle.boundary.specs.PrefixBoundary.{doubleAnswer}
 use borrow.Author.Needs.{needs}
 use Rattle.dwg_hatch.proofs.dwg_read_common_entity_data.Statement.{statement}
 use Rattle.dwg_hatch.proofs.dwg_read_common_entity_data.Tie as tie

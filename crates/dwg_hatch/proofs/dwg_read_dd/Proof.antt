@@ -4,7 +4,7 @@ use denote.Ref.{now}
 use lib.Ieee.{toBits, binary64}
 use Rattle.bitcursor.specs.Doubles.{DD}
 use Rattle.bitcursor.specs.Answers.{limited}
-use Rattle.dwg_hatch.specs.Boundary.{f64Numbers}
+use Rattle.boundary.specs.Boundary.{f64Numbers}
 use Rattle.dwg_hatch.proofs.Joins.{as-f64}
 use borrow.Author.Needs.{needs}
 use Rattle.dwg_hatch.proofs.dwg_read_dd.Statement.{statement}

@@ -3,7 +3,7 @@ use mathlib.Core.Path.{_≡_, sym, ap, _∙_}
 use denote.Ref.{now}
 use Rattle.bitcursor.specs.Handles.{HANDLE}
 use Rattle.bitcursor.specs.Answers.{limited}
-use Rattle.dwg_hatch.specs.Boundary.{handleNumbers}
+use Rattle.boundary.specs.Boundary.{handleNumbers}
 use Rattle.dwg_hatch.proofs.Joins.{as-handle}
 use borrow.Author.Needs.{needs}
 use Rattle.dwg_hatch.proofs.dwg_read_handle.Statement.{statement}

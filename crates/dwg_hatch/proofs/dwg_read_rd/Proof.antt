@@ -3,7 +3,7 @@ use mathlib.Core.Path.{_≡_, sym, ap, _∙_}
 use denote.Ref.{now}
 use Rattle.bitcursor.specs.Codes.{RD}
 use Rattle.bitcursor.specs.Answers.{limited}
-use Rattle.dwg_hatch.specs.Boundary.{f64Numbers}
+use Rattle.boundary.specs.Boundary.{f64Numbers}
 use Rattle.dwg_hatch.proofs.Joins.{as-f64}
 use borrow.Author.Needs.{needs}
 use Rattle.dwg_hatch.proofs.dwg_read_rd.Statement.{statement}

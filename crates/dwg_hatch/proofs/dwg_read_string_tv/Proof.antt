@@ -3,7 +3,7 @@ use mathlib.Core.Path.{_≡_, sym, ap, _∙_}
 use denote.Ref.{now}
 use Rattle.bitcursor.specs.Answers.{limited}
 use Rattle.text.specs.Answers.{readerText}
-use Rattle.dwg_hatch.specs.Boundary.{textNumbers}
+use Rattle.boundary.specs.Boundary.{textNumbers}
 use Rattle.dwg_hatch.proofs.Joins.{as-text}
 use borrow.Author.Needs.{needs}
 use Rattle.dwg_hatch.proofs.dwg_read_string_tv.Statement.{statement}

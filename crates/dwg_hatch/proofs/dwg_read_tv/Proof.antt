@@ -4,7 +4,7 @@ use denote.Ref.{now}
 use Rattle.bitcursor.specs.Answers.{limited}
 use Rattle.text.specs.Releases.{versionOf}
 use Rattle.text.specs.Answers.{inlineText, released}
-use Rattle.dwg_hatch.specs.Boundary.{textNumbers}
+use Rattle.boundary.specs.Boundary.{textNumbers}
 use Rattle.dwg_hatch.proofs.Joins.{as-text}
 use borrow.Author.Needs.{needs}
 use Rattle.dwg_hatch.proofs.dwg_read_tv.Statement.{statement}

@@ -3,7 +3,8 @@ use mathlib.Core.Path.{ap, _∙_}
 use denote.Ref.{now}
 use lib.ListN.{length}
 use Rattle.hatch_format.specs.Call.{none}
-use Rattle.hatch.specs.Calls.{callOf, doublesIn}
+use Rattle.hatch_record.specs.Records.{doublesIn}
+use Rattle.hatch.specs.Calls.{callOf}
 use Rattle.hatch.proofs.Filled.{answer-is}
 use borrow.Author.Needs.{needs}
 use Rattle.hatch.proofs.decode.Statement.{statement}

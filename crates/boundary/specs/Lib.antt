@@ -1,0 +1,3 @@
+pub mod Boundary
+pub mod PrefixBoundary
+pub mod HatchBoundary
