@@ -2,8 +2,10 @@
 //!
 //! This sees a forgotten or changed function, parameter or field. It is no proof that the two sides agree on how a call is made.
 
+const ANSWERS: &str = concat!(env!("CARGO_MANIFEST_DIR"), "/../crates/boundary/src/lib.rt");
 const LIB: &str = concat!(env!("CARGO_MANIFEST_DIR"), "/../crates/dwg_hatch/src/lib.rt");
 const COLORS: &str = concat!(env!("CARGO_MANIFEST_DIR"), "/../crates/hatch_format/src/lib.rt");
+const BODY_ANSWERS: &str = concat!(env!("CARGO_MANIFEST_DIR"), "/../crates/boundary/src/bodies.rt");
 const BODIES: &str = concat!(env!("CARGO_MANIFEST_DIR"), "/../crates/dwg_hatch/src/bodies.rt");
 const SEEDS: &str = concat!(env!("CARGO_MANIFEST_DIR"), "/../crates/dwg_hatch/src/seeds.rt");
 const RUST: &str = concat!(env!("CARGO_MANIFEST_DIR"), "/src/boundary/ffi.rs");
@@ -18,7 +20,7 @@ fn text(path: &str) -> String {
 
 /// The Rattle texts whose functions and structs cross the boundary, in ffi.rs's order.
 fn rattle() -> String {
-    [LIB, COLORS, BODIES, SEEDS].map(text).join("\n")
+    [ANSWERS, LIB, COLORS, BODY_ANSWERS, BODIES, SEEDS].map(text).join("\n")
 }
 
 fn lines(text: &str) -> Vec<&str> {

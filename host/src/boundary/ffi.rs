@@ -1,4 +1,4 @@
-//! The exported C functions of crates/dwg_hatch/src/lib.rt and bodies.rt, and nothing else.
+//! The exported C functions of crates/dwg_hatch and the structs of crates/boundary that they answer with, and nothing else.
 //!
 //! No compiler checks these declarations against the Rattle source: a wrong one would be undefined behaviour. So they are few, they
 //! stand here alone, in the order of lib.rt and then bodies.rt, and `host/tests/boundary.rs` compares the texts.
