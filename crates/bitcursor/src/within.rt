@@ -126,12 +126,27 @@ pub fn read_bl_u(s: &[u8], at: usize) -> Read
     }
 }
 
+// The tag of a BD, by the bits that are left. Loops over many BD have this test in them, and hold no number for it but the payload's end.
+fn read_tag(s: &[u8], at: usize) -> Read
+    requires { ⌜ length (now s) ≤ limit ⌝ }
+    ensures { λ r. ⌜ r ≡ asRead ((raw 2) .read (now (s .entry)) at) ⌝ }
+{
+    let end = s.len() * 8;
+    if end <= at {
+        return Read::Refused(Refusal::TooFewBits, at);
+    }
+    if end - at < 2 {
+        return Read::Refused(Refusal::TooFewBits, at);
+    }
+    Read::Value(loads::bits_at(s, at, 2), at + 2)
+}
+
 // BD, as its 64 bits.
 pub fn read_bd_bits(s: &[u8], at: usize) -> Read
     requires { ⌜ length (now s) ≤ limit ⌝ }
     ensures { λ r. ⌜ r ≡ asRead (BD .read (now (s .entry)) at) ⌝ }
 {
-    match read_bits(s, at, 2) {
+    match read_tag(s, at) {
         Read::Value(tag, p) => match tag {
             0 => read_low(s, p, 8),
             1 => Read::Value(0x3ff0_0000_0000_0000, p),
