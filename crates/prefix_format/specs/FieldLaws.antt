@@ -165,10 +165,18 @@ module _ (xs : List ℕ) where
   unfolding chain checked
   chain-from zero had blocks h l = absurd (omega arith)
   chain-from (suc n) had [] h l = joined _ _ 0 (rw (l .1) at (l .2)) (of-no-bits had refl refl)
-  chain-from (suc n) had (b ∷ blocks) h l =
+  chain-from (suc n) had (b ∷ blocks) {q = q} h l =
       let m = l .1 .1 in
-      let rest = rw (seen-one blocks) at (chain-from n 1 blocks (omega arith) (l .0, l .1 .2, l .2)) in
-      joined _ _ (b .size) (m .1 .1) (rw (ne-eqb (b .size) 0 (m .0)) (joined _ _ (b .appid) (m .1 .2 .1) (joined _ _ tt (m .1 .2 .2) rest)))
+      let blocks-laid = chain-from n 1 blocks (omega arith) (l .0, l .1 .2, l .2) in
+      let rest = subst (λ (v : ℕ). Laid ((chain n 1) .codes) xs v (l .1 .0) q) (seen-one blocks) blocks-laid in
+      joined _ _ (b .size) (m .1 .1) (go (eqb (b .size) 0) refl (m .0) (joined _ _ (b .appid) (m .1 .2 .1) (joined _ _ tt (m .1 .2 .2) rest)))
+    where
+      -- a size that is not 0 has a handle and bytes behind it
+      go : (none : Bool) → eqb (b .size) 0 ≡ none → (b .size ≡ 0 → ⊥) → {r : ℕ}
+          → Laid ((HANDLE >>= λ appid. skip (b .size) >>= λ passed. chain n 1) .codes) xs 1 r q
+          → Laid ((checked none (give had) (HANDLE >>= λ appid. skip (b .size) >>= λ passed. chain n 1)) .codes) xs 1 r q
+      go true e nonzero k = absurd (nonzero (eqb-true (b .size) 0 e))
+      go false e nonzero k = k
 
   pub xdata-to : {v p q : ℕ} → Laid (extended .codes) xs v p q → XdataLaid xs (eqb 1 v) p q
   unfolding extended
