@@ -1,6 +1,7 @@
 //! Lines of a file of requests: those that are passed over, and what is wrong with those that are no requests.
 
-use crate::commands::failure::{counted, shown};
+use crate::commands::failure::shown;
+use crate::commands::written::counted;
 use crate::protocol::payload::Payload;
 use crate::protocol::request::number;
 

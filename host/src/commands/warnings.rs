@@ -2,7 +2,7 @@
 
 use dwg_hatch::Release;
 
-use crate::commands::failure::grouped;
+use crate::commands::written::grouped;
 use crate::protocol::request::HatchRequest;
 
 /// So many bits may be left behind a body unread, as a payload is whole bytes.
