@@ -174,19 +174,21 @@ fn flags(flags: u32) -> impl Display {
 /// The least and greatest coordinates of a path's points as they are given; arcs and bulges may reach beyond them.
 fn extents(page: &mut Page, path: &HatchPath<u64>) {
     let points = path.points();
-    let coordinates = |of: fn(&Point2D<u64>) -> u64| points.iter().map(move |point| f64::from_bits(of(point)));
-    let axes = [coordinates(|point| point.x), coordinates(|point| point.y)];
-    if axes.clone().into_iter().flatten().any(f64::is_nan) {
-        return page.line("", format_args!("a coordinate is no number, so there are no extents"));
-    }
+    let x = points.iter().map(|point| f64::from_bits(point.x));
+    let y = points.iter().map(|point| f64::from_bits(point.y));
     if points.is_empty() {
-        return page.line("", format_args!("no points"));
+        page.line("", format_args!("no points"));
+    } else if x.clone().chain(y.clone()).any(f64::is_nan) {
+        page.line("", format_args!("a coordinate is no number, so there are no extents"));
+    } else {
+        page.line("", format_args!("{}, x {}, y {}", counted(points.len(), "point"), span(x), span(y)));
     }
-    let [x, y] = axes.map(|axis| {
-        let (least, greatest) = (axis.clone().fold(f64::INFINITY, f64::min), axis.fold(f64::NEG_INFINITY, f64::max));
-        written(move |f| write!(f, "{} to {}", double(least.to_bits()), double(greatest.to_bits())))
-    });
-    page.line("", format_args!("{}, x {x}, y {y}", counted(points.len(), "point")));
+}
+
+/// The least and the greatest of some numbers.
+fn span(numbers: impl Iterator<Item = f64> + Clone) -> impl Display {
+    let (least, greatest) = (numbers.clone().fold(f64::INFINITY, f64::min), numbers.fold(f64::NEG_INFINITY, f64::max));
+    written(move |f| write!(f, "{} to {}", double(least.to_bits()), double(greatest.to_bits())))
 }
 
 /// What the body does not have: the host computes it.
