@@ -11,7 +11,11 @@ pub(crate) struct Rest<'a, Double> {
 impl<Double: Copy> Rest<'_, Double> {
     /// So many items. Each takes an entry at least, so that a count above what the lists hold ends with them.
     pub(crate) fn many<T>(&mut self, count: usize, mut item: impl FnMut(&mut Self) -> Option<T>) -> Option<Vec<T>> {
-        (0..count).map(|_| item(self)).collect()
+        let mut items = Vec::with_capacity(count.min(self.words.len() + self.numbers.len()));
+        for _ in 0..count {
+            items.push(item(self)?);
+        }
+        Some(items)
     }
 
     pub(crate) fn path(&mut self) -> Option<HatchPath<Double>> {

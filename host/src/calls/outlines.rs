@@ -122,7 +122,11 @@ impl<Double: Copy> HatchPath<Double> {
     pub fn points(&self) -> Vec<Point2D<Double>> {
         match &self.segments {
             HatchPathSegments::Polyline { vertices, .. } => vertices.iter().map(|vertex| vertex.point).collect(),
-            HatchPathSegments::Edges(edges) => edges.iter().flat_map(HatchEdge::points).collect(),
+            HatchPathSegments::Edges(edges) => {
+                let mut points = Vec::with_capacity(2 * edges.len());
+                edges.iter().for_each(|edge| edge.add_points(&mut points));
+                points
+            }
         }
     }
 }
@@ -130,12 +134,18 @@ impl<Double: Copy> HatchPath<Double> {
 impl<Double: Copy> HatchEdge<Double> {
     /// The edge's points, as [`HatchPath::points`] has them.
     pub fn points(&self) -> Vec<Point2D<Double>> {
+        let mut points = Vec::new();
+        self.add_points(&mut points);
+        points
+    }
+
+    fn add_points(&self, points: &mut Vec<Point2D<Double>>) {
         match self {
-            HatchEdge::Line { start, end } => vec![*start, *end],
-            HatchEdge::Arc { center, .. } | HatchEdge::Ellipse { center, .. } => vec![*center],
+            HatchEdge::Line { start, end } => points.extend([*start, *end]),
+            HatchEdge::Arc { center, .. } | HatchEdge::Ellipse { center, .. } => points.push(*center),
             HatchEdge::Spline { control_points, fits, .. } => {
-                let fit_points = fits.iter().flat_map(|fits| &fits.fit_points);
-                control_points.iter().map(|control| control.point).chain(fit_points.copied()).collect()
+                points.extend(control_points.iter().map(|control| control.point));
+                points.extend(fits.iter().flat_map(|fits| &fits.fit_points));
             }
         }
     }

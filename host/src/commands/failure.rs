@@ -67,18 +67,6 @@ pub fn shown(word: &[u8]) -> String {
     line
 }
 
-/// A number as a person reads it, with a comma before each three digits.
-pub fn grouped(number: u128) -> String {
-    let digits = number.to_string();
-    let comma = |at: usize| at > 0 && (digits.len() - at) % 3 == 0;
-    digits.char_indices().flat_map(|(at, digit)| comma(at).then_some(',').into_iter().chain([digit])).collect()
-}
-
-/// A count and what is counted, in its plural unless there is one.
-pub fn counted(count: usize, what: &str) -> String {
-    format!("{count} {what}{}", if count == 1 { "" } else { "s" })
-}
-
 #[cfg(test)]
 mod tests {
     use super::*;
@@ -93,15 +81,5 @@ mod tests {
         assert_eq!(shown(b"a file.txt"), "a file.txt");
         assert_eq!(shown(b"two\nlines\xff"), "two\\nlines\\xff");
         assert_eq!(shown(&[b'0'; 1000]).len(), 203);
-    }
-
-    #[test]
-    fn numbers_are_grouped_by_three_digits() {
-        assert_eq!([0, 999, 1_000, 12_345, 1_234_567].map(grouped), ["0", "999", "1,000", "12,345", "1,234,567"]);
-    }
-
-    #[test]
-    fn one_is_no_plural() {
-        assert_eq!([counted(0, "path"), counted(1, "path"), counted(2, "path")], ["0 paths", "1 path", "2 paths"]);
     }
 }

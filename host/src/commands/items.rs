@@ -1,5 +1,6 @@
 //! The items of an input, one at a time or in batches: request lines as they come, the objects of a drawing, or one payload.
 
+use std::fmt::Write;
 use std::io::{BufRead, BufReader, Read};
 
 use crate::commands::cut::items::DrawingItems;
@@ -179,12 +180,19 @@ fn no_text(name: &str, number: u64, line: &[u8]) -> Failure {
 }
 
 fn item(name: &str, number: u64, line: &[u8]) -> Result<Item, Failure> {
-    let origin = format!("{name}:{number}");
+    let origin = origin(name, number);
     match crate::protocol::request::parse(line) {
         Some(Request::Hatch(request)) => Ok(Item { origin, line: Some(number), entry: Entry::Hatch(request) }),
         Some(Request::Prefix(request)) => Ok(Item { origin, line: Some(number), entry: Entry::Prefix(request) }),
         Some(Request::Code(_) | Request::Text(_)) | None => Err(Failure::Usage(format!("{origin}: {}", lines::why_not(line)))),
     }
+}
+
+/// `FILE:LINE`, made with room for any number, so that it does not move as it grows.
+fn origin(name: &str, number: u64) -> String {
+    let mut origin = String::with_capacity(name.len() + 21);
+    write!(origin, "{name}:{number}").expect("a String takes what is written");
+    origin
 }
 
 #[cfg(test)]

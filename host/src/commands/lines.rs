@@ -1,6 +1,7 @@
 //! Lines of a file of requests: those that are passed over, and what is wrong with those that are no requests.
 
-use crate::commands::failure::{counted, shown};
+use crate::commands::failure::shown;
+use crate::commands::written::counted;
 use crate::protocol::payload::Payload;
 use crate::protocol::request::number;
 
@@ -11,7 +12,9 @@ pub fn is_passed_over(line: &[u8]) -> bool {
 
 /// Whether a line is text: UTF-8, without control characters that are no whitespace.
 pub fn is_text(line: &[u8]) -> bool {
-    std::str::from_utf8(line).is_ok_and(|text| !text.contains(|letter: char| letter.is_control() && !letter.is_ascii_whitespace()))
+    // Nearly every line is plain ASCII, which is seen many bytes at once.
+    let is_plain = line.iter().fold(true, |plain, byte| plain & matches!(byte, b' '..=b'~' | b'\t' | b'\n' | b'\r'));
+    is_plain || std::str::from_utf8(line).is_ok_and(|text| !text.contains(|letter: char| letter.is_control() && !letter.is_ascii_whitespace()))
 }
 
 /// The same of a line's first part, whose last character may be cut.
@@ -87,6 +90,7 @@ mod tests {
     #[test]
     fn lines_that_are_text() {
         assert!(is_text(b"hatch 2 0 A9\r\n") && !is_text(b"\x7fELF\x02\x01\x01\0") && !is_text(b"\xff\xfeh\0"));
+        assert!(is_text("# \u{e9}\x0c".as_bytes()) && !is_text("# \u{85}".as_bytes()) && !is_text(b"# \x7f") && !is_text(b"# \x0b"));
     }
 
     #[test]

@@ -16,3 +16,4 @@ pub mod out_file;
 pub mod read;
 pub mod streams;
 pub mod warnings;
+pub mod written;

@@ -2,7 +2,7 @@
 
 use dwg_hatch::Release;
 
-use crate::commands::failure::grouped;
+use crate::commands::written::grouped;
 use crate::protocol::request::HatchRequest;
 
 /// So many bits may be left behind a body unread, as a payload is whole bytes.
@@ -17,8 +17,8 @@ pub fn warning(request: &HatchRequest, end: usize) -> Option<String> {
 /// From R2007 on the texts of a drawing's hatches come from a string reader.
 fn no_strings(request: &HatchRequest) -> Option<String> {
     let release = Release::try_from(request.release).ok().filter(|release| *release >= Release::R2007)?;
-    let told = format!("it is read without strings, though {release}'s drawings have them; lend them by hatchs or --strings");
-    request.strings.is_none().then_some(told)
+    let told = || format!("it is read without strings, though {release}'s drawings have them; lend them by hatchs or --strings");
+    request.strings.is_none().then(told)
 }
 
 fn unread(request: &HatchRequest, end: usize) -> Option<String> {

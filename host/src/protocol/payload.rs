@@ -33,31 +33,20 @@ impl Payload {
 
 /// Two digits a byte; no digits are no payload, which is written `-`.
 fn bytes(field: &[u8]) -> Option<Vec<u8>> {
-    if field.is_empty() || field.len() % 2 != 0 {
+    // Both walks go to the end whatever they find, so that the compiler takes many digits at once.
+    let are_digits = field.iter().fold(true, |are, digit| are & digit.is_ascii_hexdigit());
+    if field.is_empty() || field.len() % 2 != 0 || !are_digits {
         return None;
     }
-    // Above 15 where one of the digits is none, so that there is one test for all bytes.
-    let mut wrong = 0;
-    let mut byte = |pair: &[u8]| {
-        let [high, low] = [DIGITS[usize::from(pair[0])], DIGITS[usize::from(pair[1])]];
-        wrong |= high | low;
-        high << 4 | low
-    };
-    let bytes = field.chunks_exact(2).map(&mut byte).collect();
-    (wrong < 16).then_some(bytes)
+    let mut bytes = vec![0; field.len() / 2];
+    bytes.iter_mut().zip(field.chunks_exact(2)).for_each(|(byte, pair)| *byte = value(pair[0]) << 4 | value(pair[1]));
+    Some(bytes)
 }
 
-/// The value of each byte as a hexadecimal digit, and 16 for a byte that is none.
-const DIGITS: [u8; 256] = {
-    let mut values = [16; 256];
-    let mut value = 0;
-    while value < 16 {
-        values[b"0123456789abcdef"[value as usize] as usize] = value;
-        values[b"0123456789ABCDEF"[value as usize] as usize] = value;
-        value += 1;
-    }
-    values
-};
+/// The value of a hexadecimal digit. The letters' low four bits are 1 to 6, and alone have the bit 40 (hexadecimal).
+fn value(digit: u8) -> u8 {
+    (digit & 15) + 9 * (digit >> 6)
+}
 
 /// Zero bytes to lend, kept from one request to the next, so that a payload at the limit costs one allocation for all of them. The
 /// allocation is asked for as zeros, and so no memory is touched before it is read.
@@ -114,6 +103,15 @@ mod tests {
         assert_eq!(Payload::parse(b"00aAF9"), Some(Payload::Bytes(vec![0, 0xaa, 0xf9])));
         for field in ["", "0", "0g", "+1", "0x", "--", "z", "z-1", "z+1", "z18446744073709551616", "Z1", "\u{e9}", "0 "] {
             assert_eq!(Payload::parse(field.as_bytes()), None, "{field}");
+        }
+        // Every byte as the second digit, alone and behind so many that they are taken many at once.
+        for digit in 0..=u8::MAX {
+            let value = char::from(digit).to_digit(16).map(|value| value as u8);
+            for zeros in [0, 100] {
+                let field = [vec![b'0'; 2 * zeros + 1], vec![digit]].concat();
+                let bytes = value.map(|value| Payload::Bytes([vec![0; zeros], vec![value]].concat()));
+                assert_eq!(Payload::parse(&field), bytes, "{digit}");
+            }
         }
     }
 

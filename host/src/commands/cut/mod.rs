@@ -16,9 +16,10 @@ use std::io::{self, BufWriter, Write};
 pub use drawing::Drawing;
 use object::{Object, RELEASE};
 
-use crate::commands::failure::{counted, Failure};
+use crate::commands::failure::Failure;
 use crate::commands::input::{Input, Kind};
 use crate::commands::options::{Command, Options};
+use crate::commands::written::counted;
 
 /// The command.
 pub const CUT: Command = Command { name: "cut", kind: Kind::Hatch, switches: &["--prefixes"], values: &[] };

@@ -6,8 +6,9 @@ use dwg_hatch::{HatchPath, HatchPathSegments, Name, PatternLine, Point2D, TypedH
 use super::patterns;
 use super::runs::{self, Run, GREATEST};
 use super::view::Extents;
-use crate::commands::failure::{counted, shown, Failure};
+use crate::commands::failure::{shown, Failure};
 use crate::commands::input::Item;
+use crate::commands::written::counted;
 
 /// A hatch that is drawn.
 pub struct Figure {
@@ -126,7 +127,7 @@ pub fn characters(name: &Name) -> String {
 fn path_title(at: usize, path: &HatchPath, runs: &[Run]) -> String {
     let made_of = match &path.segments {
         HatchPathSegments::Polyline { vertices, .. } => format!("polyline, {}", counted(vertices.len(), "point")),
-        HatchPathSegments::Edges(edges) => counted(edges.len(), "edge"),
+        HatchPathSegments::Edges(edges) => counted(edges.len(), "edge").to_string(),
     };
     let mut instead: Vec<&str> = runs.iter().filter_map(|run| run.instead).collect();
     instead.dedup();

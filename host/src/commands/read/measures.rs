@@ -31,7 +31,7 @@ struct Way {
 
 /// What a path measures. `None` if it is open, if an edge is an ellipse or a spline, if its edges do not close, or if it is not finite.
 pub fn measures(path: &HatchPath<u64>) -> Option<Measures> {
-    let first = double(path.points().first()?);
+    let first = double(first(path)?);
     let ways = match &path.segments {
         HatchPathSegments::Polyline { is_closed, vertices, .. } => {
             let bulge = |bits: Option<u64>| bits.map_or(0.0, f64::from_bits);
@@ -53,6 +53,17 @@ pub fn measures(path: &HatchPath<u64>) -> Option<Measures> {
     (is_closed && total.area.is_finite() && total.length.is_finite()).then_some(total)
 }
 
+/// The first point of a path. Of one that starts with an ellipse or a spline none is needed, since it is not measured.
+fn first(path: &HatchPath<u64>) -> Option<&Point2D<u64>> {
+    match &path.segments {
+        HatchPathSegments::Polyline { vertices, .. } => vertices.first().map(|vertex| &vertex.point),
+        HatchPathSegments::Edges(edges) => match edges.first()? {
+            HatchEdge::Line { start: point, .. } | HatchEdge::Arc { center: point, .. } => Some(point),
+            HatchEdge::Ellipse { .. } | HatchEdge::Spline { .. } => None,
+        },
+    }
+}
+
 /// The area and the length of all segments; a gap is no segment, but the area is closed across it.
 fn total(ways: &[Way]) -> Measures {
     let (mut area, mut length) = (0.0, 0.0);
@@ -69,6 +80,9 @@ fn total(ways: &[Way]) -> Measures {
 /// The area between an arc and its chord by the square of the chord, positive where the arc lies on the right of the way. With `b` the bulge it is
 /// ((1 + b²)² atan b - b (1 - b²)) / 8b²; as a series b/3 + b³/15 - b⁵/105 + ..., whose part with b^(2k-1) has the divisor (2k-3)(2k-1)(2k+1).
 fn beside(bulge: f64) -> f64 {
+    if bulge == 0.0 {
+        return 0.0;
+    }
     let square = bulge * bulge;
     if bulge.abs() > SMALL_BULGE {
         let sum = 1.0 + square;

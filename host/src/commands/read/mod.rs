@@ -3,6 +3,7 @@
 mod json;
 mod json_forms;
 mod measures;
+mod page;
 mod summary;
 
 use std::io::{BufWriter, Write};
@@ -43,7 +44,7 @@ fn read(command: &Command, json: bool, quiet: bool, item: &Item, zeros: &mut Zer
         return Done { text: String::new(), problem: Some(failure.into()) };
     }
     match if json { json_text(item, zeros) } else { summary_text(item, zeros) } {
-        Ok(Read { text, warning }) => Done { text: text + "\n", problem: warning.filter(|_| !quiet).map(Problem::Doubted) },
+        Ok(Read { text, warning }) => Done { text, problem: warning.filter(|_| !quiet).map(Problem::Doubted) },
         Err(refusal) => {
             let text = if json { json_forms::refusal(item, &refusal) + "\n" } else { String::new() };
             Done { text, problem: Some(refusal.into()) }
@@ -59,7 +60,7 @@ fn taken(command: &Command, item: &Item) -> Result<(), Failure> {
     }
 }
 
-/// What is written of an item that was read.
+/// What is written of an item that was read, with its line ends.
 struct Read {
     text: String,
     warning: Option<String>,
@@ -78,8 +79,8 @@ impl Read {
 
 fn json_text(item: &Item, zeros: &mut Zeros) -> Result<Read, Refusal> {
     match &item.entry {
-        Entry::Hatch(request) => typed(request, zeros).map(|typed| Read::of_hatch(request, &typed, json_forms::hatch(item, &typed))),
-        Entry::Prefix(request) => prefix(request, zeros).map(|(data, place)| Read::of_prefix(json_forms::prefix(item, &data, place))),
+        Entry::Hatch(request) => typed(request, zeros).map(|typed| Read::of_hatch(request, &typed, json_forms::hatch(item, &typed) + "\n")),
+        Entry::Prefix(request) => prefix(request, zeros).map(|(data, place)| Read::of_prefix(json_forms::prefix(item, &data, place) + "\n")),
     }
 }
 
