@@ -185,9 +185,10 @@ fn extents(page: &mut Page, path: &HatchPath<u64>) {
     }
 }
 
-/// The least and the greatest of some numbers.
+/// The least and the greatest of some numbers. Of 0.0 and -0.0 it is the first: `f64::min` leaves it to the compiler which of the two it gives.
 fn span(numbers: impl Iterator<Item = f64> + Clone) -> impl Display {
-    let (least, greatest) = (numbers.clone().fold(f64::INFINITY, f64::min), numbers.fold(f64::NEG_INFINITY, f64::max));
+    let least = numbers.clone().fold(f64::INFINITY, |least, number| if number < least { number } else { least });
+    let greatest = numbers.fold(f64::NEG_INFINITY, |greatest, number| if number > greatest { number } else { greatest });
     written(move |f| write!(f, "{} to {}", double(least.to_bits()), double(greatest.to_bits())))
 }
 
@@ -226,4 +227,17 @@ fn hexadecimal(value: Option<u32>) -> impl Display {
 
 fn yes(switch: bool) -> &'static str {
     if switch { "yes" } else { "no" }
+}
+
+#[cfg(test)]
+mod tests {
+    use super::*;
+
+    #[test]
+    fn of_equal_zeros_the_first_is_shown() {
+        let shown = |numbers: &[f64]| span(numbers.iter().copied()).to_string();
+        assert_eq!([shown(&[0.0, -0.0]), shown(&[-0.0, 0.0])], ["0.0 to 0.0", "-0.0 to -0.0"]);
+        assert_eq!([shown(&[1.5, -0.0, 0.0, 2.5]), shown(&[-1.5, 0.0, -0.0, -0.0, -2.5])], ["-0.0 to 2.5", "-2.5 to 0.0"]);
+        assert_eq!(shown(&[f64::INFINITY]), "inf 0x7ff0000000000000 to inf 0x7ff0000000000000");
+    }
 }
