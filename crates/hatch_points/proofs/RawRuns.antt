@@ -128,3 +128,10 @@ module _ (xs : List ℕ) (p n m i : ℕ) where
       (omega (arith, length-doubles (rawAt xs p m), length-raw xs p m))
       ∙ ap (sets l i) (sym (ap doublesOf (split (omega arith)) ∙ doubles-append (rawAt xs p m) (rawAt xs (p + 64 * m) (n - m)))))
       (le-or-lt n (length l - i))
+
+-- none are there everywhere
+pub raw-zero : (xs : List ℕ) (n p : ℕ) → n ≡ 0 → (raw-run n) .read xs p ≡ got (numbers []) p
+unfolding rawAt
+raw-zero xs n p e =
+    let stays : p + 64 * 0 ≡ p = omega arith in
+    ap (λ (k : ℕ). (raw-run k) .read xs p) e ∙ raw-there xs 0 p (omega arith) ∙ ap (got (numbers [])) stays

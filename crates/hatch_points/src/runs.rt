@@ -97,7 +97,7 @@ fn put_run(s: &[u8], at: usize, n: usize, numbers: &mut [f64], bits: &mut [u64],
     put_as_bits(s, at, n, bits, from);
 }
 
-// n RD: where there is nothing to store, one comparison, however many they are.
+// n RD: where there is nothing to store, one comparison, however many they are; and of none, as seed points mostly are, no more than that.
 pub fn raw_run(
     s: &[u8],
     at: usize,
@@ -110,6 +110,16 @@ pub fn raw_run(
     ensures { λ r. ⌜ Walks (now (s .entry)) ((raw-run n) .read (now (s .entry)) at)
         (lists (now (numbers .entry)) (now (bits .entry)) []) z (lists (now (numbers .exit)) (now (bits .exit)) []) r ⌝ }
 {
+    if n == 0 {
+        return Walk::Done(
+            at,
+            Sizes {
+                numbers: z.numbers,
+                words: z.words,
+                derived: z.derived,
+            },
+        );
+    }
     match bitcursor::within::skip_bytes(s, at, 8 * n) {
         Passed::To(p) => {
             put_run(s, at, n, numbers, bits, z.numbers);

@@ -2,6 +2,7 @@
 use mathlib.Core.Path.{_≡_, refl, sym, ap, ap₂, _∙_}
 use mathlib.Core.List.{List, []}
 use Prim.Native.Nat.{ℕ, _+_, _-_, _*_, _/_, _≤_, _<_}
+use native.Mathlib.Nat.{add-zero}
 use native.Mathlib.Omega.{arith}
 use denote.Ref.{now}
 use lib.ListN.{length}
@@ -14,7 +15,7 @@ use Rattle.hatch_points.specs.Gathered.{Entries, numbers}
 use Rattle.hatch_points.specs.Lists.{lists}
 use Rattle.hatch_points.specs.Stores.{rawAt}
 use Rattle.hatch_points.proofs.Laws.{kept-same, more-numbers, refuses, ends}
-use Rattle.hatch_points.proofs.RawRuns.{length-raw, raw-there, raw-short}
+use Rattle.hatch_points.proofs.RawRuns.{length-raw, raw-there, raw-short, raw-zero}
 use borrow.Author.Needs.{needs}
 use Rattle.hatch_points.proofs.runs.raw_run.Statement.{statement}
 use Rattle.hatch_points.proofs.runs.raw_run.Tie as tie
@@ -22,6 +23,19 @@ use Rattle.hatch_points.proofs.runs.raw_run.Reads as reads
 use Rattle.hatch_points.proofs.runs.raw_run.Lts as lts
 use Rattle.bitcursor.proofs.within.skip_bytes.Reads as skip-bytes-reads
 use Rattle.hatch_points.proofs.runs.put_run.Reads as put-run-reads
+
+returns : tie.Need-returns
+returns c =
+    let known = c .before .before in
+    let entry = known .before .before in
+    let a = entry .args in
+    let z = a .z in
+    ends (numbers []) (raw-zero (now (a .s)) (a .n) (a .at) (c .if1 .taken))
+    (record {
+      lists = refl;
+      sizes = ap (λ (k : ℕ). record { numbers = k; words = z .words; derived = z .derived }) (sym (add-zero (z .numbers))) ∙ more-numbers z [];
+    })
+    (entry .pre .0)
 
 mul-skip-bytes : tie.Need-mul-skip-bytes
 mul-skip-bytes c = search needs
@@ -36,7 +50,7 @@ enum-known-p c = search needs
 abbrev entry-from-after-skip-bytes : tie.After-skip-bytes → tie.Start
 entry-from-after-skip-bytes s =
     let known = s .before .before .before in
-    known .before
+    known .before .before
 
 put-run-requires : tie.Need-put-run-requires
 put-run-requires c κs =
@@ -47,8 +61,8 @@ put-run-requires c κs =
     let t = passed-there (now (a .s)) (8 * a .n) (a .at) (after-skip-bytes .skip-bytes .ensures) (after-p .p .given .1) in
     (entry .pre .0 .0, omega (arith, t .fits))
 
-add-t18 : tie.Need-add-t18
-add-t18 c = search needs
+add-t20 : tie.Need-add-t20
+add-t20 c = search needs
 
 enum-known-k : tie.Need-enum-known-k
 enum-known-k c = search needs
@@ -59,8 +73,8 @@ same-length c = search needs
 same-length-2 : tie.Need-same-length-2
 same-length-2 c = search needs
 
-returns : tie.Need-returns
-returns c =
+returns-2 : tie.Need-returns-2
+returns-2 c =
     let after-slice-known3 = c .before .before .before in
     let after-put-run = after-slice-known3 .before .before in
     let after-known-told = after-put-run .before .before .before in
@@ -83,8 +97,8 @@ returns c =
     })
     (h .0, (omega (arith, t .fits, t .next, h .1 .0), (omega (arith, t .next, h .1 .1 .0), omega (arith, t .next, h .1 .1 .1))))
 
-returns-2 : tie.Need-returns-2
-returns-2 c =
+returns-3 : tie.Need-returns-3
+returns-3 c =
     let after-skip-bytes = c .before .before .before in
     let a = (entry-from-after-skip-bytes after-skip-bytes) .args in
     let s = now (a .s) in
@@ -95,13 +109,14 @@ pub raw-run-spec : {M : Type 1} → statement M
 raw-run-spec =
     tie.close
     (tie.spec
+    returns
     mul-skip-bytes
     skip-bytes-requires
     enum-known-p
     put-run-requires
-    add-t18
+    add-t20
     enum-known-k
     same-length
     same-length-2
-    returns
-    returns-2)
+    returns-2
+    returns-3)
