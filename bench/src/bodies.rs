@@ -160,6 +160,14 @@ pub const SMALL: [Named; 4] = [
     ("hatch, 1 path, 4 lines", |name| lines(name, 1, 4)),
 ];
 
+/// Bodies whose origin is moved.
+pub const MOVED: [Named; 2] = [
+    ("origin moved, 100 paths, 1,000 vertices each, no bulges", |name| polylines(name, 100, 1_000, None)),
+    ("the same, with bulges", |name| polylines(name, 100, 1_000, Some(Coded::Full))),
+];
+
+pub const MOVED_SMALL: [Named; 1] = [("origin moved, 1 path, 4 vertices", |name| polylines(name, 1, 4, None))];
+
 /// So many megabytes (1,048,576 bytes) and a few bytes: four paths to each.
 pub fn of_megabytes(megabytes: u32, bulges: bool) -> Body {
     let (vertices, bulge, name) = match bulges {

@@ -5,6 +5,7 @@ include!("rust_modules.rs");
 mod bodies;
 #[allow(dead_code)]
 mod ffi;
+mod moves;
 #[allow(dead_code)]
 mod rng;
 mod plain;
@@ -37,6 +38,7 @@ fn nanos_per_byte(bytes: usize, seconds: f64) -> String {
 fn time(rounds: usize) -> Result<(), String> {
     println!("The best of {rounds} rounds; the large bodies' of {}.", rounds.div_ceil(3));
     rows::print("Body (microseconds of a call)", rows::large(), rounds, micro)?;
+    rows::print("Origin moved (microseconds of a call)", rows::moves(), rounds, micro)?;
     rows::print("Small call (calls per second)", rows::small(), rounds, per_second)?;
     rows::print("String payload of 16,777,216 bytes (microseconds of a call)", rows::string_starts(16_777_216), rounds, micro)?;
     let growth: Rows = [false, true].into_iter().flat_map(|bulges| rows::growth(&[1, 4, 16, 64], bulges)).collect();
@@ -46,7 +48,7 @@ fn time(rounds: usize) -> Result<(), String> {
 /// The rows whose calls are counted. The Rust looks for a string start bit by bit, so that the string payload is short here.
 fn counted() -> Rows {
     let growths = [false, true].map(|bulges| rows::growth(&[1, 4, 16], bulges));
-    [rows::large(), rows::small(), rows::string_starts(65_536)].into_iter().chain(growths).flatten().collect()
+    [rows::large(), rows::small(), rows::string_starts(65_536)].into_iter().chain(growths).chain([rows::moves()]).flatten().collect()
 }
 
 fn names() -> Result<(), String> {

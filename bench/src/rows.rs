@@ -3,6 +3,7 @@
 use std::time::Instant;
 
 use crate::bodies::{self, Named};
+use crate::moves;
 use crate::sides::{self, Repeat, Row};
 
 /// What makes a row, when it is its turn, since the large ones take much room; with `true` it is first looked that both sides read it.
@@ -23,6 +24,7 @@ pub fn small() -> Rows {
     let mut rows = named(&bodies::SMALL);
     rows.push(Box::new(|checked| sides::of_prefix("prefix, 39 bits", bodies::prefix(false), checked)));
     rows.push(Box::new(|checked| sides::of_prefix("prefix with XDATA, graphics and an rgb", bodies::prefix(true), checked)));
+    rows.extend(moved(&bodies::MOVED_SMALL));
     rows
 }
 
@@ -30,6 +32,15 @@ pub fn small() -> Rows {
 pub fn string_starts(length: usize) -> Rows {
     let row = |name: &'static str, start| Box::new(move |checked| sides::of_string_start(name, length, start, checked)) as Make;
     vec![row("string start at bit 0", 0), row("string start at the end", 8 * length - 26)]
+}
+
+/// Moves of the origin.
+pub fn moves() -> Rows {
+    moved(&bodies::MOVED)
+}
+
+fn moved(list: &'static [Named]) -> Rows {
+    list.iter().map(|(name, make)| Box::new(move |checked| moves::of_body(make(name), checked)) as Make).collect()
 }
 
 pub fn growth(megabytes: &[u32], bulges: bool) -> Rows {

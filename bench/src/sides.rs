@@ -34,17 +34,17 @@ fn repeat(mut call: impl FnMut() + 'static) -> Repeat {
     })
 }
 
-fn rust(bytes: &[u8]) -> Option<Hatch> {
+pub fn rust(bytes: &[u8]) -> Option<Hatch> {
     hatch::decode(&mut BitCursor::new(bytes), VERSION).ok()
 }
 
-fn port(bytes: &[u8], numbers: &mut [f64], words: &mut [u32]) -> ffi::BodyAnswer {
+pub fn port(bytes: &[u8], numbers: &mut [f64], words: &mut [u32]) -> ffi::BodyAnswer {
     let (n, w) = (numbers.len(), words.len());
     // SAFETY: each pointer is a slice's own with its length, and the lists are lent for the call alone.
     unsafe { ffi::dwg_hatch_decode(bytes.as_ptr(), bytes.len(), 0, RELEASE, numbers.as_mut_ptr(), n, words.as_mut_ptr(), w) }
 }
 
-fn port_bits(bytes: &[u8], numbers: &mut [u64], words: &mut [u32]) -> ffi::BodyBitsAnswer {
+pub fn port_bits(bytes: &[u8], numbers: &mut [u64], words: &mut [u32]) -> ffi::BodyBitsAnswer {
     let (n, w) = (numbers.len(), words.len());
     // SAFETY: as above.
     unsafe { ffi::dwg_hatch_decode_bits(bytes.as_ptr(), bytes.len(), 0, RELEASE, numbers.as_mut_ptr(), n, words.as_mut_ptr(), w) }

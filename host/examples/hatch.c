@@ -1,6 +1,7 @@
-/* Reads a hatch body through dwg_hatch.h and prints it: measure, lend, read, print.
+/* Reads a hatch body through dwg_hatch.h and prints it: measure, lend, read, move, print.
  *
- *     hatch [RELEASE HEX [START]]       a payload in hexadecimal and its start bit; without words a hatch of one seed point is read
+ *     hatch [RELEASE HEX [START [X Y]]]       a payload in hexadecimal and its start bit, and an origin that it is moved to; without words a hatch of one
+ *                                             seed point is read
  *
  * cc -Ihost/include host/examples/hatch.c libdwg_hatch.a -o hatch      Exit status 0: read; 1: refused; 2: bad usage. */
 #include <dwg_hatch.h>
@@ -111,8 +112,8 @@ static void print(const DwgBodyAnswer *a, Lists lists, const uint8_t *payload, s
     printf("\n");
 }
 
-/* Measure, lend, read, print. */
-static int read_hatch(const uint8_t *payload, size_t length, size_t start, uint64_t release) {
+/* Measure, lend, read, move if there is an origin, print. */
+static int read_hatch(const uint8_t *payload, size_t length, size_t start, uint64_t release, char *const *origin) {
     DwgLengthsAnswer needed = dwg_hatch_measure(payload, length, start, release);
     if (needed.refusal != DWG_READ) {
         return refused(needed.refusal, needed.place, needed.string_place);
@@ -123,21 +124,25 @@ static int read_hatch(const uint8_t *payload, size_t length, size_t start, uint6
         return fail(1, "there is no memory for the lists");
     }
     DwgBodyAnswer a = dwg_hatch_decode(payload, length, start, release, list, needed.numbers, more, needed.words);
-    if (a.refusal == DWG_READ) {
+    DwgMoveAnswer moved = {a.refusal, a.place, a.string_place};
+    if (a.refusal == DWG_READ && origin != NULL) {
+        moved = dwg_hatch_move_origin(a, more, needed.words, list, needed.numbers, strtod(origin[0], NULL), strtod(origin[1], NULL));
+    }
+    if (moved.refusal == DWG_READ) {
         print(&a, (Lists){more, list}, payload, length);
     }
     free(list);
     free(more);
-    return a.refusal == DWG_READ ? 0 : refused(a.refusal, a.place, a.string_place);
+    return moved.refusal == DWG_READ ? 0 : refused(moved.refusal, moved.place, moved.string_place);
 }
 
 int main(int count, char **arguments) {
     const char *release = count > 1 ? arguments[1] : "2", *start = count > 3 ? arguments[3] : "0";
     const char *hex = count > 2 ? arguments[2] : "A9AA901000000000000000000000000000000000";
     size_t digits = strspn(hex, "0123456789abcdefABCDEF");
-    if (count == 2 || count > 4 || hex[digits] != 0 || digits % 2 != 0 || *release == 0 || release[strspn(release, "0123456789")] != 0
+    if (count == 2 || count == 5 || count > 6 || hex[digits] != 0 || digits % 2 != 0 || *release == 0 || release[strspn(release, "0123456789")] != 0
         || *start == 0 || start[strspn(start, "0123456789")] != 0) {
-        return fail(2, "usage: hatch [RELEASE HEX [START]]: a number, pairs of hexadecimal digits, a bit number");
+        return fail(2, "usage: hatch [RELEASE HEX [START [X Y]]]: a number, pairs of hexadecimal digits, a bit number, an origin");
     }
     uint8_t *payload = malloc(digits / 2 + 1);
     if (payload == NULL) {
@@ -147,7 +152,7 @@ int main(int count, char **arguments) {
         char two[] = {hex[2 * i], hex[2 * i + 1], 0};
         payload[i] = (uint8_t)strtoul(two, NULL, 16);
     }
-    int status = read_hatch(payload, digits / 2, (size_t)strtoull(start, NULL, 10), strtoull(release, NULL, 10));
+    int status = read_hatch(payload, digits / 2, (size_t)strtoull(start, NULL, 10), strtoull(release, NULL, 10), count > 4 ? arguments + 4 : NULL);
     free(payload);
     return status;
 }

@@ -1,7 +1,8 @@
 /* The fuzzer: each input is a request (input.h), answered by the library through its C headers and by the Rust, and the two lines must be
  * the same. Payloads and lists lie against a page that may not be touched, behind them or in front of them, so that a read or a write
  * outside them ends the run; calls.h's claims are looked at on every input. Then every bit past the final places is turned over, and the
- * library must give the same line again (demand 3). */
+ * library must give the same line again (demand 3). A move is compared with the oracle's model, since the Rust has no such call, and of it the
+ * entries past the lengths used are turned over. */
 #include "input.h"
 
 #include <stdio.h>
@@ -11,6 +12,7 @@
 
 /* The Rust's answer line, of `length` bytes. */
 uint8_t *rust_answer(const Request *request, size_t *length);
+uint8_t *model_answer(const uint8_t *request, size_t request_length, size_t *length);
 void rust_answer_done(uint8_t *line, size_t length);
 
 #define PAGE 4096u
@@ -84,14 +86,14 @@ static Request request_of(const uint8_t *input, size_t size) {
     r.string_start = two(input + AT_STRING_START);
     r.string_end = two(input + AT_STRING_END);
     memcpy(&r.fallback, input + AT_FALLBACK, 8);
-    string_bytes = r.kind != KIND_HATCHS ? 0 : string_bytes < left ? string_bytes : left;
+    string_bytes = r.kind != KIND_HATCHS && r.kind != KIND_MOVE ? 0 : string_bytes < left ? string_bytes : left;
     place_slots(input[AT_PLACEMENT]);
     r.main = lent_payload(SLOT_MAIN, input + HEAD, left - string_bytes);
     r.string = lent_payload(SLOT_STRING, input + size - string_bytes, string_bytes);
     if (r.kind < KIND_TV) {
         r.release = 1 + input[AT_RELEASE] % 7; /* of a code any of the seven, since it changes nothing */
     }
-    if (r.kind >= KIND_HATCH && (input[AT_PLACEMENT] & 4)) {
+    if ((r.kind == KIND_HATCH || r.kind == KIND_HATCHS) && (input[AT_PLACEMENT] & 4)) {
         shorten_lists(&r, input[AT_SHORT]);
     }
     return r;
@@ -133,6 +135,39 @@ static void check_bits_past_the_places(const Request *r, const Line *line) {
     }
 }
 
+/* Entries past the lengths used do not matter: the same refusal, or the same numbers up to the length used. */
+static void check_entries_past_the_lengths(const Request *r, const Line *line) {
+    static Line again;
+    size_t used = turn_over_lists(r->given), same = line->text[0] == 'e' || used == 0 ? 0 : strlen("ok 0 0 nums=") + 17 * used - 1;
+    answer(r, &again);
+    if (line->text[0] != again.text[0] || (line->text[0] == 'e' && strcmp(line->text, again.text) != 0) || strncmp(line->text, again.text, same) != 0) {
+        fprintf(stderr, "fuzz: entries past the lengths used change the answer\n  before: %s\n  after: %s\n", line->text, again.text);
+        abort();
+    }
+}
+
+static void compare(const Line *line, uint8_t *judge, size_t length) {
+    if (length != line->length || memcmp(judge, line->text, length) != 0) {
+        fprintf(stderr, "fuzz: the answers differ\n  the port: %s\n  the judge: %.*s\n", line->text, (int)length, (const char *)judge);
+        abort();
+    }
+    rust_answer_done(judge, length);
+}
+
+static void test_move(Request *r) {
+    static Line line, asked;
+    Given given;
+    size_t length = 0;
+    given_of(r, &given);
+    r->given = &given;
+    answer(r, &line);
+    asked.length = 0;
+    put_move(&asked, &given);
+    uint8_t *model = model_answer((const uint8_t *)asked.text, asked.length, &length);
+    compare(&line, model, length);
+    check_entries_past_the_lengths(r, &line);
+}
+
 int LLVMFuzzerTestOneInput(const uint8_t *input, size_t size) {
     static Line line;
     size_t length = 0;
@@ -140,15 +175,15 @@ int LLVMFuzzerTestOneInput(const uint8_t *input, size_t size) {
         return -1;
     }
     Request request = request_of(input, size);
+    if (request.kind == KIND_MOVE) {
+        test_move(&request);
+        return 0;
+    }
     answer(&request, &line);
     check_payload(request.main, input + HEAD);
     check_payload(request.string, input + size - request.string.length);
     uint8_t *rust = rust_answer(&request, &length);
-    if (length != line.length || memcmp(rust, line.text, length) != 0) {
-        fprintf(stderr, "fuzz: the answers differ\n  the port: %s\n  the Rust: %.*s\n", line.text, (int)length, (const char *)rust);
-        abort();
-    }
-    rust_answer_done(rust, length);
+    compare(&line, rust, length);
     check_bits_past_the_places(&request, &line);
     return 0;
 }

@@ -1,4 +1,5 @@
-/* How a request lies in an input of the fuzzer: a fixed head, little-endian, then the main payload and the string payload. */
+/* How a request lies in an input of the fuzzer: a fixed head, little-endian, then the main payload and the string payload. Of a move the main payload
+ * is a hatch body, and the string payload is edits of what it reads as. */
 #ifndef INPUT_H
 #define INPUT_H
 
@@ -17,5 +18,18 @@ enum {
     AT_STRING_BYTES = 18, /* two bytes: how many of the last bytes are the string payload */
     HEAD = 20
 };
+
+/* An edit: a byte, modulo EDITS, what it alters, and eight bytes, its number. */
+enum {
+    EDIT_ADD_WORD, EDIT_ADD_NUMBER, EDIT_DROP_WORD, EDIT_DROP_NUMBER, EDIT_AT, EDIT_WORD, EDIT_NUMBER, EDIT_ALL_NUMBERS, EDIT_PATHS, EDIT_LINES,
+    EDIT_SEEDS, EDIT_WORDS_USED, EDIT_NUMBERS_USED, EDIT_COLORS, EDIT_SOLID, EDIT_ASSOCIATIVE, EDIT_DOUBLE, EDIT_EXTRUSION_X, EDIT_EXTRUSION_Y,
+    EDIT_EXTRUSION_Z, EDIT_X, EDIT_Y, EDITS,
+    EDIT = 9 /* bytes */
+};
+
+/* moves.c: the hatch that an input hands over, its request line, and its lists with every entry past the lengths used turned over. */
+void given_of(const Request *request, Given *given);
+void put_move(Line *line, const Given *given);
+size_t turn_over_lists(Given *given);
 
 #endif

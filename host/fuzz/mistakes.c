@@ -4,9 +4,13 @@
 DwgLengthsAnswer __real_dwg_hatch_measure(const uint8_t *, size_t, size_t, uint64_t);
 DwgBodyAnswer __real_dwg_hatch_decode(const uint8_t *, size_t, size_t, uint64_t, double *, size_t, uint32_t *, size_t);
 DwgBodyBitsAnswer __real_dwg_hatch_decode_bits(const uint8_t *, size_t, size_t, uint64_t, uint64_t *, size_t, uint32_t *, size_t);
+DwgMoveAnswer __real_dwg_hatch_move_origin(DwgBodyAnswer, const uint32_t *, size_t, double *, size_t, double, double);
+DwgMoveAnswer __real_dwg_hatch_move_origin_bits(DwgBodyBitsAnswer, const uint32_t *, size_t, uint64_t *, size_t, uint64_t, uint64_t);
 DwgLengthsAnswer __wrap_dwg_hatch_measure(const uint8_t *, size_t, size_t, uint64_t);
 DwgBodyAnswer __wrap_dwg_hatch_decode(const uint8_t *, size_t, size_t, uint64_t, double *, size_t, uint32_t *, size_t);
 DwgBodyBitsAnswer __wrap_dwg_hatch_decode_bits(const uint8_t *, size_t, size_t, uint64_t, uint64_t *, size_t, uint32_t *, size_t);
+DwgMoveAnswer __wrap_dwg_hatch_move_origin(DwgBodyAnswer, const uint32_t *, size_t, double *, size_t, double, double);
+DwgMoveAnswer __wrap_dwg_hatch_move_origin_bits(DwgBodyBitsAnswer, const uint32_t *, size_t, uint64_t *, size_t, uint64_t, uint64_t);
 
 /* 1: a count that is refused is refused one bit late, by all three functions alike. */
 static size_t late(uint64_t refusal, size_t place) {
@@ -62,5 +66,32 @@ DwgBodyBitsAnswer __wrap_dwg_hatch_decode_bits(const uint8_t *main, size_t lengt
     if (MISTAKE == 5 && a.refusal == 0 && a.fields.numbers_used < nn) {
         bits[a.fields.numbers_used] = 0;
     }
+    return a;
+}
+
+/* 7: a hatch that is refused as too far out has its first number altered. 8: a difference of a hatch of many numbers is off by its last bit. 9: an entry past
+ * the length used is altered. All in both entries alike. */
+static void alter(uint64_t refusal, uint64_t *bits, size_t length, size_t used) {
+    if (MISTAKE == 7 && refusal == DWG_COORDINATE_OUT_OF_RANGE && length > 0) {
+        bits[0] ^= 1;
+    }
+    if (MISTAKE == 8 && refusal == 0 && used > 6) {
+        bits[used - 1] ^= 1;
+    }
+    if (MISTAKE == 9 && refusal == 0 && used < length) {
+        bits[used] ^= 1;
+    }
+}
+
+DwgMoveAnswer __wrap_dwg_hatch_move_origin(DwgBodyAnswer hatch, const uint32_t *words, size_t nw, double *numbers, size_t nn, double x, double y) {
+    DwgMoveAnswer a = __real_dwg_hatch_move_origin(hatch, words, nw, numbers, nn, x, y);
+    alter(a.refusal, (uint64_t *)(void *)numbers, nn, hatch.fields.numbers_used);
+    return a;
+}
+
+DwgMoveAnswer __wrap_dwg_hatch_move_origin_bits(DwgBodyBitsAnswer hatch, const uint32_t *words, size_t nw, uint64_t *bits, size_t nn, uint64_t x,
+                                                uint64_t y) {
+    DwgMoveAnswer a = __real_dwg_hatch_move_origin_bits(hatch, words, nw, bits, nn, x, y);
+    alter(a.refusal, bits, nn, hatch.fields.numbers_used);
     return a;
 }

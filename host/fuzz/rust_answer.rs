@@ -4,11 +4,15 @@
 include!("rust_modules.rs");
 
 // The oracle's answers.
+#[allow(dead_code)]
+mod answer;
 mod answer_code;
 #[allow(dead_code)]
 mod answer_hatch;
 mod answer_prefix;
 mod lists;
+mod move_model;
+mod move_request;
 mod refusal;
 #[allow(dead_code)]
 mod request;
@@ -116,6 +120,19 @@ impl Asked {
 #[unsafe(no_mangle)]
 pub extern "C" fn rust_answer(asked: &Asked, length: &mut usize) -> *mut u8 {
     let line = asked.line().into_bytes().into_boxed_slice();
+    *length = line.len();
+    Box::into_raw(line).cast()
+}
+
+/// The oracle's answer line to a request line of so many bytes; given back as that of `rust_answer`.
+///
+/// # Safety
+/// The pointer is that of so many bytes.
+#[unsafe(no_mangle)]
+pub unsafe extern "C" fn model_answer(request: *const u8, request_length: usize, length: &mut usize) -> *mut u8 {
+    // SAFETY: as asked above.
+    let request = unsafe { slice::from_raw_parts(request, request_length) };
+    let line = answer::line(str::from_utf8(request).expect("a request line is ASCII"), SHOW).into_bytes().into_boxed_slice();
     *length = line.len();
     Box::into_raw(line).cast()
 }

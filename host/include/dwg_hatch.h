@@ -32,6 +32,11 @@
  *       line
  *     seed points                                                             each point: the last 2 * num_seed_points of numbers_used
  *
+ * Coordinates far from 0 lose digits where a program narrows them. So what was read is moved, in the lists as they lie, to an origin near the job:
+ *
+ *     DwgMoveAnswer moved = dwg_hatch_move_origin(body, words, lengths.words, numbers, lengths.numbers, 4650000.0, 9230000.0);
+ *     if (moved.refusal != DWG_READ) { ... the numbers are as they were ... }
+ *
  * A bulge is the tangent of a quarter of the angle of the arc from this vertex to the next, positive counterclockwise. A path is a polyline
  * where its flags have DWG_PATH_POLYLINE. The comments of dwg_hatch_codes.h say what holds for every function: pointers, refusals, threads,
  * doubles.
@@ -178,6 +183,13 @@ typedef struct DwgSeedPart {
     size_t count;
 } DwgSeedPart;
 
+/* What a move of the origin gives: the refusal's number or 0. It reads no bits, so both places are 0. */
+typedef struct DwgMoveAnswer {
+    uint64_t refusal;
+    size_t place;
+    size_t string_place;
+} DwgMoveAnswer;
+
 /* ---- measuring: nothing is lent but the payloads, and nothing is written */
 
 /* The lengths that the lists must have for the hatch body at bit `start`, texts inline. Refused, in this order: DWG_UNKNOWN_RELEASE and
@@ -232,6 +244,27 @@ DwgBodyBitsAnswer dwg_hatch_decode_with_strings_bits(const uint8_t *main, size_t
 /* Where the seed points lie in the list of numbers, x and y of each: they are the last numbers used. It takes two fields of the answer and the
  * list's length, and refuses nothing: an empty part, begin 0 and count 0, where the list or the numbers used are too few for them. */
 DwgSeedPart dwg_hatch_seed_points(size_t numbers_used, size_t num_seed_points, size_t length);
+
+/* ---- the origin of a reading, moved */
+
+/* Moves the origin of a hatch to (x, y), in place: each coordinate of the numbers used becomes coordinate minus origin, x by x and y by y, by one
+ * subtraction of doubles. Coordinates are those of vertices, line ends, centres, control points, fit points, origins of pattern lines and seed
+ * points. All other entries keep every bit: bulges, weights, knots, radii, ratios, angles, ends of major axes, tangents, offsets, dashes, and
+ * what lies past numbers_used. `hatch` is a reading's answer as it was given, `words` and `numbers` are its lists, which may be longer than used;
+ * doubles may be altered since, and whatever else was is looked at: nothing is asked of the fields of `hatch` or of the words.
+ *
+ * Refused, in this order: DWG_LIST_TOO_SHORT if record and lists do not fit each other (a count of the record or the words is above its cap, a
+ * switch is neither 0 nor 1, an edge's kind is not 1 to 4, the counts do not come to exactly words_used and numbers_used, or a list is shorter than
+ * these); DWG_OTHER_PLANE unless the extrusion is (0, 0, 1), -0.0 counting as 0; DWG_COORDINATE_OUT_OF_RANGE if x, y or a coordinate to be moved is
+ * no number from -2^40 to 2^40. Then the numbers are unchanged, bit for bit.
+ *
+ * Where coordinate and origin are multiples of 1/1,048,576 within 2^30 of 0 the difference is exact; else it is within 1/8,192 of the exact one. */
+DwgMoveAnswer dwg_hatch_move_origin(DwgBodyAnswer hatch, const uint32_t *words, size_t words_length, double *numbers, size_t numbers_length,
+                                    double x, double y);
+
+/* The same with each double as its 64 bits: those of the record, of the list and of the origin. */
+DwgMoveAnswer dwg_hatch_move_origin_bits(DwgBodyBitsAnswer hatch, const uint32_t *words, size_t words_length, uint64_t *bits, size_t bits_length,
+                                         uint64_t x, uint64_t y);
 
 #ifdef __cplusplus
 }

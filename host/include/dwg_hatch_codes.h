@@ -13,7 +13,7 @@
  *   other list and payload of the call; nothing else writes to them during the call. Two payloads may overlap.
  * - A call keeps no state, allocates nothing and keeps no pointer. Calls may run at the same time in any threads, also on one payload; a
  *   list is lent to one call at a time.
- * - Doubles are IEEE 754 binary64. A function that ends in _bits gives each double as its 64 bits, whatever they are; the others give the
+ * - Doubles are IEEE 754 binary64. A function that ends in _bits gives and takes each double as its 64 bits, whatever they are; the others give the
  *   double with these 64 bits, except that where they are a NaN's they give a NaN and promise no pattern of it.
  *
  * The archive is for x86-64 and its System V calling convention. Link: cc host.c libdwg_hatch.a
@@ -48,20 +48,22 @@ typedef enum DwgRelease {
     DWG_R2018 = 7  /* AC1032 */
 } DwgRelease;
 
-/* Why a reading stopped: the numbers of the field `refusal`. */
+/* Why a reading stopped, or a call gave nothing: the numbers of the field `refusal`. */
 typedef enum DwgRefusal {
-    DWG_READ = 0,                  /* it did not stop: the reading is whole */
-    DWG_TOO_FEW_BITS = 1,          /* too few bits for the next read */
-    DWG_RESERVED_TAG = 2,          /* a BL or BD starts with the tag 11 */
-    DWG_COUNT_TOO_LARGE = 3,       /* a count is above its cap or above the bits left */
-    DWG_EDGE_KIND = 4,             /* an edge's kind is not 1 to 4 */
-    DWG_HANDLE_COUNTER = 5,        /* a handle's counter is above 8 */
-    DWG_TEXT_PAST_END = 6,         /* a string reader's text passes its end bit */
-    DWG_NOT_UTF16 = 7,             /* a text's 16-bit units are not UTF-16 */
-    DWG_TOO_MANY_XDATA_BLOCKS = 8, /* 256 nonzero XDATA blocks */
-    DWG_UNKNOWN_RELEASE = 9,       /* the release is not 1 to 7 */
-    DWG_PAYLOAD_TOO_LONG = 10,     /* a payload is above DWG_PAYLOAD_LIMIT bytes */
-    DWG_LIST_TOO_SHORT = 11        /* the hatch is readable, but a lent list is too short for it */
+    DWG_READ = 0,                    /* it did not stop: the reading is whole */
+    DWG_TOO_FEW_BITS = 1,            /* too few bits for the next read */
+    DWG_RESERVED_TAG = 2,            /* a BL or BD starts with the tag 11 */
+    DWG_COUNT_TOO_LARGE = 3,         /* a count is above its cap or above the bits left */
+    DWG_EDGE_KIND = 4,               /* an edge's kind is not 1 to 4 */
+    DWG_HANDLE_COUNTER = 5,          /* a handle's counter is above 8 */
+    DWG_TEXT_PAST_END = 6,           /* a string reader's text passes its end bit */
+    DWG_NOT_UTF16 = 7,               /* a text's 16-bit units are not UTF-16 */
+    DWG_TOO_MANY_XDATA_BLOCKS = 8,   /* 256 nonzero XDATA blocks */
+    DWG_UNKNOWN_RELEASE = 9,         /* the release is not 1 to 7 */
+    DWG_PAYLOAD_TOO_LONG = 10,       /* a payload is above DWG_PAYLOAD_LIMIT bytes */
+    DWG_LIST_TOO_SHORT = 11,         /* a lent list is too short for the hatch, or record and lists do not fit each other */
+    DWG_OTHER_PLANE = 12,            /* the extrusion is not (0, 0, 1) */
+    DWG_COORDINATE_OUT_OF_RANGE = 13 /* the origin or a coordinate to be moved is not a number within 2^40 of 0 */
 } DwgRefusal;
 
 /* What a refusal's number means, in a few words; never null, also for a number that is none of them. */
@@ -78,7 +80,9 @@ static inline const char *dwg_refusal_meaning(uint64_t refusal) {
     case DWG_TOO_MANY_XDATA_BLOCKS: return "there are 256 nonzero XDATA blocks, which is more than are read";
     case DWG_UNKNOWN_RELEASE: return "the release is not 1 to 7";
     case DWG_PAYLOAD_TOO_LONG: return "a payload is longer than 268,435,456 bytes";
-    case DWG_LIST_TOO_SHORT: return "the hatch is readable, but a lent list is too short for it";
+    case DWG_LIST_TOO_SHORT: return "a lent list is too short for the hatch, or record and lists do not fit each other";
+    case DWG_OTHER_PLANE: return "the hatch's extrusion is not (0, 0, 1), so it does not lie in the drawing's own plane";
+    case DWG_COORDINATE_OUT_OF_RANGE: return "the origin or a coordinate to be moved is not a number within 1,099,511,627,776 (2^40) of 0";
     default: return "this number is not in the table of refusals";
     }
 }

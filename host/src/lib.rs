@@ -14,8 +14,19 @@
 //! ```
 //!
 //! [`read_hatch`], [`read_hatch_with_strings`] and [`read_prefix`] give a whole hatch, with its paths, pattern lines and seed points as a tree
-//! ([`TypedHatch`]), and a whole prefix ([`CommonEntityData`]). [`HatchBody`] reads a hatch into lists of the caller's. Below them are inline text
-//! and text from a string reader ([`read_tv`], [`read_string_tv`]), and the codes of document 01's section on bitcursor.rs, each by its name.
+//! ([`TypedHatch`]), and a whole prefix ([`CommonEntityData`]). [`HatchBody`] reads a hatch into lists of the caller's, and [`Hatch::move_origin`] moves
+//! their coordinates near an origin:
+//!
+//! ```
+//! # let payload = [&[0xa9, 0xaa, 0x90, 0x10][..], &[0; 16]].concat();
+//! let mut hatch = dwg_hatch::read_hatch(&payload, 0, dwg_hatch::Release::R2000)?;
+//! hatch.move_origin(4_650_000.0, -2000.0)?;
+//! assert_eq!(hatch.seed_points, [dwg_hatch::Point2D { x: -4_650_000.0, y: 2000.0 }]);
+//! # Ok::<(), dwg_hatch::Refusal>(())
+//! ```
+//!
+//! Below them are inline text and text from a string reader ([`read_tv`], [`read_string_tv`]), and the codes of document 01's section on bitcursor.rs,
+//! each by its name.
 
 mod boundary;
 mod calls;
@@ -24,6 +35,7 @@ pub use calls::codes::{
     read_3b, read_b, read_bb, read_bd, read_bd_bits, read_bl, read_bl_u, read_bll, read_bs, read_bs_u, read_dd, read_dd_bits, read_handle, read_rc,
     read_rd, read_rd_bits, read_rl, read_rs, Handle, Reading,
 };
+pub use calls::given::{GivenGradient, GivenHatch};
 pub use calls::hatches::{GradientColor, GradientFill, Hatch, HatchBody, Lengths, Places, ReadHatch, StringReader};
 pub use calls::outlines::{
     ControlPoint, Fits, HatchEdge, HatchPath, HatchPathSegments, PatternLine, Point2D, Vertex, FLAG_DERIVED, FLAG_EXTERNAL, FLAG_OUTERMOST,

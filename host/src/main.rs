@@ -13,7 +13,8 @@ use std::process::ExitCode;
 
 use commands::failure::{shown, Failure};
 use commands::help::TRY_HELP;
-use commands::options::{counted_jobs, Asked, Command};
+use commands::options::{counted_jobs, Asked, Command, Options};
+use commands::origin::is_auto;
 use commands::streams::{self, NamedInput};
 use commands::{cut, draw, help, read};
 use progress::{Counted, Progress};
@@ -66,10 +67,15 @@ fn reads(command: &Command, help: &str, words: &[OsString]) -> Result<u8, Failur
     match command.parse(words)? {
         Asked::Help => print(help),
         Asked::Run { options, input } => {
-            let _progress = Progress::start(input.length(), true);
+            let _progress = Progress::start(input.length().map(|length| (1 + more(&options)) * length), true);
             read::run(command, &options, &input, streams::output(), io::stderr())
         }
     }
+}
+
+/// How often the input is gone through besides: once, if an origin is to be found.
+fn more(options: &Options) -> u64 {
+    u64::from(is_auto(options))
 }
 
 fn draws(words: &[OsString]) -> Result<u8, Failure> {
@@ -77,7 +83,7 @@ fn draws(words: &[OsString]) -> Result<u8, Failure> {
         Asked::Help => print(help::DRAW_HELP),
         Asked::Run { options, input } => {
             // A file is read twice, and a picture may have a file of its own.
-            let _progress = Progress::start(input.length().map(|length| 2 * length), draw::writes_to_stdout(&options));
+            let _progress = Progress::start(input.length().map(|length| (2 + more(&options)) * length), draw::writes_to_stdout(&options));
             draw::run(&options, &input, streams::output(), io::stderr())
         }
     }

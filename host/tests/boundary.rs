@@ -8,6 +8,9 @@ const COLORS: &str = concat!(env!("CARGO_MANIFEST_DIR"), "/../crates/hatch_forma
 const BODY_ANSWERS: &str = concat!(env!("CARGO_MANIFEST_DIR"), "/../crates/boundary/src/bodies.rt");
 const BODIES: &str = concat!(env!("CARGO_MANIFEST_DIR"), "/../crates/dwg_hatch/src/bodies.rt");
 const SEEDS: &str = concat!(env!("CARGO_MANIFEST_DIR"), "/../crates/dwg_hatch/src/seeds.rt");
+const GIVEN: &str = concat!(env!("CARGO_MANIFEST_DIR"), "/../crates/boundary/src/given.rt");
+const MOVE_ANSWERS: &str = concat!(env!("CARGO_MANIFEST_DIR"), "/../crates/boundary/src/moves.rt");
+const MOVES: &str = concat!(env!("CARGO_MANIFEST_DIR"), "/../crates/dwg_hatch/src/moves.rt");
 const RUST: &str = concat!(env!("CARGO_MANIFEST_DIR"), "/src/boundary/ffi.rs");
 
 /// How a function starts in each text.
@@ -20,7 +23,7 @@ fn text(path: &str) -> String {
 
 /// The Rattle texts whose functions and structs cross the boundary, in ffi.rs's order.
 fn rattle() -> String {
-    [ANSWERS, LIB, COLORS, BODY_ANSWERS, BODIES, SEEDS].map(text).join("\n")
+    [ANSWERS, LIB, COLORS, BODY_ANSWERS, BODIES, SEEDS, GIVEN, MOVE_ANSWERS, MOVES].map(text).join("\n")
 }
 
 fn lines(text: &str) -> Vec<&str> {
@@ -65,7 +68,8 @@ fn structs(text: &str) -> Vec<String> {
 #[test]
 fn functions_are_declared_as_they_are_exported() {
     let exported = functions(&rattle(), EXPORTED);
-    for start in ["dwg_read_b(", "dwg_read_tv(", "dwg_read_string_tv(", "dwg_read_common_entity_data(", "dwg_hatch_decode("] {
+    let starts = ["dwg_read_b(", "dwg_read_tv(", "dwg_read_string_tv(", "dwg_read_common_entity_data(", "dwg_hatch_decode(", "dwg_hatch_move_origin_bits("];
+    for start in starts {
         assert!(exported.iter().any(|function| function.starts_with(start)), "{start}");
     }
     assert_eq!(functions(&text(RUST), DECLARED), exported);
@@ -74,10 +78,34 @@ fn functions_are_declared_as_they_are_exported() {
 #[test]
 fn structs_have_the_fields_of_the_source() {
     let source = structs(&rattle());
-    for start in ["pub struct CodeAnswer {", "pub struct TextAnswer {", "pub struct PrefixFields {", "pub struct GradientColorBits {"] {
-        assert!(source.iter().any(|line| line == start), "{start}");
+    for name in ["CodeAnswer", "TextAnswer", "PrefixFields", "GradientColorBits", "BodyGiven"] {
+        let start = format!("pub struct {name} {{");
+        assert!(source.contains(&start), "{start}");
     }
     assert_eq!(structs(&text(RUST)), source);
+}
+
+/// What a call takes is what a call gave, field by field, with its switches as bytes: so a caller in C hands over the very struct.
+#[test]
+fn a_given_hatch_has_the_fields_of_an_answer() {
+    let rust = text(RUST);
+    let fields = |name: &str| {
+        let (start, all) = (format!("pub struct {name} {{"), structs(&rust));
+        let at = all.iter().position(|line| *line == start).unwrap_or_else(|| panic!("{name}"));
+        all[at + 1..].iter().take_while(|line| !line.starts_with("pub struct ")).cloned().collect::<Vec<String>>()
+    };
+    let pairs = [
+        ("GradientFields", "GradientGiven"),
+        ("GradientBits", "GradientBitsGiven"),
+        ("BodyFields", "FieldsGiven"),
+        ("BodyAnswer", "BodyGiven"),
+        ("BodyBitsAnswer", "BodyBitsGiven"),
+    ];
+    for (answer, given) in pairs {
+        let of = |line: String, (old, new): &(&str, &str)| line.replace(&format!(": {old},"), &format!(": {new},"));
+        let taken = |line: &String| pairs.iter().fold(line.replace(": bool,", ": u8,"), of);
+        assert_eq!(fields(given), fields(answer).iter().map(taken).collect::<Vec<String>>(), "{given}");
+    }
 }
 
 /// The comparison is worth something only if it sees a change: each edit of ffi.rs, a parameter's or field's type, name or place, must
@@ -104,11 +132,14 @@ fn edits_of_the_declarations_are_seen() {
         ("colors: [GradientColorBits; 16]", "colors: [GradientColor; 16]"),
         (" start: usize,\n        release: u64,\n        numbers: *mut f64,\n        numbers_length: usize,\n", " start: usize,\n        release: u64,\n        numbers: *mut f64,\n"),
         ("pub fn dwg_hatch_decode_bits(\n        main: *const u8", "pub fn dwg_hatch_decode_bits(\n        main: *mut u8"),
+        ("pub solid_fill: u8,\n", "pub solid_fill: bool,\n"),
+        ("words_length: usize,\n        numbers: *mut f64,", "words_length: usize,\n        numbers: *const f64,"),
+        ("        x: u64,\n        y: u64,\n", "        y: u64,\n        x: u64,\n"),
         ("dwg_hatch_measure(main: *const u8, main_length: usize, start: usize, release: u64)", "dwg_hatch_measure(main: *const u8, main_length: usize, release: u64, start: usize)"),
     ];
     for (old, new) in edits {
-        assert_eq!(rust.matches(old).count(), 1, "{old}");
-        let edited = rust.replace(old, new);
+        assert!(rust.contains(old), "{old}");
+        let edited = rust.replacen(old, new, 1);
         let same = functions(&edited, DECLARED) == functions(&rust, DECLARED) && structs(&edited) == structs(&rust);
         assert!(!same, "{old:?} may become {new:?} unseen");
     }

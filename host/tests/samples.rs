@@ -118,9 +118,9 @@ fn ends(edge: &HatchEdge, single: bool) -> [Point2D; 2] {
 }
 
 /// The gaps between edges that follow each other, of all elbows.
-fn gaps(single: bool) -> Vec<f64> {
+fn gaps(hatches: &[TypedHatch], single: bool) -> Vec<f64> {
     let mut gaps = Vec::new();
-    for path in campus().iter().flat_map(|hatch| &hatch.paths) {
+    for path in hatches.iter().flat_map(|hatch| &hatch.paths) {
         let HatchPathSegments::Edges(edges) = &path.segments else { continue };
         let ends: Vec<[Point2D; 2]> = edges.iter().map(|edge| ends(edge, single)).collect();
         let after = ends.iter().cycle().skip(1);
@@ -132,11 +132,22 @@ fn gaps(single: bool) -> Vec<f64> {
 /// In doubles all elbows close to a hundred-millionth of a foot; in single precision most are torn by more than a tenth.
 #[test]
 fn the_campus_is_whole_in_doubles_and_torn_in_singles() {
-    let [doubles, singles] = [false, true].map(gaps);
+    let [doubles, singles] = [false, true].map(|single| gaps(&campus(), single));
     assert_eq!((doubles.len(), singles.len()), (48, 48));
     assert!(doubles.iter().all(|gap| *gap < 1e-8), "{doubles:?}");
     let torn = singles.iter().filter(|gap| **gap > 0.1).count();
     assert!(torn > 40, "{torn} of {}", singles.len());
+}
+
+/// Moved to the origin that the picture is counted from, all elbows close in single precision too, to a thousandth of a foot.
+#[test]
+fn the_campus_is_whole_in_singles_once_it_is_moved() {
+    assert!(stored("campus-moved.svg").contains(">counted from 4650000, 9230000</text>"));
+    let mut hatches = campus();
+    hatches.iter_mut().for_each(|hatch| hatch.move_origin(4_650_000.0, 9_230_000.0).expect("it can be moved"));
+    let singles = gaps(&hatches, true);
+    assert_eq!(singles.len(), 48);
+    assert!(singles.iter().all(|gap| *gap < 1e-3), "{singles:?}");
 }
 
 /// Ends of straight pieces that adjoin are the very same doubles.

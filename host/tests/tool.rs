@@ -54,8 +54,8 @@ fn xdata_blocks_are_counted() {
 
 /// Both entries give the same answers but for NaNs, which the f64 entries give as one.
 #[test]
-fn prefixes_and_hatches_are_answered_by_both_entries() {
-    let taken = |line: &&str| line.starts_with("prefix ") || line.starts_with("hatch");
+fn prefixes_hatches_and_moves_are_answered_by_both_entries() {
+    let taken = |line: &&str| ["prefix ", "hatch", "move "].iter().any(|kind| line.starts_with(kind));
     let examples: Vec<&str> = include_str!("examples.txt").lines().filter(taken).collect();
     let requests: String = examples.iter().filter_map(|line| line.split('\t').next()).map(|request| format!("{request}\n")).collect();
     let answered: Vec<&str> = examples.iter().filter_map(|line| line.split('\t').nth(1)).collect();

@@ -44,13 +44,14 @@ impl Run {
         self.missing += usize::from(theirs.is_none());
         if differ && self.first.is_none() {
             let line = theirs.map_or("(no answer line)", String::as_str);
-            self.first = Some(format!("{request}\n  the Rust: {ours}\n  the port: {line}"));
+            let judge = if request.starts_with("move ") { "the model" } else { "the Rust" };
+            self.first = Some(format!("{request}\n  {judge}: {ours}\n  the port: {line}"));
         }
     }
 
     fn print(&self, extra: usize) {
         table("kind", &self.kinds);
-        table("the Rust's answer", &self.outcomes);
+        table("the judge's answer", &self.outcomes);
         if let Some(first) = &self.first {
             println!("the first difference: {first}");
         }

@@ -88,6 +88,25 @@ const CASES: &[(&str, &str)] = &[
     ("hatch 2 0 A9A40690DA80", "err 3 36 0"),
     // Controls are tested before knots are read (here a knot with tag 11).
     ("hatch 2 0 A9A406404121017FF0", "err 3 66 0"),
+    // Document 02, the moved origin: nothing to move; the origin is judged all the same, and its bounds pass.
+    ("move 3ff0000000000000 4000000000000000 ext=0000000000000000,8000000000000000,3ff0000000000000", "ok 0 0 nums=-"),
+    ("move 4270000000000000 c270000000000000 ext=0000000000000000,0000000000000000,3ff0000000000000", "ok 0 0 nums=-"),
+    ("move 4270000000000001 0000000000000000 ext=0000000000000000,0000000000000000,3ff0000000000000", "err 13 0 0"),
+    // (3, 4) by (1, 2), and an entry past the length used; a bulge stays, and so do a NaN's bits.
+    (
+        "move 3ff0000000000000 4000000000000000 ext=0000000000000000,0000000000000000,3ff0000000000000 nseeds=1 nn=2 \
+         nums=4008000000000000,4010000000000000,4008000000000000",
+        "ok 0 0 nums=4000000000000000,4000000000000000,4008000000000000",
+    ),
+    (
+        "move 3ff0000000000000 4000000000000000 ext=0000000000000000,0000000000000000,3ff0000000000000 npaths=1 words=2,1,0,1,0 \
+         nums=4008000000000000,4010000000000000,7ff0000000000001",
+        "ok 0 0 nums=4000000000000000,4000000000000000,7ff0000000000001",
+    ),
+    // 11 before 12 before 13.
+    ("move 7ff8000000000000 0000000000000000 nseeds=1 nums=7ff8000000000000", "err 11 0 0"),
+    ("move 7ff8000000000000 0000000000000000 nseeds=1 nums=7ff8000000000000,0000000000000000", "err 12 0 0"),
+    ("move 0000000000000000 0000000000000000 solid=256", "bad request"),
     // Prefix releases and single code releases.
     ("prefix 0 3 -", "err 9 3 0"),
     ("bs 0 0 80", "bad request"),

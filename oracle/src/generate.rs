@@ -3,7 +3,7 @@
 use std::io::{self, BufWriter, Write};
 
 use crate::rng::Rng;
-use crate::{boundaries, gen_codes, gen_hatch, gen_prefix};
+use crate::{boundaries, gen_codes, gen_hatch, gen_move, gen_move_caps, gen_prefix};
 
 #[derive(Clone, Copy, PartialEq)]
 pub enum Group {
@@ -11,10 +11,11 @@ pub enum Group {
     Tv,
     Prefix,
     Hatch,
+    Move,
 }
 
-const GROUPS: [(&str, Group); 4] =
-    [("codes", Group::Codes), ("tv", Group::Tv), ("prefix", Group::Prefix), ("hatch", Group::Hatch)];
+const GROUPS: [(&str, Group); 5] =
+    [("codes", Group::Codes), ("tv", Group::Tv), ("prefix", Group::Prefix), ("hatch", Group::Hatch), ("move", Group::Move)];
 
 /// The groups named, all if none is.
 pub fn groups(names: &[&str]) -> Result<Vec<Group>, String> {
@@ -42,6 +43,7 @@ impl Source {
             Group::Tv => boundaries::tv(&mut rng),
             Group::Prefix => boundaries::prefix(&mut rng),
             Group::Hatch => boundaries::hatch(&mut rng),
+            Group::Move => gen_move_caps::all(),
         };
         Source { group, rng, first, given: 0, f64_entries }
     }
@@ -58,17 +60,19 @@ impl Source {
             Group::Tv => gen_codes::tv(&mut self.rng),
             Group::Prefix => gen_prefix::any(&mut self.rng),
             Group::Hatch => gen_hatch::any(&mut self.rng),
+            Group::Move => gen_move::any(&mut self.rng),
         }
     }
 }
 
-/// Of twenty requests nine are codes, whose sweep is long, two texts, four prefixes, five hatches.
+/// Of twenty-three requests nine are codes, whose sweep is long, two texts, four prefixes, five hatches, three moves.
 fn weight(group: Group) -> u64 {
     match group {
         Group::Codes => 9,
         Group::Tv => 2,
         Group::Prefix => 4,
         Group::Hatch => 5,
+        Group::Move => 3,
     }
 }
 
@@ -87,7 +91,7 @@ fn choose(rng: &mut Rng, groups: &[Group]) -> usize {
 
 pub fn run(args: &[&str], f64_entries: bool) -> Result<bool, String> {
     let [seed, count, names @ ..] = args else {
-        return Err("usage: oracle generate [--f64] SEED N [codes|tv|prefix|hatch]...".to_string());
+        return Err("usage: oracle generate [--f64] SEED N [codes|tv|prefix|hatch|move]...".to_string());
     };
     let seed: u64 = seed.parse().map_err(|_| format!("no seed: {seed}"))?;
     let count: u64 = count.parse().map_err(|_| format!("no number of requests: {count}"))?;

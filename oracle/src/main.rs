@@ -7,6 +7,8 @@ mod answer_code;
 mod answer_hatch;
 mod answer_prefix;
 mod lists;
+mod move_model;
+mod move_request;
 mod refusal;
 mod request;
 mod show;
@@ -24,6 +26,8 @@ mod examples;
 mod gen_codes;
 mod gen_hatch;
 mod gen_long;
+mod gen_move;
+mod gen_move_caps;
 mod gen_prefix;
 mod gen_strings;
 mod generate;
@@ -34,15 +38,17 @@ mod spoil;
 
 mod compare;
 mod stored;
+mod ways;
 
 use std::process::ExitCode;
 
 const USAGE: &str = "usage: oracle answer [--f64] < REQUESTS
-       oracle generate [--f64] SEED N [codes|tv|prefix|hatch]...
+       oracle generate [--f64] SEED N [codes|tv|prefix|hatch|move]...
        oracle stored [--seed SEED] [codes|tv|prefix|hatch]...
        oracle compare-lines REQUESTS ORACLE-ANSWERS PORT-ANSWERS
        oracle examples
-       oracle layouts SEED N";
+       oracle layouts SEED N
+       oracle ways < REQUESTS";
 
 fn main() -> ExitCode {
     let all: Vec<String> = std::env::args().skip(1).collect();
@@ -55,6 +61,7 @@ fn main() -> ExitCode {
         Some((&"compare-lines", [requests, ours, theirs])) => compare::run(requests, ours, theirs),
         Some((&"examples", [])) => examples::run(),
         Some((&"layouts", [seed, count])) => layouts::run(seed, count),
+        Some((&"ways", [])) => ways::run(),
         _ => Err(USAGE.to_string()),
     };
     match done {

@@ -1,5 +1,6 @@
 //! A line of the protocol as a request.
 
+use crate::move_request::{self, MoveRequest};
 use crate::version::Version;
 
 /// Document 01's limit of a payload, in bytes.
@@ -68,6 +69,7 @@ pub enum Request {
     Hatch(HatchRequest),
     Prefix { release: u64, start: u64, main: Payload },
     Code { code: Code, version: Version, start: u64, main: Payload },
+    Move(MoveRequest),
 }
 
 /// Releases as document 01 numbers them.
@@ -96,6 +98,7 @@ pub fn parse(line: &str) -> Option<Request> {
         ["prefix", release, start, main] => {
             Some(Request::Prefix { release: number(release)?, start: number(start)?, main: payload(main)? })
         }
+        ["move", fields @ ..] => move_request::parse(fields).map(Request::Move),
         ["dd", release, start, main, default] => one_code(Code::Dd(pattern(default)?), release, start, main),
         [name, release, start, main] => one_code(code(name)?, release, start, main),
         _ => None,

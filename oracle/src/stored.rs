@@ -20,7 +20,8 @@ pub fn run(args: &[&str]) -> Result<bool, String> {
         ["--seed", seed, names @ ..] => (seed.parse().map_err(|_| format!("no seed: {seed}"))?, names),
         names => (1, names),
     };
-    let groups = generate::groups(names)?;
+    let mut groups = generate::groups(names)?;
+    groups.retain(|group| *group != Group::Move); // the Rust has no such call
     let mut seen = BTreeSet::new();
     for (request, _) in examples::all() {
         if !request.is_empty() && groups.contains(&group_of(&request)) && seen.insert(request.clone()) {
@@ -50,6 +51,7 @@ fn group_of(request: &str) -> Group {
         Some("tv") => Group::Tv,
         Some("prefix") => Group::Prefix,
         Some("hatch" | "hatchs") => Group::Hatch,
+        Some("move") => Group::Move,
         _ => Group::Codes,
     }
 }

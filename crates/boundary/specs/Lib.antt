@@ -1,3 +1,4 @@
 pub mod Boundary
 pub mod PrefixBoundary
 pub mod HatchBoundary
+pub mod MoveBoundary

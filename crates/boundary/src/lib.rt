@@ -3,7 +3,9 @@
 // specs/ promise that each struct has the answer's numbers: refusal 0 and the value, or the refusal's number and its place and 0.
 pub mod answers;
 pub mod bodies;
+pub mod given;
 pub mod hatches;
+pub mod moves;
 pub mod prefixes;
 
 // What one code gives: the refusal's number or 0, the final place, and the value or 0.

@@ -1,2 +1,3 @@
 pub mod HatchCalls
 pub mod SeedBoundary
+pub mod MoveCalls

@@ -23,6 +23,7 @@ use boundary::answers;
 use boundary::prefixes;
 
 pub mod bodies;
+pub mod moves;
 pub mod seeds;
 
 // B: one bit, 0 or 1.

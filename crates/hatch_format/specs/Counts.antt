@@ -14,29 +14,29 @@ use Rattle.bitcursor.specs.Reading.{Out, got, refused, andThen}
 use Rattle.bitcursor.specs.Code.{Code, Laid}
 use Rattle.bitcursor.specs.Ranges.{Below}
 use Rattle.bitcursor.specs.Chains.{EachBy, Each}
-use Rattle.bitcursor.specs.Format.{Format, pure, refuse, _>>=_, relay, either}
+use Rattle.bitcursor.specs.Format.{Input, Format, pure, refuse, _>>=_, relay, either}
 use Rattle.bitcursor.specs.Inputs.{one}
 use Rattle.bitcursor.specs.Fields.{coded, at-least}
 use Rattle.hatch_format.specs.Takes.{Takes, moved}
 use Rattle.hatch_format.specs.Layouts.{Count, Bounded, ListedBy, Listed}
 
 -- ---- n items, each read by a running sum of those before it
-module _ {A S : Type 0} (f : S → Format one A) (add : S → A → S) where
-  abbrev pub summed-read : ℕ → S → Format one (List A)
+module _ {M : Input} {A S : Type 0} (f : S → Format M A) (add : S → A → S) where
+  abbrev pub summed-read : ℕ → S → Format M (List A)
   summed-read zero s = pure []
   summed-read (suc n) s = f s >>= λ a. summed-read n (add s a) >>= λ items. pure (a ∷ items)
 
-  abbrev pub Summed : ℕ → S → List ℕ → List A → ℕ → ℕ → Type 0
+  abbrev pub Summed : ℕ → S → M .Bytes → List A → M .Place → M .Place → Type 0
   Summed n s xs items p q = (length items ≡ n) × EachBy (λ t. (f t) .lays xs) add s items p q
 
-  pub summed-to : (n : ℕ) (s : S) (xs : List ℕ) (items : List A) (p q : ℕ) → (summed-read n s) .lays xs items p q → Summed n s xs items p q
+  pub summed-to : (n : ℕ) (s : S) (xs : M .Bytes) (items : List A) (p q : M .Place) → (summed-read n s) .lays xs items p q → Summed n s xs items p q
   unfolding pure _>>=_
   summed-to zero s xs items p q l = rw (l .0) (refl, l .1)
   summed-to (suc n) s xs items p q l =
       let t = summed-to n (add s (l .0)) xs (l .3 .0) (l .1) (l .3 .1) (l .3 .2) in
       rw (l .3 .3 .0, l .3 .3 .1) (ap suc (t .0), (l .1, l .2, t .1))
 
-  pub summed-from : (n : ℕ) (s : S) (xs : List ℕ) (items : List A) (p q : ℕ) → Summed n s xs items p q → (summed-read n s) .lays xs items p q
+  pub summed-from : (n : ℕ) (s : S) (xs : M .Bytes) (items : List A) (p q : M .Place) → Summed n s xs items p q → (summed-read n s) .lays xs items p q
   unfolding pure _>>=_
   summed-from zero s xs [] p q l = (refl, l .1)
   summed-from zero s xs (a ∷ items) p q l = absurd (omega (arith, l .0))
@@ -45,10 +45,11 @@ module _ {A S : Type 0} (f : S → Format one A) (add : S → A → S) where
       let c = l .1 in
       (a, c .0, c .1, (items, q, summed-from n (add s a) xs items (c .0) q (omega (arith, l .0), c .2), (refl, refl)))
 
-  unfoldable pub summed : ℕ → S → Format one (List A)
+  unfoldable pub summed : ℕ → S → Format M (List A)
   summed n s = relay (summed-read n s) (Summed n s) (summed-to n s) (summed-from n s)
 
-  -- each takes a bit, so n take n
+-- each takes a bit, so n take n
+module _ {A S : Type 0} (f : S → Format one A) (add : S → A → S) where
   each-takes : ((s : S) → Takes 1 (f s)) → (s : S) (xs : List ℕ) (items : List A) (p q : ℕ)
       → EachBy (λ t. (f t) .lays xs) add s items p q → p + length items ≤ q
   each-takes t s xs [] p q l = omega (arith, l)
@@ -57,30 +58,32 @@ module _ {A S : Type 0} (f : S → Format one A) (add : S → A → S) where
       let j = each-takes t (add s a) xs items (l .0) q (l .2) in
       omega arith
 
-  pub takes-summed : (n : ℕ) (s : S) → ((s : S) → Takes 1 (f s)) → Takes n (summed n s)
+  pub takes-summed : (n : ℕ) (s : S) → ((s : S) → Takes 1 (f s)) → Takes n (summed f add n s)
   unfolding summed relay
   takes-summed n s t xs items p q l = let j = each-takes t s xs items p q (l .1) in omega (arith, l .0)
 
--- ---- n items of one format
-module _ {A : Type 0} where
-  unfoldable pub times-read : ℕ → Format one A → Format one (List A)
+-- ---- n items of one format; a list of n items is laid out
+abbrev pub Times : {A P : Type 0} → ℕ → (A → P → P → Type 0) → List A → P → P → Type 0
+Times n L items p q = (length items ≡ n) × Each L items p q
+
+module _ {M : Input} {A : Type 0} where
+  unfoldable pub times-read : ℕ → Format M A → Format M (List A)
   times-read n f = summed-read (λ (s : Unit {0}). f) (λ s a. s) n tt
 
-  -- a list of n items is laid out
-  abbrev pub Times : ℕ → (A → ℕ → ℕ → Type 0) → List A → ℕ → ℕ → Type 0
-  Times n L items p q = (length items ≡ n) × Each L items p q
-
-  pub times-to : (n : ℕ) (f : Format one A) (xs : List ℕ) (items : List A) (p q : ℕ) → (times-read n f) .lays xs items p q → Times n (f .lays xs) items p q
+  pub times-to : (n : ℕ) (f : Format M A) (xs : M .Bytes) (items : List A) (p q : M .Place) → (times-read n f) .lays xs items p q
+      → Times n (f .lays xs) items p q
   unfolding times-read
   times-to n f xs items p q l = summed-to (λ (s : Unit {0}). f) (λ s a. s) n tt xs items p q l
 
-  pub times-from : (n : ℕ) (f : Format one A) (xs : List ℕ) (items : List A) (p q : ℕ) → Times n (f .lays xs) items p q → (times-read n f) .lays xs items p q
+  pub times-from : (n : ℕ) (f : Format M A) (xs : M .Bytes) (items : List A) (p q : M .Place) → Times n (f .lays xs) items p q
+      → (times-read n f) .lays xs items p q
   unfolding times-read
   times-from n f xs items p q l = summed-from (λ (s : Unit {0}). f) (λ s a. s) n tt xs items p q l
 
-  unfoldable pub times : ℕ → Format one A → Format one (List A)
+  unfoldable pub times : ℕ → Format M A → Format M (List A)
   times n f = relay (times-read n f) (λ xs. Times n (f .lays xs)) (times-to n f) (times-from n f)
 
+module _ {A : Type 0} where
   pub takes-times : (n : ℕ) (f : Format one A) → Takes 1 f → Takes n (times n f)
   unfolding times summed relay
   takes-times n f t xs items p q l = takes-summed (λ (s : Unit {0}). f) (λ s a. s) n tt (λ s. t) xs items p q l

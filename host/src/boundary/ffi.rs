@@ -1,7 +1,7 @@
-//! The exported C functions of crates/dwg_hatch and the structs of crates/boundary that they answer with, and nothing else.
+//! The exported C functions of crates/dwg_hatch, the structs of crates/boundary that they answer with or take, and nothing else.
 //!
 //! No compiler checks these declarations against the Rattle source: a wrong one would be undefined behaviour. So they are few, they
-//! stand here alone, in the order of lib.rt and then bodies.rt, and `host/tests/boundary.rs` compares the texts.
+//! stand here alone, in the order of lib.rt, bodies.rt, seeds.rt and moves.rt, and `host/tests/boundary.rs` compares the texts.
 //!
 //! A Rattle `&[u8]` is a pointer and a length; the pointer is never null, also where there are no bytes. A `&mut [u64]` is the same, and
 //! its entries may be written.
@@ -222,6 +222,90 @@ pub struct SeedPart {
     pub count: usize,
 }
 
+/// A gradient as a call takes it: [`GradientFields`] with its switch as a byte, since a caller's may be any.
+#[repr(C)]
+pub struct GradientGiven {
+    pub present: u8,
+    pub angle: f64,
+    pub shift: f64,
+    pub is_single_color: u32,
+    pub tint: f64,
+    pub num_colors: usize,
+    pub colors: [GradientColor; 16],
+    pub name: TextFields,
+}
+
+/// The same with each double as its 64 bits.
+#[repr(C)]
+pub struct GradientBitsGiven {
+    pub present: u8,
+    pub angle: u64,
+    pub shift: u64,
+    pub is_single_color: u32,
+    pub tint: u64,
+    pub num_colors: usize,
+    pub colors: [GradientColorBits; 16],
+    pub name: TextFields,
+}
+
+/// [`BodyFields`] with its switches as bytes.
+#[repr(C)]
+pub struct FieldsGiven {
+    pub pattern_name: TextFields,
+    pub solid_fill: u8,
+    pub associative: u8,
+    pub pattern_double: u8,
+    pub pattern_style: u16,
+    pub pattern_type: u16,
+    pub num_paths: usize,
+    pub num_pattern_lines: usize,
+    pub num_seed_points: usize,
+    pub words_used: usize,
+    pub numbers_used: usize,
+}
+
+/// A hatch as a call takes it: [`BodyAnswer`], of the same size and with the same offsets, but for the types of its switches.
+#[repr(C)]
+pub struct BodyGiven {
+    pub refusal: u64,
+    pub place: usize,
+    pub string_place: usize,
+    pub gradient: GradientGiven,
+    pub elevation: f64,
+    pub extrusion_x: f64,
+    pub extrusion_y: f64,
+    pub extrusion_z: f64,
+    pub pattern_angle: f64,
+    pub pattern_scale: f64,
+    pub pixel_size: f64,
+    pub fields: FieldsGiven,
+}
+
+/// The same with each double as its 64 bits.
+#[repr(C)]
+pub struct BodyBitsGiven {
+    pub refusal: u64,
+    pub place: usize,
+    pub string_place: usize,
+    pub gradient: GradientBitsGiven,
+    pub elevation: u64,
+    pub extrusion_x: u64,
+    pub extrusion_y: u64,
+    pub extrusion_z: u64,
+    pub pattern_angle: u64,
+    pub pattern_scale: u64,
+    pub pixel_size: u64,
+    pub fields: FieldsGiven,
+}
+
+/// What a move of the origin gives: the refusal's number or 0; the places are 0.
+#[repr(C)]
+pub struct MoveAnswer {
+    pub refusal: u64,
+    pub place: usize,
+    pub string_place: usize,
+}
+
 unsafe extern "C" {
     pub fn dwg_read_b(s: *const u8, length: usize, at: usize) -> CodeAnswer;
     pub fn dwg_read_bb(s: *const u8, length: usize, at: usize) -> CodeAnswer;
@@ -305,6 +389,24 @@ unsafe extern "C" {
         release: u64,
     ) -> LengthsAnswer;
     pub fn dwg_hatch_seed_points(numbers_used: usize, num_seed_points: usize, length: usize) -> SeedPart;
+    pub fn dwg_hatch_move_origin(
+        hatch: BodyGiven,
+        words: *const u32,
+        words_length: usize,
+        numbers: *mut f64,
+        numbers_length: usize,
+        x: f64,
+        y: f64,
+    ) -> MoveAnswer;
+    pub fn dwg_hatch_move_origin_bits(
+        hatch: BodyBitsGiven,
+        words: *const u32,
+        words_length: usize,
+        bits: *mut u64,
+        bits_length: usize,
+        x: u64,
+        y: u64,
+    ) -> MoveAnswer;
 }
 
 #[cfg(test)]

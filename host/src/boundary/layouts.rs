@@ -67,3 +67,18 @@ fn a_hatch_lies_as_c_lays_it() {
     assert_eq!([offset_of!(BodyAnswer, gradient), offset_of!(BodyAnswer, elevation)], [24, 480]);
     assert_eq!([offset_of!(BodyBitsAnswer, pixel_size), offset_of!(BodyBitsAnswer, fields)], [528, 536]);
 }
+
+// What a call takes lies as what a call gave: a caller in C hands over the very struct.
+#[test]
+fn a_given_hatch_lies_as_an_answer_does() {
+    assert_eq!([size_of::<GradientGiven>(), size_of::<GradientBitsGiven>()], [size_of::<GradientFields>(), size_of::<GradientBits>()]);
+    assert_eq!([offset_of!(GradientGiven, angle), offset_of!(GradientGiven, colors)], [8, 48]);
+    assert_eq!([offset_of!(GradientBitsGiven, num_colors), offset_of!(GradientBitsGiven, name)], [40, 432]);
+    assert_eq!([size_of::<FieldsGiven>(), size_of::<BodyGiven>(), size_of::<BodyBitsGiven>()], [72, 608, 608]);
+    assert_eq!([offset_of!(FieldsGiven, solid_fill), offset_of!(FieldsGiven, pattern_double)], [24, 26]);
+    assert_eq!([offset_of!(FieldsGiven, pattern_style), offset_of!(FieldsGiven, numbers_used)], [28, 64]);
+    assert_eq!([offset_of!(BodyGiven, gradient), offset_of!(BodyGiven, extrusion_z), offset_of!(BodyGiven, fields)], [24, 504, 536]);
+    assert_eq!([offset_of!(BodyBitsGiven, elevation), offset_of!(BodyBitsGiven, fields)], [480, 536]);
+    assert_eq!(size_of::<MoveAnswer>(), 24);
+    assert_eq!([offset_of!(MoveAnswer, refusal), offset_of!(MoveAnswer, place), offset_of!(MoveAnswer, string_place)], [0, 8, 16]);
+}

@@ -108,10 +108,15 @@ impl<Double> Hatch<Double> {
     /// # Ok::<(), dwg_hatch::Refusal>(())
     /// ```
     pub fn seed_part(&self, length: usize) -> Range<usize> {
-        // SAFETY: three numbers go in and two come out.
-        let part = unsafe { ffi::dwg_hatch_seed_points(self.numbers_used, self.num_seed_points, length) };
-        part.begin..part.begin + part.count
+        seed_part(self.numbers_used, self.num_seed_points, length)
     }
+}
+
+/// The same of so many numbers used and so many seed points.
+pub(crate) fn seed_part(numbers_used: usize, num_seed_points: usize, length: usize) -> Range<usize> {
+    // SAFETY: three numbers go in and two come out.
+    let part = unsafe { ffi::dwg_hatch_seed_points(numbers_used, num_seed_points, length) };
+    part.begin..part.begin + part.count
 }
 
 /// A hatch and its two lists, whose entries stand in reading order.

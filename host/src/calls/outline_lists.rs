@@ -1,5 +1,6 @@
 //! From the two lists to the tree of outlines.rs, and back. What goes to the lists, and in which order, is said once for each way.
 
+use super::hatch_record::{seed_part, Hatch};
 use super::outlines::{ControlPoint, Fits, HatchEdge, HatchPath, HatchPathSegments, PatternLine, Point2D, Vertex, FLAG_POLYLINE};
 
 /// What is not yet taken of the two lists. Whatever does not fit is `None`; nothing is taken twice.
@@ -8,7 +9,36 @@ pub(crate) struct Rest<'a, Double> {
     pub(crate) numbers: &'a [Double],
 }
 
+/// How many paths, pattern lines and seed points there are, and how many numbers are used.
+pub(crate) struct Counts {
+    pub(crate) paths: usize,
+    pub(crate) pattern_lines: usize,
+    pub(crate) seed_points: usize,
+    pub(crate) numbers_used: usize,
+}
+
+impl<Double> From<&Hatch<Double>> for Counts {
+    fn from(hatch: &Hatch<Double>) -> Counts {
+        let (paths, pattern_lines, seed_points) = (hatch.num_paths, hatch.num_pattern_lines, hatch.num_seed_points);
+        Counts { paths, pattern_lines, seed_points, numbers_used: hatch.numbers_used }
+    }
+}
+
+/// The paths, the pattern lines and the seed points of a hatch.
+pub(crate) type Outlines<Double> = (Vec<HatchPath<Double>>, Vec<PatternLine<Double>>, Vec<Point2D<Double>>);
+
 impl<Double: Copy> Rest<'_, Double> {
+    /// All that a hatch's lists hold; `None` if they do not fit the counts.
+    pub(crate) fn all(&self, counts: &Counts) -> Option<Outlines<Double>> {
+        let part = seed_part(counts.numbers_used, counts.seed_points, self.numbers.len());
+        let mut seeds = Rest { words: &[], numbers: self.numbers.get(part.clone())? };
+        let seed_points = seeds.many(counts.seed_points, Rest::point)?;
+        let mut rest = Rest { words: self.words, numbers: self.numbers.get(..self.numbers.len() - part.len())? };
+        let paths = rest.many(counts.paths, Rest::path)?;
+        let pattern_lines = rest.many(counts.pattern_lines, Rest::pattern_line)?;
+        (rest.words.is_empty() && rest.numbers.is_empty()).then_some((paths, pattern_lines, seed_points))
+    }
+
     /// So many items. Each takes an entry at least, so that a count above what the lists hold ends with them.
     pub(crate) fn many<T>(&mut self, count: usize, mut item: impl FnMut(&mut Self) -> Option<T>) -> Option<Vec<T>> {
         let mut items = Vec::with_capacity(count.min(self.words.len() + self.numbers.len()));

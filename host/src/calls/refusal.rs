@@ -1,10 +1,10 @@
-//! Why a reading stopped.
+//! Why a reading stopped, or a call gave nothing.
 
 use std::fmt;
 
 use super::codes::OUTSIDE;
 
-/// Why a reading stopped: a row of document 01's table of refusals, by the names of dwg_hatch_codes.h.
+/// Why a reading stopped, or a call gave nothing: a row of docs/REFUSALS.md, by the names of dwg_hatch_codes.h.
 #[derive(Clone, Copy, Debug, PartialEq, Eq, Hash)]
 #[non_exhaustive]
 pub enum Reason {
@@ -28,15 +28,27 @@ pub enum Reason {
     UnknownRelease = 9,
     /// A payload is longer than 268,435,456 bytes.
     PayloadTooLong = 10,
-    /// The hatch is readable, but a lent list is too short for it.
+    /// The hatch is readable, but a lent list is too short for it. Of a call that takes a hatch: record and lists do not fit each other.
     ListTooShort = 11,
+    /// The extrusion is not (0, 0, 1), so that the hatch does not lie in the drawing's own plane.
+    OtherPlane = 12,
+    /// The origin or a coordinate to be moved is not a number from -2^40 to 2^40.
+    CoordinateOutOfRange = 13,
 }
+
+/// What number 11 means where a hatch was read, and where one was handed over.
+const SHORT: [&str; 2] = ["the hatch is readable, but a lent list is too short for it", "lend longer lists and read again"];
+const UNFIT: [&str; 2] = [
+    "record and lists do not fit each other: a count is above its cap, a switch is not 0 or 1, an edge's kind is not 1 to 4, or the counts do not come to \
+     the lengths used",
+    "hand over record and lists as they were read; doubles alone may be altered",
+];
 
 const CHECK: &str = "check the release and the start bit, else the payload is damaged";
 
 impl Reason {
     /// Every row of the table, in its order. A test looks that the C header has the same.
-    const ALL: [Reason; 11] = [
+    const ALL: [Reason; 13] = [
         Reason::TooFewBits,
         Reason::ReservedTag,
         Reason::CountTooLarge,
@@ -48,6 +60,8 @@ impl Reason {
         Reason::UnknownRelease,
         Reason::PayloadTooLong,
         Reason::ListTooShort,
+        Reason::OtherPlane,
+        Reason::CoordinateOutOfRange,
     ];
 
     /// The row's number, which the line protocol and the C boundary have.
@@ -81,14 +95,16 @@ impl Reason {
             Reason::TooManyXdataBlocks => "there are 256 nonzero XDATA blocks, which is more than are read",
             Reason::UnknownRelease => "the release is not 1 to 7",
             Reason::PayloadTooLong => "a payload is longer than 268,435,456 bytes",
-            Reason::ListTooShort => "the hatch is readable, but a lent list is too short for it",
+            Reason::ListTooShort => "a lent list is too short for the hatch, or record and lists do not fit each other",
+            Reason::OtherPlane => "the hatch's extrusion is not (0, 0, 1), so it does not lie in the drawing's own plane",
+            Reason::CoordinateOutOfRange => "the origin or a coordinate to be moved is not a number within 1,099,511,627,776 (2^40) of 0",
         }
     }
 
     /// What to do about it.
     ///
     /// ```
-    /// assert_eq!(dwg_hatch::Reason::ListTooShort.advice(), "lend longer lists and read again");
+    /// assert_eq!(dwg_hatch::Reason::PayloadTooLong.advice(), "lend only the object's own bytes");
     /// ```
     pub fn advice(self) -> &'static str {
         match self {
@@ -98,7 +114,9 @@ impl Reason {
             Reason::NotUtf16 => "check the release, and the start bit of the payload that holds the text, else that payload is damaged",
             Reason::UnknownRelease => "name a release from 1 (R14) to 7 (R2018)",
             Reason::PayloadTooLong => "lend only the object's own bytes",
-            Reason::ListTooShort => "lend longer lists and read again",
+            Reason::ListTooShort => "lend longer lists and read again, or hand over record and lists as they were read",
+            Reason::OtherPlane => "leave its coordinates as they are, or turn them into the drawing's own plane first",
+            Reason::CoordinateOutOfRange => "check the origin; else the coordinate is damaged, or was read with a wrong release or start bit",
         }
     }
 }
@@ -133,15 +151,41 @@ impl Refusal {
     pub fn number(&self) -> u64 {
         self.reason.number()
     }
+
+    /// What it means, in a few words: as [`Reason::meaning`], but of number 11 only what holds here.
+    pub fn meaning(&self) -> &'static str {
+        self.of_eleven().map_or_else(|| self.reason.meaning(), |texts| texts[0])
+    }
+
+    /// What to do about it: as [`Reason::advice`], but of number 11 only what holds here.
+    pub fn advice(&self) -> &'static str {
+        self.of_eleven().map_or_else(|| self.reason.advice(), |texts| texts[1])
+    }
+
+    /// Whether bits were read: a call that takes a hatch reads none, and then the places are 0. A hatch that is readable ends behind bit 0.
+    fn reads_bits(&self) -> bool {
+        match self.reason {
+            Reason::OtherPlane | Reason::CoordinateOutOfRange => false,
+            Reason::ListTooShort => self.place != 0,
+            _ => true,
+        }
+    }
+
+    fn of_eleven(&self) -> Option<[&'static str; 2]> {
+        (self.reason == Reason::ListTooShort).then_some(if self.reads_bits() { SHORT } else { UNFIT })
+    }
 }
 
 impl fmt::Display for Refusal {
     fn fmt(&self, f: &mut fmt::Formatter<'_>) -> fmt::Result {
-        write!(f, "refusal {} at bit {}", self.number(), self.place)?;
+        write!(f, "refusal {}", self.number())?;
+        if self.reads_bits() {
+            write!(f, " at bit {}", self.place)?;
+        }
         if self.second_place != 0 {
             write!(f, " of the main payload and bit {} of the string payload", self.second_place)?;
         }
-        write!(f, ": {}; {}", self.reason.meaning(), self.reason.advice())
+        write!(f, ": {}; {}", self.meaning(), self.advice())
     }
 }
 
@@ -187,6 +231,18 @@ mod tests {
     #[should_panic = "outside its contract"]
     fn a_number_that_is_not_in_the_table_is_no_reason() {
         Reason::of(Reason::ALL.len() as u64 + 1);
+    }
+
+    /// Number 11 says which of its two it is, and a call that reads no bits has no bit to name.
+    #[test]
+    fn a_refusal_says_what_holds_of_it() {
+        let told = |reason, place| Refusal { reason, place, second_place: 0 }.to_string();
+        let short = told(Reason::ListTooShort, 156);
+        assert_eq!(short, "refusal 11 at bit 156: the hatch is readable, but a lent list is too short for it; lend longer lists and read again");
+        assert!(told(Reason::ListTooShort, 0).starts_with("refusal 11: record and lists do not fit each other: a count "));
+        assert!(told(Reason::OtherPlane, 0).starts_with("refusal 12: the hatch's extrusion is not (0, 0, 1), "));
+        assert!(told(Reason::CoordinateOutOfRange, 0).starts_with("refusal 13: the origin or a coordinate to be moved is not a number "));
+        assert!(told(Reason::TooFewBits, 0).starts_with("refusal 1 at bit 0: "));
     }
 
     #[test]

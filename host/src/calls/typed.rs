@@ -5,7 +5,7 @@
 use super::codes::OUTSIDE;
 use super::hatches::{Hatch, HatchBody, ReadHatch, StringReader};
 use super::kept;
-use super::outline_lists::{Filled, Rest};
+use super::outline_lists::{Counts, Filled, Rest};
 use super::outlines::{HatchPath, PatternLine, Point2D};
 use super::refusal::Refusal;
 use super::release::Release;
@@ -157,15 +157,7 @@ impl HatchBody<'_> {
     /// The same of lists that lie elsewhere. What a call over this body gave fits by the library's contract; if it does not, no answer is better than
     /// a wrong one.
     fn tree<Double: Copy>(&self, hatch: Hatch<Double>, words: &[u32], numbers: &[Double]) -> Option<TypedHatch<Double>> {
-        let part = hatch.seed_part(numbers.len());
-        let mut seeds = Rest { words: &[], numbers: numbers.get(part.clone())? };
-        let seed_points = seeds.many(hatch.num_seed_points, Rest::point)?;
-        let mut rest = Rest { words, numbers: numbers.get(..numbers.len() - part.len())? };
-        let paths = rest.many(hatch.num_paths, Rest::path)?;
-        let pattern_lines = rest.many(hatch.num_pattern_lines, Rest::pattern_line)?;
-        if !rest.words.is_empty() || !rest.numbers.is_empty() {
-            return None;
-        }
+        let (paths, pattern_lines, seed_points) = Rest { words, numbers }.all(&Counts::from(&hatch))?;
         let pattern_name = self.name(&hatch.pattern_name)?;
         let gradient_name = match &hatch.gradient {
             Some(fill) => Some(self.name(&fill.name)?),

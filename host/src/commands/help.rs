@@ -34,8 +34,8 @@ command or a line is wrong.
 pub const READ_HELP: &str = "\
 Reads hatch bodies and entity prefixes, and prints a summary of each, or everything as JSON.
 
-usage: dwg-hatch read [--json] [--quiet] [--jobs N] [FILE]
-       dwg-hatch read [--json] [--quiet] --release N [--start BIT] [--strings FILE [--string-start BIT] [--string-end BIT]] [FILE]
+usage: dwg-hatch read [--json] [--quiet] [--jobs N] [--origin X,Y|auto] [FILE]
+       dwg-hatch read [OPTION]... --release N [--start BIT] [--strings FILE [--string-start BIT] [--string-end BIT]] [FILE]
 
   --json               print one JSON object a line for each request, with every field; docs/JSON.md has their names.
                        Finite doubles are the shortest numbers that give the same double back, NaNs and infinities
@@ -43,6 +43,11 @@ usage: dwg-hatch read [--json] [--quiet] [--jobs N] [FILE]
   --quiet              do not warn of hatches that may have been read wrongly
   --jobs N             work by so many jobs side by side, 1 to 256; as many as the machine has cores if not given. What is
                        written is the same for any number, in the order of the lines
+  --origin X,Y         move each hatch there: X is taken off each x and Y off each y of its points, by one subtraction of
+                       doubles; directions, such as tangents, stay. A hatch that cannot be moved is refused: 12 if its
+                       extrusion is not (0, 0, 1), 13 if a coordinate is not within 1099511627776 (2^40) of 0
+  --origin auto        the same with a whole multiple of 1000 near the middle of all hatches, which is told on standard
+                       error; FILE is gone through twice
   --release N          the file is binary and holds a hatch body of this release: 1 R14, 2 R2000, 3 R2004, 4 R2007,
                        5 R2010, 6 R2013, 7 R2018; its name will do too, as R2000, or how a drawing of it begins, as AC1015
   --start BIT          where the body starts in it, in bits from its first byte's top bit; 0 if not given
@@ -89,7 +94,8 @@ and splines, light inside by the even-odd rule, so that islands are holes; patte
 points as crosses. Coordinates of the drawing stand at the frame with a scale bar in its units, and in each hatch where it fits
 the number of its request line and its pattern's name.
 
-usage: dwg-hatch draw [--output FILE] [--view X,Y,WIDTH,HEIGHT] [--only LINE] [--width PIXELS] [--max-lines N] [--single] [FILE]
+usage: dwg-hatch draw [--output FILE] [--view X,Y,WIDTH,HEIGHT] [--only LINE] [--width PIXELS] [--max-lines N] [--single]
+                      [--origin X,Y|auto] [FILE]
        dwg-hatch draw [OPTION]... --release N [--start BIT] [--strings FILE [--string-start BIT] [--string-end BIT]] [FILE]
 
   --output FILE              write the picture to this file and not to standard output. It is written whole or not at all:
@@ -101,6 +107,10 @@ usage: dwg-hatch draw [--output FILE] [--view X,Y,WIDTH,HEIGHT] [--only LINE] [-
   --max-lines N              draw so many strokes of pattern lines at most, 0 to 10000000; 20000 if not given. Hatches whose
                              lines would be more are drawn without, and a warning says so
   --single                   narrow every number of the outlines to single precision first, to see what that tears apart
+  --origin X,Y               move each hatch there first, as dwg-hatch read --help says: the coordinates at the frame and those of
+                             --view are counted from there, and --single narrows what is left. The origin stands in the picture
+  --origin auto              the same with a whole multiple of 1000 near the middle of what is drawn, which is told on standard
+                             error too; FILE is gone through once more
 
 Where the input is, its request lines, whole drawings and the options for a binary file are as dwg-hatch read --help has them. Lines with a
 prefix have no outlines and are passed over. No file of the input is written to.
@@ -150,6 +160,7 @@ usage: dwg-hatch answer [--f64] [--jobs N]
   prefix REL START HEX                                             one entity prefix of the release
   hatch REL START HEX [L NWORDS NNUMBERS]                          one hatch body of the release
   hatchs REL START HEX STRSTART STREND STRHEX [L NWORDS NNUMBERS]  one with a string reader
+  move X Y [NAME=VALUE]...                                         the origin of a hatch moved to X, Y
 
 REL is the release, 1 to 7 (of a prefix or a hatch any number), START the start bit. HEX is bytes in hexadecimal, - for
 no bytes, zN for N zero bytes. L gives the lengths of the lent lists; without it they are long enough.
@@ -158,6 +169,9 @@ unit, the bit position of the first unit, how many there are, and the units in h
 A prefix's value is 0 and its fields, each NAME=VALUE; rgb, alpha and dataend are 0:0 if absent, else 1:NUMBER.
 A hatch's value is the string payload's place, 0 without a reader, and its fields, each NAME=VALUE; a list is - if it
 is empty, and a colour is DOUBLE/SHORT/RGB/BYTE.
+A move takes X and Y as 16 hexadecimal digits, and the fields of a hatch's answer as they were printed, in any order; a
+missing one is 0, absent or empty, and nw and nn are then the lengths of words and nums. solid, assoc and pdouble may be
+0 to 255. It is answered `ok 0 0 nums=LIST`, every entry of nums afterwards, or `err NUMBER 0 0`.
 A reading is answered `ok PLACE VALUE`, a refusal `err NUMBER PLACE PLACE2`, the second place 0 without a reader,
 and a line that is no request `bad request`.
 ";

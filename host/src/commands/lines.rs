@@ -40,6 +40,7 @@ pub fn why_not(line: &[u8]) -> String {
         name if CODES.split(' ').any(|code| code.as_bytes() == name) => {
             format!("{} is a single code, which dwg-hatch answer reads; here a line is hatch, hatchs or prefix", shown(name))
         }
+        b"move" => "move is what dwg-hatch answer does; here a line is hatch, hatchs or prefix, and --origin X,Y moves what is read".to_string(),
         name => no_such_request(name),
     }
 }
@@ -98,5 +99,6 @@ mod tests {
         assert_eq!(why_not(b"hatch 2 0 A9A"), "HEX has 3 digits, and a byte has two: add or remove one");
         assert_eq!(why_not(b"hatch 2 x A9"), "START is \"x\", which is no decimal number from 0 to 18446744073709551615");
         assert_eq!(why_not(b"bs 2 0 3FFFC0"), "bs is a single code, which dwg-hatch answer reads; here a line is hatch, hatchs or prefix");
+        assert!(why_not(b"move 0 0").ends_with("here a line is hatch, hatchs or prefix, and --origin X,Y moves what is read"));
     }
 }

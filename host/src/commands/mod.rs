@@ -12,6 +12,7 @@ pub mod input;
 pub mod items;
 pub mod lines;
 pub mod options;
+pub mod origin;
 pub mod out_file;
 pub mod read;
 pub mod streams;

@@ -8,8 +8,9 @@ use dwg_hatch::{CommonEntityData, Reading, Refusal, Source, Text};
 use crate::jobs;
 use crate::protocol::batches::{Batches, Lines};
 use crate::protocol::hatch_form;
+use crate::protocol::move_form;
 use crate::protocol::payload::Zeros;
-use crate::protocol::request::{self, Code, CodeRequest, HatchRequest, PrefixRequest, Request, TextRequest};
+use crate::protocol::request::{self, Code, CodeRequest, HatchRequest, MoveRequest, PrefixRequest, Request, TextRequest};
 use crate::protocol::OUTSIDE;
 
 const BAD_REQUEST: &str = "bad request";
@@ -35,6 +36,7 @@ impl Answerer {
             Some(Request::Text(request)) => self.text(&request),
             Some(Request::Prefix(request)) => self.prefix(&request),
             Some(Request::Hatch(request)) => self.hatch(&request),
+            Some(Request::Move(request)) => self.moved(*request),
             None => BAD_REQUEST.to_string(),
         }
     }
@@ -93,6 +95,14 @@ impl Answerer {
         let line = match self.doubles {
             Doubles::Bits => self.lists.bits_line(&body, request.lent),
             Doubles::F64 => self.lists.f64_line(&body, request.lent),
+        };
+        line.unwrap_or_else(|refusal| refused(&refusal))
+    }
+
+    fn moved(&self, request: MoveRequest) -> String {
+        let line = match self.doubles {
+            Doubles::Bits => move_form::bits_line(request),
+            Doubles::F64 => move_form::f64_line(request),
         };
         line.unwrap_or_else(|refusal| refused(&refusal))
     }

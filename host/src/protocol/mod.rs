@@ -2,8 +2,10 @@
 
 pub mod answer;
 pub mod batches;
+pub mod given;
 pub mod hatch_form;
 pub mod lists;
+pub mod move_form;
 pub mod payload;
 pub mod request;
 

@@ -2,10 +2,11 @@
 
 use dwg_hatch::{HatchBody, Release, StringReader};
 
+use crate::protocol::given::Given;
 use crate::protocol::payload::{Payload, Zeros};
 
 /// A request line, taken apart.
-#[derive(Clone, Debug, PartialEq, Eq)]
+#[derive(Clone, Debug, PartialEq)]
 pub enum Request {
     /// One code.
     Code(CodeRequest),
@@ -15,6 +16,8 @@ pub enum Request {
     Prefix(PrefixRequest),
     /// `hatch` or `hatchs`: one hatch body.
     Hatch(HatchRequest),
+    /// `move`: the origin of a hatch that is handed over.
+    Move(Box<MoveRequest>),
 }
 
 /// A single code. Its release is 1 to 7 and changes nothing.
@@ -119,6 +122,17 @@ pub struct Lent {
     pub numbers: usize,
 }
 
+/// An origin that a hatch is moved to, each double as its 64 bits.
+#[derive(Clone, Debug, PartialEq)]
+pub struct MoveRequest {
+    /// The origin's x.
+    pub x: u64,
+    /// The origin's y.
+    pub y: u64,
+    /// The record and its lists.
+    pub given: Given,
+}
+
 /// The request that a line holds; `None` is answered `bad request`.
 pub fn parse(line: &[u8]) -> Option<Request> {
     let words = line.split(u8::is_ascii_whitespace).filter(|word| !word.is_empty());
@@ -129,6 +143,7 @@ pub fn parse(line: &[u8]) -> Option<Request> {
             let strings = Strings { start: place(from)?, end: place(to)?, payload: Payload::parse(text)? };
             hatch([release, start, main], Some(strings), lent)
         }
+        [b"move", x, y, fields @ ..] => Some(Request::Move(Box::new(MoveRequest { x: pattern(x)?, y: pattern(y)?, given: Given::parse(fields)? }))),
         [b"prefix", release, start, main] => prefix([release, start, main]),
         [b"tv", release, start, main] => text([release, start, main]),
         [b"dd", release, start, main, default] => code(Code::Dd(pattern(default)?), [release, start, main]),
@@ -201,7 +216,7 @@ pub fn number(field: &[u8]) -> Option<u64> {
 }
 
 /// A double's 64 bits as 16 hexadecimal digits.
-fn pattern(field: &[u8]) -> Option<u64> {
+pub fn pattern(field: &[u8]) -> Option<u64> {
     if field.len() != 16 || !field.iter().all(u8::is_ascii_hexdigit) {
         return None;
     }
@@ -263,9 +278,16 @@ mod tests {
     }
 
     #[test]
+    fn each_part_of_a_move_is_kept() {
+        let Some(Request::Move(request)) = parse(b"move 0000000000000001 8000000000000000 words=7 nums=0000000000000002") else { panic!("no move") };
+        assert_eq!((request.x, request.y, request.given.words, request.given.numbers), (1, 1 << 63, vec![7], vec![2]));
+    }
+
+    #[test]
     fn lines_that_are_no_requests() {
         let lines = "|b|b 1 0|b 1 0 80 0|B 1 0 80|mc 1 0 80|dd 1 0 80|dd 1 0 80 123|dd 1 0 80 +000000000000001|dd 1 0 80 00000000000000001\
             |hatch 1 0|hatch 1 0 - L|hatch 1 0 - L 1|hatch 1 0 - l 1 1|hatch 1 0 - L 1 1 1|hatchs 1 0 - 0 0|hatchs 1 0 - 0 - -\
+            |move|move 0000000000000000|move 0 0|move 0000000000000000 0000000000000000 words|move 0000000000000000 0000000000000000 L 1\
             |prefix 1 0 - L 1 1|prefix 1 0 zz|tv 0 0 80|b one 0 80|b 1 0 8";
         for line in lines.split('|') {
             assert_eq!(parse(line.as_bytes()), None, "{line}");

@@ -131,6 +131,7 @@ void answer(const Request *r, Line *line) {
     case KIND_PREFIX: put_prefix(line, r); break;
     case KIND_HATCH:
     case KIND_HATCHS: answer_hatch(r, line); break;
+    case KIND_MOVE: answer_move(r, line); break;
     default: claim(false, "a request has a kind");
     }
 }

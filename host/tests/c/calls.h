@@ -8,7 +8,7 @@
 /* The kinds of requests, in the protocol's order of names; KIND_STRING_TV, text from a string reader alone, is the fuzzer's. */
 typedef enum Kind {
     KIND_B, KIND_BB, KIND_3B, KIND_BS, KIND_BSU, KIND_BL, KIND_BLU, KIND_BD, KIND_BLL, KIND_RC, KIND_RS, KIND_RL, KIND_RD, KIND_HANDLE,
-    KIND_DD, KIND_TV, KIND_STRING_TV, KIND_PREFIX, KIND_HATCH, KIND_HATCHS, KINDS
+    KIND_DD, KIND_TV, KIND_STRING_TV, KIND_PREFIX, KIND_HATCH, KIND_HATCHS, KIND_MOVE, KINDS
 } Kind;
 
 typedef struct Payload {
@@ -28,7 +28,22 @@ typedef struct Request {
     size_t words;
     size_t numbers;
     uint64_t fallback; /* KIND_DD */
+    struct Given *given; /* KIND_MOVE */
 } Request;
+
+/* A hatch to be moved, and the origin: the record as it is handed over, whatever its numbers are, and both lists. */
+typedef struct Given {
+    uint64_t x;
+    uint64_t y;
+    DwgBodyBitsAnswer hatch;
+    uint32_t *words;
+    size_t num_words;
+    uint64_t *bits;
+    size_t num_bits;
+} Given;
+
+/* A switch of the record as the byte that it is, which may be neither 0 nor 1. */
+#define SWITCH(given, name) (((unsigned char *)&(given)->hatch.fields)[offsetof(DwgBodyFields, name)])
 
 /* An answer line that grows. */
 typedef struct Line {
@@ -59,5 +74,9 @@ bool parse(char *text, Request *request);
 
 void answer(const Request *request, Line *line);
 void answer_hatch(const Request *request, Line *line);
+void answer_move(const Request *request, Line *line);
+
+/* The hatch that the words behind `move` hand over; false if they do not. It is taken apart, and stays until the next one. */
+bool parse_move(char *rest, Request *request);
 
 #endif

@@ -6,7 +6,7 @@
 #include <string.h>
 
 static const char *const names[KINDS] = {"b",  "bb", "3b", "bs",     "bsu", "bl", "blu",    "bd",     "bll",   "rc",
-                                         "rs", "rl", "rd", "handle", "dd",  "tv", "(none)", "prefix", "hatch", "hatchs"};
+                                         "rs", "rl", "rd", "handle", "dd",  "tv", "(none)", "prefix", "hatch", "hatchs", "move"};
 
 /* The next word of the line, or NULL. */
 static const char *next_word(char **rest) {
@@ -83,6 +83,9 @@ bool parse(char *text, Request *r) {
     char *rest = NULL;
     const char *name = strtok_r(text, " \t\r\n", &rest);
     for (r->kind = KIND_B; name != NULL && r->kind < KINDS && strcmp(name, names[r->kind]) != 0; r->kind = (Kind)(r->kind + 1)) {
+    }
+    if (r->kind == KIND_MOVE) {
+        return parse_move(rest, r);
     }
     if (name == NULL || r->kind == KINDS || r->kind == KIND_STRING_TV || !release(next_word(&rest), r)
         || !number(next_word(&rest), &r->start) || !payload(next_word(&rest), SLOT_MAIN, &r->main)) {

@@ -1,7 +1,10 @@
 //! What stands at a picture's edges: coordinates of the drawing, and a scale bar.
 
+use dwg_hatch::Point2D;
+
 use super::pen::number;
 use super::view::View;
+use crate::commands::origin::written;
 
 /// A picture smaller than this, in pixels, has no frame: it would hide what is drawn.
 const LEAST_SIDE: u32 = 200;
@@ -16,14 +19,15 @@ const LEAST_DISTANCE: f64 = 60.0;
 /// The space at the lower edge that coordinates of x take.
 const LOWER: f64 = 24.0;
 
-/// The frame of a view, or nothing where the picture is small.
-pub fn frame(view: &View) -> String {
+/// The frame of a view, with the origin that its coordinates are counted from, if they were moved; or nothing where the picture is small.
+pub fn frame(view: &View, origin: Option<Point2D>) -> String {
     if view.width < LEAST_SIDE || view.height < LEAST_SIDE {
         return String::new();
     }
     let [width, height] = [view.width, view.height].map(f64::from);
     let border = format!("<rect x=\"0.5\" y=\"0.5\" width=\"{}\" height=\"{}\"/>\n", number(width - 1.0), number(height - 1.0));
-    format!("<g class=\"frame\"><title>coordinates of the drawing, in its units</title>\n{border}{}{}</g>\n{}", across(view), up(view), bar(view))
+    let coordinates = [across(view), up(view), counted_from(view, origin)].concat();
+    format!("<g class=\"frame\"><title>coordinates of the drawing, in its units</title>\n{border}{coordinates}</g>\n{}", bar(view))
 }
 
 /// Coordinates of x along the lower edge.
@@ -58,6 +62,13 @@ fn up(view: &View) -> String {
         text += &format!("<text x=\"{}\" y=\"{}\">{shown}</text>\n", number(TICK + 3.0), number(y + 4.0));
     }
     text
+}
+
+/// The origin, below the scale bar.
+fn counted_from(view: &View, origin: Option<Point2D>) -> String {
+    let Some(origin) = origin else { return String::new() };
+    let (right, text) = (number(f64::from(view.width) - 16.0), written(origin).replace(',', ", "));
+    format!("<text x=\"{right}\" y=\"46\" text-anchor=\"end\">counted from {text}</text>\n")
 }
 
 fn tick([x1, y1]: [f64; 2], [x2, y2]: [f64; 2]) -> String {
@@ -124,16 +135,23 @@ mod tests {
 
     #[test]
     fn coordinates_are_multiples_of_a_round_step() {
-        let text = frame(&view("4650945,9230702,44,32", 700));
+        let text = frame(&view("4650945,9230702,44,32", 700), None);
         for wanted in [">4650950<", ">4650960<", ">9230705<", ">9230710<", ">5 units<"] {
             assert!(text.contains(wanted), "{wanted}: {text}");
         }
-        assert!(frame(&view("-1,-1,2,2", 1000)).contains(">0<") && frame(&view("-1,-1,2,2", 1000)).contains(">-0.4<"));
+        assert!(frame(&view("-1,-1,2,2", 1000), None).contains(">0<") && frame(&view("-1,-1,2,2", 1000), None).contains(">-0.4<"));
+    }
+
+    #[test]
+    fn the_origin_is_told_where_hatches_were_moved() {
+        let origin = Some(Point2D { x: 4_650_000.0, y: -9_230_000.5 });
+        assert!(frame(&view("945,702,44,32", 700), origin).contains("<text x=\"684\" y=\"46\" text-anchor=\"end\">counted from 4650000, -9230000.5</text>"));
+        assert!(!frame(&view("945,702,44,32", 700), None).contains("counted from"));
     }
 
     #[test]
     fn a_tick_lies_where_its_coordinate_is() {
-        let text = frame(&view("0,0,100,100", 1000));
+        let text = frame(&view("0,0,100,100", 1000), None);
         assert!(text.contains("<line x1=\"200\" y1=\"1000\" x2=\"200\" y2=\"994\"/>\n<text x=\"200\" y=\"990\" text-anchor=\"middle\">20<"), "{text}");
         assert!(text.contains("<line x1=\"0\" y1=\"800\" x2=\"6\" y2=\"800\"/>\n<text x=\"9\" y=\"804\">20<"), "{text}");
     }
@@ -141,9 +159,9 @@ mod tests {
     #[test]
     fn views_of_any_size_have_few_coordinates() {
         for text in ["0,0,1e-9,1e-9", "1e15,1e15,1e5,1e5", "-1e15,-1e15,1e15,1e15", "0,0,1e-9,1", "4650000,0,0.001,0.001"] {
-            let count = frame(&view(text, 1000)).matches("<text").count();
+            let count = frame(&view(text, 1000), None).matches("<text").count();
             assert!((1..=2000).contains(&count), "{text}: {count}");
         }
-        assert_eq!(frame(&view("0,0,10,1", 1000)), "");
+        assert_eq!(frame(&view("0,0,10,1", 1000), None), "");
     }
 }

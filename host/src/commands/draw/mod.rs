@@ -22,23 +22,26 @@ mod view;
 use std::ffi::OsStr;
 use std::io::{BufWriter, Write};
 
-use dwg_hatch::{ReadHatch, Refusal, TypedHatch};
+use dwg_hatch::{Point2D, Refusal};
 
 use self::figure::Figure;
-use self::svg::{Seen, Sheet, Shown, DOT};
+use self::svg::{Coordinates, Seen, Sheet, Shown, DOT};
 use self::view::{Extents, View};
 use crate::commands::failure::{shown, Failure};
 use crate::commands::input::{Entry, Input, Item, Kind};
 use crate::commands::options::{Command, Options};
+use crate::commands::origin::{origin, typed, ORIGIN};
 use crate::commands::out_file;
-use crate::protocol::lists::lists;
 use crate::protocol::payload::Zeros;
-use crate::protocol::request::{number, HatchRequest};
-use crate::protocol::OUTSIDE;
+use crate::protocol::request::number;
 
 /// The command.
-pub const DRAW: Command =
-    Command { name: "draw", kind: Kind::Hatch, switches: &["--single"], values: &["--output", "--view", "--width", "--only", "--max-lines"] };
+pub const DRAW: Command = Command {
+    name: "draw",
+    kind: Kind::Hatch,
+    switches: &["--single"],
+    values: &["--output", "--view", "--width", "--only", "--max-lines", ORIGIN],
+};
 
 /// The picture's width where none is asked for.
 const WIDTH: u32 = 1000;
@@ -52,6 +55,8 @@ struct Wanted<'a> {
     /// The view, if one is asked for.
     view: Option<Extents>,
     single: bool,
+    /// The origin that hatches are moved to before they are narrowed; coordinates and views are counted from it.
+    origin: Option<Point2D>,
     /// The request line whose hatch alone is drawn.
     only: Option<u64>,
     most_strokes: usize,
@@ -74,7 +79,8 @@ struct Found {
 /// the tool's status: 0 if all was drawn, 1 if something was refused or could not be drawn, 2 if a line was no request. Where a file cannot be
 /// read or written it fails, and leaves the output as it was.
 pub fn run(options: &Options, input: &Input, output: impl Write, mut errors: impl Write) -> Result<u8, Failure> {
-    let wanted = Wanted::new(options, input)?;
+    let mut wanted = Wanted::new(options, input)?;
+    wanted.origin = origin(&DRAW, options, input, wanted.only, &mut errors)?;
     let (found, status) = found(&wanted, input, &mut errors)?;
     if let (Some(line), 0, 0) = (wanted.only, found.hatches, status) {
         return Err(Failure::Usage(format!("--only {line}: {} has no hatch on line {line}; name a line with a hatch", input.name())));
@@ -112,14 +118,17 @@ impl<'a> Wanted<'a> {
         }
         let most = whole(options, "--max-lines", "strokes from 0 to 10000000", 0..=10_000_000)?;
         let most_strokes = most.map_or(MOST_STROKES, |most| most as usize);
-        Ok(Wanted { width, view: view(options)?, single: options.has("--single"), only, most_strokes, file })
+        Ok(Wanted { width, view: view(options)?, single: options.has("--single"), origin: None, only, most_strokes, file })
     }
 
-    /// The hatch of an item, with the numbers of its outlines narrowed if it is to be seen in single precision; `None` of a prefix, which has no
-    /// outlines, and of a line that is not asked for.
+    /// The hatch of an item, moved to the origin if one is asked for, and then with the numbers of its outlines narrowed if it is to be seen in single
+    /// precision; `None` of a prefix, which has no outlines, and of a line that is not asked for.
     fn figure(&self, item: &Item, zeros: &mut Zeros) -> Result<Option<Figure>, Refusal> {
         match &item.entry {
-            Entry::Hatch(request) if self.takes(item) => typed(request, zeros, self.single).map(|typed| Some(Figure::new(item, typed))),
+            Entry::Hatch(request) if self.takes(item) => {
+                let typed = typed(request, zeros, self.origin, |numbers| if self.single { narrow(numbers) })?;
+                Ok(Some(Figure::new(item, typed)))
+            }
             _ => Ok(None),
         }
     }
@@ -177,7 +186,7 @@ fn picture(wanted: &Wanted, input: &Input, found: &Found, mut out: impl Write) -
     }
     let view = View::new(wanted.view.unwrap_or_else(|| found.extents.with_margin()), wanted.width);
     let precision = if wanted.single { "single" } else { "double" };
-    let mut sheet = Sheet::open(out, &name, precision, &view, wanted.most_strokes)?;
+    let mut sheet = Sheet::open(out, &name, Coordinates { precision, origin: wanted.origin }, &view, wanted.most_strokes)?;
     let mut zeros = Zeros::default();
     // What failed was said the first time.
     let mut hatch = |item: &Item| wanted.figure(item, &mut zeros).ok().flatten();
@@ -215,14 +224,9 @@ fn ways_to(first: &Seen) -> String {
     }
 }
 
-/// The hatch, with the numbers of its outlines narrowed if it is to be seen in single precision.
-fn typed(request: &HatchRequest, zeros: &mut Zeros, single: bool) -> Result<TypedHatch, Refusal> {
-    let body = request.body(zeros);
-    let mut read: ReadHatch = lists(&body, request.lent, |numbers, words| body.decode_into(numbers, words))?;
-    if single {
-        read.numbers.iter_mut().for_each(|number| *number = f64::from(*number as f32));
-    }
-    Ok(body.typed(read).expect(OUTSIDE))
+/// Every number in single precision.
+fn narrow(numbers: &mut [f64]) {
+    numbers.iter_mut().for_each(|number| *number = f64::from(*number as f32));
 }
 
 #[cfg(test)]

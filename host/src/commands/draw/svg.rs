@@ -58,10 +58,20 @@ pub struct Shown {
     pub first_flood: Option<Seen>,
 }
 
+/// What a picture's coordinates are.
+#[derive(Clone, Copy, Debug)]
+pub struct Coordinates {
+    /// What the numbers were narrowed to before they were drawn.
+    pub precision: &'static str,
+    /// The origin that they are counted from, if they were moved.
+    pub origin: Option<Point2D>,
+}
+
 /// A picture that is being written.
 pub struct Sheet<'a, Out> {
     out: Out,
     view: &'a View,
+    origin: Option<Point2D>,
     /// How many strokes of pattern lines may still be drawn.
     strokes_left: usize,
     names: Names,
@@ -69,12 +79,13 @@ pub struct Sheet<'a, Out> {
 }
 
 impl<'a, Out: Write> Sheet<'a, Out> {
-    /// Starts a picture. `precision` is what the coordinates were narrowed to before; of pattern lines so many strokes at most are drawn.
-    pub fn open(mut out: Out, name: &str, precision: &str, view: &'a View, most_strokes: usize) -> io::Result<Sheet<'a, Out>> {
-        let Point2D { x, y } = view.corner();
-        let head = format!("Hatch outlines in {precision} precision. The point ({x:?}, {y:?}) of the drawing is this picture's upper left corner");
+    /// Starts a picture; of pattern lines so many strokes at most are drawn.
+    pub fn open(mut out: Out, name: &str, coordinates: Coordinates, view: &'a View, most_strokes: usize) -> io::Result<Sheet<'a, Out>> {
+        let (Coordinates { precision, origin }, Point2D { x, y }) = (coordinates, view.corner());
+        let moved = origin.map(|Point2D { x, y }| format!(", moved first: coordinates are counted from the point ({x:?}, {y:?})")).unwrap_or_default();
+        let head = format!("Hatch outlines in {precision} precision{moved}. The point ({x:?}, {y:?}) of the drawing is this picture's upper left corner");
         out.write_all(opened(view.width, view.height, name, &format!("{head}, and a unit of it is {:?} pixels here.", view.scale)).as_bytes())?;
-        Ok(Sheet { out, view, strokes_left: most_strokes, names: Names::default(), shown: Shown::default() })
+        Ok(Sheet { out, view, origin, strokes_left: most_strokes, names: Names::default(), shown: Shown::default() })
     }
 
     /// Draws the hatch with this number, if any of it is in view.
@@ -109,7 +120,7 @@ impl<'a, Out: Write> Sheet<'a, Out> {
         if self.shown.hatches == 0 {
             self.out.write_all(note("Nothing of the drawing lies in this view.").as_bytes())?;
         }
-        write!(self.out, "{}{}</svg>\n", self.names.text(), frame::frame(self.view))?;
+        write!(self.out, "{}{}</svg>\n", self.names.text(), frame::frame(self.view, self.origin))?;
         self.out.flush()?;
         Ok(self.shown)
     }

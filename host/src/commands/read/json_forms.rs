@@ -40,8 +40,8 @@ fn asked(item: &Item) -> Vec<Field> {
 pub fn refusal(item: &Item, refusal: &Refusal) -> String {
     let parts = object([
         ("number", refusal.number().to_string()),
-        ("meaning", string(refusal.reason.meaning())),
-        ("advice", string(refusal.reason.advice())),
+        ("meaning", string(refusal.meaning())),
+        ("advice", string(refusal.advice())),
         ("place", refusal.place.to_string()),
         ("second_place", refusal.second_place.to_string()),
     ]);
@@ -79,20 +79,21 @@ pub fn prefix(item: &Item, data: &CommonEntityBits, place: usize) -> String {
     object(asked(item).into_iter().chain(fields))
 }
 
-/// A hatch.
-pub fn hatch(item: &Item, typed: &TypedHatch<u64>) -> String {
+/// A hatch, and the origin that it was moved to, if it was.
+pub fn hatch(item: &Item, typed: &TypedHatch<u64>, origin: Option<Point2D>) -> String {
     let Hatch { gradient, places, .. } = &typed.hatch;
     let fill = gradient.as_ref().zip(typed.gradient_name.as_ref()).map(|(fill, name)| gradient_fill(fill, name));
     let first = [
         ("places", object([("main", places.main.to_string()), ("string", places.string.to_string())])),
         ("gradient", or_null(fill)),
     ];
+    let moved = origin.map(|Point2D { x, y }| ("moved_origin", array([x, y].map(|number| double(number.to_bits())))));
     let last = [
         ("paths", array(typed.paths.iter().map(path))),
         ("pattern_lines", array(typed.pattern_lines.iter().map(pattern_line))),
         ("seed_points", points(&typed.seed_points)),
     ];
-    object(asked(item).into_iter().chain(first).chain(record(&typed.hatch, &typed.pattern_name)).chain(last))
+    object(asked(item).into_iter().chain(first).chain(moved).chain(record(&typed.hatch, &typed.pattern_name)).chain(last))
 }
 
 /// The fields of a hatch's record.

@@ -25,12 +25,15 @@ const FLAGS: [(u32, &str); 5] = [
 ];
 
 /// A hatch, each line with its end.
-pub fn hatch(item: &Item, request: &HatchRequest, typed: &TypedHatch<u64>) -> String {
+pub fn hatch(item: &Item, request: &HatchRequest, typed: &TypedHatch<u64>, origin: Option<Point2D>) -> String {
     let hatch = &typed.hatch;
     let mut page = titled(item, "hatch", request.release, [request.start, hatch.places.main], &request.payload);
     if let Some(strings) = &request.strings {
         let (start, end, length) = (strings.start, strings.end, grouped(strings.payload.bits()));
         page.line("strings", format_args!("bits {start} to {}, of bits {start} to {end}, of {length}", hatch.places.string));
+    }
+    if let Some(Point2D { x, y }) = origin {
+        page.line("origin", format_args!("({x:?}, {y:?}), taken off each coordinate below"));
     }
     if let Some((fill, name)) = hatch.gradient.as_ref().zip(typed.gradient_name.as_ref()) {
         gradient(&mut page, fill, name);

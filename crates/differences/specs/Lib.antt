@@ -1,0 +1,10 @@
+pub mod Rational
+pub mod Signs
+pub mod Sums
+pub mod Rounding
+pub mod Multiples
+pub mod Nearness
+pub mod Difference
+pub mod Limits
+pub mod LimitBits
+pub mod Upright

@@ -1,0 +1,9 @@
+pub mod Moving
+pub mod Doubles
+pub mod MovedLists
+pub mod MovedHatch
+pub mod MovedDoubles
+pub mod Moves
+pub mod MovedExactly
+pub mod Answers
+pub mod Parts

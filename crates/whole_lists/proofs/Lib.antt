@@ -1,0 +1,4 @@
+pub mod Sizes
+pub mod StepLaws
+pub mod Loops
+pub mod Judged

@@ -1,0 +1,31 @@
+-- The three tests of the definition, one by one.
+use Prim.Native.Nat.{ℕ, _<_}
+use native.Mathlib.Omega.{arith}
+use borrow.Author.Tests.{eq-eqb, ne-eqb}
+use Rattle.whole_lists.proofs.is_finished.Statement.{statement}
+use Rattle.whole_lists.proofs.is_finished.Tie as tie
+use Rattle.whole_lists.proofs.is_finished.Reads as reads
+use Rattle.whole_lists.proofs.is_finished.Lts as lts
+
+-- src/lib.rt:47:9
+returns : tie.Need-returns
+returns c =
+    let a = c .before .before .args in
+    rw (ne-eqb (a .at .parts) 0 (omega arith))
+
+-- src/lib.rt:50:9
+returns-2 : tie.Need-returns-2
+returns-2 c =
+    let inner = c .before .before .before in
+    let a = inner .before .args in
+    rw (eq-eqb (a .at .parts) 0 (omega arith), ne-eqb (a .at .paths) 0 (omega arith))
+
+-- src/lib.rt:43:1
+returns-3 : tie.Need-returns-3
+returns-3 c =
+    let inner = c .before .before .before in
+    let a = inner .before .before .args in
+    rw (eq-eqb (a .at .parts) 0 (omega arith), eq-eqb (a .at .paths) 0 (omega arith))
+
+pub is-finished-spec : {M : Type 1} → statement M
+is-finished-spec = tie.close (tie.spec returns returns-2 returns-3)

@@ -1,0 +1,44 @@
+-- What is left picks the step: a part of a path under way, else a path, else a pattern line.
+use native.Mathlib.Omega.{arith}
+use Rattle.whole_lists.proofs.StepLaws.{left-over}
+use borrow.Author.Needs.{needs}
+use Rattle.whole_lists.proofs.next_item.Statement.{statement}
+use Rattle.whole_lists.proofs.next_item.Tie as tie
+use Rattle.whole_lists.proofs.next_item.Reads as reads
+use Rattle.whole_lists.proofs.next_item.Lts as lts
+use Rattle.whole_lists.proofs.line_step.Reads as line-step-reads
+use Rattle.whole_lists.proofs.part_step.Reads as part-step-reads
+use Rattle.whole_lists.proofs.path_step.Reads as path-step-reads
+
+-- src/lib.rt:148:9
+part-step-requires : tie.Need-part-step-requires
+part-step-requires c κs = search needs
+
+-- src/lib.rt:148:9
+returns : tie.Need-returns
+returns c = search needs
+
+-- src/lib.rt:151:9
+path-step-requires : tie.Need-path-step-requires
+path-step-requires c κs = search needs
+
+-- src/lib.rt:151:9
+returns-2 : tie.Need-returns-2
+returns-2 c = search needs
+
+-- src/lib.rt:153:5
+line-step-requires : tie.Need-line-step-requires
+line-step-requires c κs =
+    let inner = c .before .before .before in
+    let entry = inner .before .before in
+    let a = entry .args in
+    (entry .pre .0, (omega arith, (omega arith, left-over (a .at) (entry .pre .1) (omega arith) (omega arith))))
+
+-- src/lib.rt:143:1
+returns-3 : tie.Need-returns-3
+returns-3 c = search needs
+
+pub next-item-spec : {M : Type 1} → statement M
+next-item-spec =
+    tie.close
+    (tie.spec part-step-requires returns path-step-requires returns-2 line-step-requires returns-3)
