@@ -1,5 +1,5 @@
 -- Points with so many numbers from each to the next: one of them judged or moved leaves a run of one point less. Assumes nothing.
-use mathlib.Core.Path.{_≡_, refl, sym, ap, ap₂, _∙_}
+use mathlib.Core.Path.{_≡_, refl, sym, ap, ap₂, subst, _∙_}
 use mathlib.Core.Bool.{Bool, true, false, not, _&&_, and-eq-true-iff, and-true, and-false, and-assoc}
 use mathlib.Core.List.{List, [], _∷_, _++_, append-assoc}
 use Prim.Native.Nat.{ℕ, suc, _+_, _-_, _*_, _^_, _≤_, _<_}
@@ -77,11 +77,24 @@ module _ {A : Type 0} (in-range : A → Bool) (stride : ℕ) (l : List A) where
   judged-all {from} {n} {at} {left} {b} h e =
       sym (h .same ∙ ap (λ m. b && inRangeFrom in-range at (pointRun stride m) l) e ∙ and-true b)
 
-  -- the numbers of the next point are there
-  pub next-there : {from n at left : ℕ} {b : Bool} → Judged in-range stride l from n at left b → (m : ℕ) → left ≡ m + 1 → at + stride + m * stride ≡ from + n * stride
-  next-there {from} {n} {at} {left} h m e =
-      let f : left ≡ suc m = omega (arith, e) in
-      omega (arith, h .reached, ap (λ k. k * stride) f ∙ suc-mul m stride)
+  -- the numbers of the next point are there, and those of the next two
+  next-there : {from n at left : ℕ} {b : Bool} → Judged in-range stride l from n at left b → (m : ℕ) → left ≡ m + 1
+      → at + stride + m * stride ≡ from + n * stride
+  next-there h m e = omega (arith, h .reached, ap (λ k. k * stride) e ∙ ap (λ k. k * stride) (one-more m) ∙ suc-mul m stride)
+    where
+      one-more : (k : ℕ) → k + 1 ≡ suc k
+      one-more k = omega arith
+
+  pub one-there : {from n at left : ℕ} {b : Bool} → Judged in-range stride l from n at left b → 0 < left → at + stride ≤ from + n * stride
+  one-there {from} {n} {at} {left} h lt =
+      let e : left ≡ (left - 1) + 1 = omega (arith, lt) in
+      let there = next-there h (left - 1) e in
+      omega (arith, there)
+
+  pub two-there : {from n at left : ℕ} {b : Bool} → Judged in-range stride l from n at left b → 1 < left → at + stride + stride ≤ from + n * stride
+  two-there {from} {n} {at} {left} h lt =
+      let e : left ≡ suc (suc (left - 2)) = omega (arith, lt) in
+      omega (arith, h .reached, ap (λ k. k * stride) e ∙ suc-mul (suc (left - 2)) stride, suc-mul (left - 2) stride)
 
   module _ (z : A) (two : 2 ≤ stride) where
     one-point : (at n : ℕ) → at + stride ≤ length l → inRangeFrom in-range at (pointRun stride (suc n)) l
@@ -111,6 +124,16 @@ module _ {A : Type 0} (in-range : A → Bool) (stride : ℕ) (l : List A) where
               ∙ ap (λ b. (p && q) && b) (one-point at m (omega (arith, there))) ∙ sym (and-assoc (p && q) (u && v) rest)
               ∙ ap (λ b. b && rest) (apart p q u v ∙ sym (ap₂ (λ b c. b && c) es et));
         }
+
+    pub judged-two : {from n at left : ℕ} (p q s t : Bool) {v w : Bool} → Judged in-range stride l from n at left (p && q) → from + n * stride ≤ length l
+        → 1 < left → s ≡ p && in-range (getD l at z) → t ≡ q && in-range (getD l (at + 1) z)
+        → v ≡ s && in-range (getD l (at + stride) z) → w ≡ t && in-range (getD l (at + stride + 1) z)
+        → Judged in-range stride l from n (at + (stride + stride)) (left - 2) (v && w)
+    judged-two {from} {n} {at} {left} p q s t {v} {w} h room lt es et ev ew =
+        let e : left ≡ (left - 2 + 1) + 1 = omega (arith, lt) in
+        let f : at + stride + stride ≡ at + (stride + stride) = omega arith in
+        subst (λ (k : ℕ). Judged in-range stride l from n k (left - 2) (v && w)) f
+        (judged-next s t (judged-next p q h room (left - 2 + 1) e es et) room (left - 2) refl ev ew)
 
 -- ---- gathered by `|`: the top bit tells whether one of them has it
 pub gathered : (a b : ℕ) → below (bitOr a b) ≡ below a && below b
