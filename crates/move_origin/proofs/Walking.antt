@@ -187,8 +187,9 @@ module _ {A : Type 0} (in-range : A → Bool) (difference : A → A → A) (x₀
       (sym (in-range-behind in-range (p .number) so rs l) ∙ may .coordinates) .1 in
       record { origin = may .origin; coordinates = ap (λ (k : ℕ). inRangeFrom in-range k rs m) (sym at) ∙ ap (allInRange in-range rs) stays ∙ left }
 
-  module _ (seeds : ℕ) {js : List Item} {k : Left} {p q : Place} {m : List A} (room : p .number ≤ length l) (whole : walkAt (finish seeds) ws used p ≡ next js k)
-      (h : MovedSoFar difference x₀ y₀ ws used l p q m) (may : Movable in-range x₀ y₀ (p .number) (rolesAt ws used p seeds) l) where
+  module _ (seeds : ℕ) {js : List Item} {k : Left} {p q : Place} {m : List A} (room : p .number ≤ length l)
+      (whole : walkAt (finish seeds) ws used p ≡ next js k) (h : MovedSoFar difference x₀ y₀ ws used l p q m)
+      (may : Movable in-range x₀ y₀ (p .number) (rolesAt ws used p seeds) l) where
     pub movable-next : {i : Item} {r : Place} → Steps ws used q (Next i r) → Movable in-range x₀ y₀ (q .number) (itemRoles i) m
     movable-next {i} {r} s =
         let all = roles-left ws used seeds p (h .along) whole ∙ ap (λ (rs : List Role). gathered itemRoles (h .along .items) ++ rs)

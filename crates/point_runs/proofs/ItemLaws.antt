@@ -74,7 +74,8 @@ module _ (i : Item) (from : ℕ) where
     module _ {in-range : A → Bool} (may : Movable in-range x₀ y₀ from (itemRoles i) l) where
       two-in-range : (inRangeFrom in-range pointsAt points l ≡ true) × (inRangeFrom in-range fitsAt fits l ≡ true)
       two-in-range =
-          and-eq-true-iff (inRangeFrom in-range pointsAt points l) (inRangeFrom in-range fitsAt fits l) .0 (sym (item-in-range in-range two l) ∙ may .coordinates)
+          and-eq-true-iff (inRangeFrom in-range pointsAt points l) (inRangeFrom in-range fitsAt fits l) .0
+          (sym (item-in-range in-range two l) ∙ may .coordinates)
 
       pub points-movable : Movable in-range x₀ y₀ pointsAt points l
       points-movable = record { origin = may .origin; coordinates = two-in-range .0 }

@@ -17,7 +17,8 @@ add-fits c = search needs
 
 move-points-bits-requires : tie.Need-move-points-bits-requires
 move-points-bits-requires c κs =
-    let entry = c .before .before .before .before in
+    let placed = c .before .before in
+    let entry = placed .before .before in
     let a = entry .args in (
       omega arith,
       entry .pre .0 .from-two,
@@ -28,7 +29,8 @@ move-points-bits-requires-2 : tie.Need-move-points-bits-requires-2
 move-points-bits-requires-2 c κs =
     let first = c .before .before .before in
     let called = first .before in
-    let entry = called .before .before .before .before in
+    let placed = called .before .before in
+    let entry = placed .before .before in
     let a = entry .args in (
       search needs,
       omega arith,
@@ -45,8 +47,8 @@ returns c =
     let between = second .before .before in
     let first = between .before .before in
     let called = first .before in
-    let started = called .before .before in
-    let entry = started .before .before in
+    let placed = called .before .before in
+    let entry = placed .before .before in
     let a = entry .args in
     both-moved (a .i) (a .from) differenceBits (a .x) (a .y) (entry .pre .0 .from-two) (a .numbers .now) (omega arith)
     (first .move-points-bits .ensures) (second .move-points-bits2 .ensures)

@@ -71,7 +71,8 @@ loop-again c =
     let entry = at-loop .before .before in
     let found = at-loop .loop .found in
     let one = first .with-point-bits .result in
-    judged-two isWithinBits (entry .args .stride) (entry .args .numbers .now) 0 (entry .pre .1) (below (found .x)) (below (found .y)) (below (one .x)) (below (one .y))
+    judged-two isWithinBits (entry .args .stride) (entry .args .numbers .now) 0 (entry .pre .1)
+    (below (found .x)) (below (found .y)) (below (one .x)) (below (one .y))
     (at-loop .loop .inv) (entry .pre .0) (in-loop .loop-test .taken)
     (first .with-point-bits .ensures .0) (first .with-point-bits .ensures .1) (c .with-point-bits2 .ensures .0) (c .with-point-bits2 .ensures .1)
 
@@ -92,7 +93,8 @@ returns c =
     let all =
     judged-next isWithinBits (entry .args .stride) (entry .args .numbers .now) 0 (entry .pre .1) (below (found .x)) (below (found .y))
     (at-loop .loop .inv) (entry .pre .0) 0 (tested .if1 .taken) (last .with-point-bits3 .ensures .0) (last .with-point-bits3 .ensures .1) in
-    gathered (last .with-point-bits3 .result .x) (last .with-point-bits3 .result .y) ∙ judged-all isWithinBits (entry .args .stride) (entry .args .numbers .now) all refl
+    gathered (last .with-point-bits3 .result .x) (last .with-point-bits3 .result .y)
+    ∙ judged-all isWithinBits (entry .args .stride) (entry .args .numbers .now) all refl
 
 returns-2 : tie.Need-returns-2 Inv-loop μ-loop
 returns-2 c =
