@@ -1,6 +1,5 @@
 // A hatch's points moved to an origin of the job, across the boundary; thin over crate move_origin.
 // specs/MoveCalls promises that each answer is the call's as numbers; the list is what the call leaves there.
-ghost use mathlib.Core.Path.{_≡_};
 ghost use Rattle.dwg_hatch.specs.MoveCalls.{MovesDoubles, MovesBits};
 use boundary::given;
 use boundary::given::BodyBitsGiven;

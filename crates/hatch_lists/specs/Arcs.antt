@@ -1,10 +1,9 @@
 -- Arcs and ellipses read back from the lists. Assumes nothing.
-use mathlib.Core.Path.{_≡_, refl}
-use mathlib.Core.List.{List, [], _∷_, _++_}
-use Prim.Native.Nat.{ℕ}
+use mathlib.Core.Path.{refl}
+use mathlib.Core.List.{[], _∷_, _++_}
 use Rattle.bitcursor.specs.Format.{Format, pure, _>>=_, relay}
 use Rattle.loads.specs.Bits.{bit}
-use Rattle.hatch_format.specs.Values.{Point, Arc, Ellipse, arc, ellipse}
+use Rattle.hatch_format.specs.Values.{Arc, Ellipse, arc, ellipse}
 use Rattle.hatch_format.specs.Entries.{pointNumbers, edgeNumbers}
 use Rattle.hatch_lists.specs.Lists.{Lists, lists, Stands, stands-then, stands-first, stands-second, between, number, entry, switch}
 use Rattle.hatch_lists.specs.Points.{point}

@@ -4,24 +4,7 @@ use mathlib.Core.Bool.{Bool, true, false}
 use mathlib.Core.List.{List, [], _∷_, _++_}
 use Prim.Native.Nat.{ℕ, zero, suc, _-_}
 use lib.ListN.{length, replicate}
-use Rattle.hatch_format.specs.Values.{
-  Point,
-  Vertex,
-  Fits,
-  unfitted,
-  fitted,
-  Spline,
-  Edge,
-  line,
-  arc,
-  ellipse,
-  spline,
-  Segments,
-  polyline,
-  edges,
-  Path,
-  PatternLine,
-}
+use Rattle.hatch_format.specs.Values.{Point, Vertex, Fits, unfitted, fitted, Edge, line, arc, ellipse, spline, Segments, polyline, edges, Path, PatternLine}
 use Rattle.hatch_lists.specs.declared.Item.{Item}
 use Rattle.hatch_lists.specs.Holding.{Holding}
 use Rattle.hatch_lists.specs.Items.{gathered}

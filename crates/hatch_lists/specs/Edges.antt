@@ -1,8 +1,8 @@
 -- Splines and edges read back from the lists: the kind, and what the kind has; kinds other than 1 to 4 are refused. Assumes nothing.
-use mathlib.Core.Path.{_≡_, refl, sym, ap, subst}
-use mathlib.Core.Bool.{Bool, true, false}
+use mathlib.Core.Path.{_≡_, refl, sym, subst}
+use mathlib.Core.Bool.{Bool}
 use mathlib.Core.List.{List, [], _∷_, _++_}
-use Prim.Native.Nat.{ℕ, zero, suc, _≤_, _<_}
+use Prim.Native.Nat.{ℕ, zero, suc, _≤_}
 use native.Mathlib.Omega.{arith}
 use lib.ListN.{length}
 use Rattle.bitcursor.specs.declared.Refusal.the-variants.{EdgeKind}
@@ -10,15 +10,15 @@ use Rattle.bitcursor.specs.Chains.{Each}
 use Rattle.bitcursor.specs.Format.{Format, pure, refuse, _>>=_, relay}
 use Rattle.loads.specs.Bits.{bit}
 use Rattle.hatch_format.specs.declared.Caps.{Caps}
-use Rattle.hatch_format.specs.Values.{Point, Vertex, Fits, unfitted, fitted, Spline, Edge, line, arc, ellipse, spline}
+use Rattle.hatch_format.specs.Values.{Fits, unfitted, fitted, Spline, Edge, line, arc, ellipse, spline}
 use Rattle.hatch_format.specs.Entries.{every, pointNumbers, vertexNumbers, fitCount, fitNumbers, edgeWords, edgeNumbers}
 use Rattle.hatch_format.specs.Counts.{times}
 use Rattle.hatch_lists.specs.Lists.{Lists, lists, Stands, stands-none, stands-then, stands-first, stands-second, stands-nothing, between}
 use Rattle.hatch_lists.specs.Lists.{word, number, Entry, entry, switch, Count, count}
 use Rattle.hatch_lists.specs.Within.{All, FitsWithin, SplineWithin, EdgeWithin}
 use Rattle.hatch_lists.specs.Points.{each-to, each-from}
-use Rattle.hatch_lists.specs.Points.{PointHeld, point, points-to, points-from, numbers-to, numbers-from, vertex, vertices-to, vertices-from}
-use Rattle.hatch_lists.specs.Arcs.{ArcHeld, arc-edge, EllipseHeld, ellipse-edge}
+use Rattle.hatch_lists.specs.Points.{point, points-to, points-from, numbers-to, numbers-from, vertex, vertices-to, vertices-from}
+use Rattle.hatch_lists.specs.Arcs.{arc-edge, ellipse-edge}
 
 -- ---- fits by their count: none, or so many points and two tangents
 unfoldable pub fits-read : ℕ → Format lists Fits

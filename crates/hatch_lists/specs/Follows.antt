@@ -1,40 +1,19 @@
 -- What paths, pattern lines and a whole holding say of words and of how many numbers are left: the walk of specs/Walks gives their items. So
 -- which numbers stand in the list does not matter to whether it is whole. Assumes nothing.
-use mathlib.Core.Path.{_≡_, refl, sym, ap, ap₂, subst, _∙_}
-use mathlib.Core.Bool.{Bool, true, false}
+use mathlib.Core.Path.{_≡_, refl, sym, ap, _∙_}
 use mathlib.Core.List.{List, [], _∷_, _++_, append-assoc}
 use Prim.Native.Nat.{ℕ, zero, suc}
-use lib.Dec.{leb}
-use lib.ListN.{length}
 use Rattle.bitcursor.specs.Reading.{Out, got, refused, andThen}
 use Rattle.bitcursor.specs.Format.{Format, pure, _>>=_, relay}
-use Rattle.hatch_format.specs.declared.Caps.{Caps}
-use Rattle.hatch_format.specs.Values.{Point, Edge, Segments, polyline, edges, Path, polylined, PatternLine}
+use Rattle.hatch_format.specs.Values.{Path}
 use Rattle.hatch_format.specs.Counts.{times, times-read, summed-read}
 use Rattle.hatch_lists.specs.declared.Item.{Item}
 use Rattle.hatch_lists.specs.Items.{gathered}
-use Rattle.hatch_lists.specs.Lists.{Lists, lists, word, entry, count}
-use Rattle.hatch_lists.specs.Edges.{edge}
-use Rattle.hatch_lists.specs.Paths.{segments, segments-read, path, path-read, pattern-line}
-use Rattle.hatch_lists.specs.Steps.{
-  Step,
-  next,
-  broken,
-  andNext,
-  aWord,
-  aCount,
-  Head,
-  verticesStep,
-  polylineStep,
-  edgesStep,
-  headBy,
-  headStep,
-  handlesStep,
-}
-use Rattle.hatch_lists.specs.Steps.{edgeStep, lineStep}
-use Rattle.hatch_lists.specs.Walks.{Left, leftOf, passIf, passing, stepping, prepend, Walk, itemThen, timesThen, partsThen, pathThen}
-use Rattle.hatch_lists.specs.Says.{left, summary, Says, withNumbers, SaysWords, says-word, says-count, pass-none}
-use Rattle.hatch_lists.specs.SaysItems.{itself, says-edge, verticesItem, says-vertices, says-line}
+use Rattle.hatch_lists.specs.Lists.{Lists, lists}
+use Rattle.hatch_lists.specs.Steps.{Step, next, broken, andNext}
+use Rattle.hatch_lists.specs.Walks.{Left, stepping, prepend, Walk, itemThen, timesThen}
+use Rattle.hatch_lists.specs.Says.{left, summary, Says}
+use Rattle.hatch_lists.specs.SaysItems.{itself}
 
 -- the items of what was read, before those that follow
 abbrev pub itemsThen : {A : Type 0} → (A → List Item) → Out Lists A → (Lists → Step Left (List Item)) → Step Left (List Item)

@@ -1,8 +1,8 @@
 -- The items of paths come one behind the other as the walk of specs/Walks has them. Assumes nothing.
-use mathlib.Core.Path.{_≡_, refl, sym, ap, ap₂, subst, _∙_}
+use mathlib.Core.Path.{_≡_, refl, sym, ap, subst, _∙_}
 use mathlib.Core.Bool.{Bool, true, false}
 use mathlib.Core.List.{List, [], _∷_, _++_}
-use Prim.Native.Nat.{ℕ, zero, suc, _-_}
+use Prim.Native.Nat.{ℕ, suc, _-_}
 use lib.Dec.{leb}
 use lib.ListN.{length}
 use Rattle.bitcursor.specs.Reading.{Out, got, refused, andThen}
@@ -16,24 +16,9 @@ use Rattle.hatch_lists.specs.Lists.{Lists, lists, word, entry, count}
 use Rattle.hatch_lists.specs.Within.{SegmentsWithin}
 use Rattle.hatch_lists.specs.Edges.{edge}
 use Rattle.hatch_lists.specs.Paths.{segments, segments-read, path, path-read}
-use Rattle.hatch_lists.specs.Steps.{
-  Step,
-  next,
-  broken,
-  andNext,
-  aWord,
-  aCount,
-  Head,
-  verticesStep,
-  polylineStep,
-  edgesStep,
-  headBy,
-  headStep,
-  handlesStep,
-  edgeStep,
-}
-use Rattle.hatch_lists.specs.Walks.{Left, leftOf, passIf, passing, stepping, prepend, Walk, itemThen, timesThen, partsThen, pathThen}
-use Rattle.hatch_lists.specs.Says.{left, summary, Says, withNumbers, SaysWords, says-word, says-count, says-as, pass-none}
+use Rattle.hatch_lists.specs.Steps.{Step, next, broken, andNext, aWord, aCount, Head, verticesStep, polylineStep, edgesStep, headBy, handlesStep, edgeStep}
+use Rattle.hatch_lists.specs.Walks.{Left, leftOf, passing, stepping, prepend, Walk, itemThen, timesThen, partsThen, pathThen}
+use Rattle.hatch_lists.specs.Says.{left, summary, Says, withNumbers, SaysWords, says-word, says-count, pass-none}
 use Rattle.hatch_lists.specs.SaysItems.{itself, says-edge, verticesItem, says-vertices}
 use Rattle.hatch_lists.specs.Follows.{itemsThen, Before, prepend-both, before-item, before-then, before-map, before-reads, before-times}
 

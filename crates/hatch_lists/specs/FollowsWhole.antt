@@ -1,30 +1,30 @@
 -- What lists hold says of words and of how many numbers are left: the walk of specs/Walks to the end of both lists gives its items, whatever
 -- the numbers are. Assumes nothing.
-use mathlib.Core.Path.{_≡_, refl, sym, ap, ap₂, subst, _∙_}
+use mathlib.Core.Path.{_≡_, refl, sym, ap, subst, _∙_}
 use mathlib.Core.Bool.{Bool, true, false}
 use mathlib.Core.List.{List, [], _∷_, _++_, append-nil}
-use Prim.Native.Nat.{ℕ, zero, suc, _-_, _*_, _≤_, _<_}
+use Prim.Native.Nat.{ℕ, _-_, _*_, _≤_, _<_}
 use native.Mathlib.Omega.{arith}
 use lib.Dec.{leb, eqb}
 use lib.ListN.{length}
 use borrow.Author.Tests.{leb-true, leb-false, eq-eqb, ne-eqb}
 use Rattle.bitcursor.specs.Reading.{Out, got, refused, andThen}
-use Rattle.bitcursor.specs.Format.{Format, pure, _>>=_, relay}
+use Rattle.bitcursor.specs.Format.{pure, _>>=_, relay}
 use Rattle.hatch_format.specs.declared.Caps.{Caps}
 use Rattle.hatch_format.specs.Values.{Point, Path, PatternLine}
 use Rattle.hatch_format.specs.Counts.{times}
 use Rattle.hatch_lists.specs.declared.Item.{Item}
 use Rattle.hatch_lists.specs.Items.{gathered, pathItems, lineItem, heldItems}
-use Rattle.hatch_lists.specs.Lists.{Lists, lists, listsOf}
+use Rattle.hatch_lists.specs.Lists.{Lists}
 use Rattle.hatch_lists.specs.Points.{point}
 use Rattle.hatch_lists.specs.Paths.{path, pattern-line}
 use Rattle.hatch_lists.specs.Holding.{Holding, holding, holding-read}
 use Rattle.hatch_lists.specs.Whole.{Held, whole, not-whole, atEnd, ended}
-use Rattle.hatch_lists.specs.Steps.{Step, next, broken, andNext, lineStep}
-use Rattle.hatch_lists.specs.Walks.{Left, leftOf, passIf, prepend, Walk, itemThen, timesThen, pathThen, walk, endIf, finish}
+use Rattle.hatch_lists.specs.Steps.{Step, next, broken, lineStep}
+use Rattle.hatch_lists.specs.Walks.{Left, leftOf, passIf, prepend, itemThen, timesThen, pathThen, walk, endIf, finish}
 use Rattle.hatch_lists.specs.Says.{left, summary, any, Fixed, fixed-times}
 use Rattle.hatch_lists.specs.SaysItems.{fixed-point, says-line}
-use Rattle.hatch_lists.specs.Follows.{itemsThen, Before, prepend-both, before-item, before-times}
+use Rattle.hatch_lists.specs.Follows.{itemsThen, before-item, before-times}
 use Rattle.hatch_lists.specs.FollowsPaths.{before-path}
 
 -- the items of what is held, or not whole

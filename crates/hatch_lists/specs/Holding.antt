@@ -1,6 +1,6 @@
 -- All that a hatch's lists hold: its paths, pattern lines and seed points, read back in that order. Assumes nothing.
-use mathlib.Core.Path.{_≡_, refl, sym, ap, subst}
-use mathlib.Core.List.{List, [], _∷_, _++_, append-nil}
+use mathlib.Core.Path.{_≡_, refl, sym, subst}
+use mathlib.Core.List.{List, [], _++_, append-nil}
 use Prim.Native.Nat.{ℕ}
 use lib.ListN.{length}
 use Rattle.bitcursor.specs.Format.{Format, pure, _>>=_, relay}
@@ -10,7 +10,7 @@ use Rattle.hatch_format.specs.Entries.{every, pointNumbers, pathWords, pathNumb
 use Rattle.hatch_format.specs.Counts.{times}
 use Rattle.hatch_lists.specs.Lists.{Lists, lists, Stands, stands-then, stands-first, stands-second, between}
 use Rattle.hatch_lists.specs.Within.{All, PathWithin, LineWithin}
-use Rattle.hatch_lists.specs.Points.{each-to, each-from, PointHeld, point, points-to, points-from}
+use Rattle.hatch_lists.specs.Points.{each-to, each-from, point, points-to, points-from}
 use Rattle.hatch_lists.specs.Paths.{PathHeld, path, LineHeld, pattern-line}
 
 pub record Holding : Type 0 where

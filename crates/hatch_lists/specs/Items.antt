@@ -3,24 +3,7 @@ use mathlib.Core.Bool.{Bool, true, false}
 use mathlib.Core.List.{List, [], _∷_, _++_}
 use Prim.Native.Nat.{ℕ, zero, suc, _+_, _*_}
 use lib.ListN.{length}
-use Rattle.hatch_format.specs.Values.{
-  Point,
-  Vertex,
-  Fits,
-  unfitted,
-  fitted,
-  Spline,
-  Edge,
-  line,
-  arc,
-  ellipse,
-  spline,
-  Segments,
-  polyline,
-  edges,
-  Path,
-  PatternLine,
-}
+use Rattle.hatch_format.specs.Values.{Edge, line, arc, ellipse, spline, Segments, polyline, edges, Path, PatternLine}
 use Rattle.hatch_format.specs.Entries.{fitCount}
 use Rattle.hatch_lists.specs.declared.Item.{Item}
 use Rattle.hatch_lists.specs.Holding.{Holding}

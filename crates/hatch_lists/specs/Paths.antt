@@ -1,21 +1,20 @@
 -- Paths and pattern lines read back from the lists, and all that a hatch's lists hold. Assumes nothing.
-use mathlib.Core.Path.{_≡_, refl, sym, ap, subst}
+use mathlib.Core.Path.{refl, sym, subst}
 use mathlib.Core.Bool.{Bool, true, false}
 use mathlib.Core.List.{List, [], _∷_, _++_, append-nil}
-use Prim.Native.Nat.{ℕ, _≤_}
+use Prim.Native.Nat.{ℕ}
 use lib.ListN.{length}
-use Rattle.bitcursor.specs.Chains.{Each}
 use Rattle.bitcursor.specs.Format.{Format, pure, _>>=_, relay}
 use Rattle.loads.specs.Bits.{bit}
 use Rattle.hatch_format.specs.declared.Caps.{Caps}
-use Rattle.hatch_format.specs.Values.{Point, Vertex, Edge, Segments, polyline, edges, Path, polylined, PatternLine}
+use Rattle.hatch_format.specs.Values.{Segments, polyline, edges, Path, polylined, PatternLine}
 use Rattle.hatch_format.specs.Entries.{every, pointNumbers, vertexNumbers, edgeWords, edgeNumbers, segmentWords, segmentNumbers, pathWords, pathNumbers}
 use Rattle.hatch_format.specs.Entries.{lineWords, lineNumbers}
 use Rattle.hatch_format.specs.Counts.{times}
 use Rattle.hatch_lists.specs.Lists.{Lists, lists, Stands, stands-then, stands-first, stands-second, between}
 use Rattle.hatch_lists.specs.Lists.{word, number, entry, switch, Count, count}
-use Rattle.hatch_lists.specs.Within.{All, VertexWithin, EdgeWithin, SegmentsWithin, PathWithin, LineWithin}
-use Rattle.hatch_lists.specs.Points.{each-to, each-from, point, points-to, points-from, numbers-to, numbers-from, vertex, vertices-to, vertices-from}
+use Rattle.hatch_lists.specs.Within.{SegmentsWithin, PathWithin, LineWithin}
+use Rattle.hatch_lists.specs.Points.{point, numbers-to, numbers-from, vertex, vertices-to, vertices-from}
 use Rattle.hatch_lists.specs.Edges.{edge, edges-to, edges-from}
 
 module _ (caps : Caps) where

@@ -1,17 +1,14 @@
 -- Points, vertices, arcs and ellipses read back from the lists. Assumes nothing.
 use mathlib.Core.Path.{_≡_, refl, sym, ap, subst}
 use mathlib.Core.Bool.{Bool, true, false}
-use mathlib.Core.List.{List, [], _∷_, _++_}
+use mathlib.Core.List.{List, [], _∷_}
 use Prim.Native.Nat.{ℕ}
-use lib.ListN.{length}
 use Rattle.bitcursor.specs.Chains.{Each}
 use Rattle.bitcursor.specs.Format.{Format, pure, _>>=_, relay}
-use Rattle.loads.specs.Bits.{bit}
-use Rattle.hatch_format.specs.Values.{Point, Vertex, Arc, Ellipse, arc, ellipse}
-use Rattle.hatch_format.specs.Entries.{every, pointNumbers, vertexNumbers, edgeWords, edgeNumbers}
-use Rattle.hatch_format.specs.Counts.{times}
+use Rattle.hatch_format.specs.Values.{Point, Vertex}
+use Rattle.hatch_format.specs.Entries.{every, pointNumbers, vertexNumbers}
 use Rattle.hatch_lists.specs.Lists.{Lists, lists, Stands, stands-none, stands-then, stands-first, stands-second, stands-nothing, between}
-use Rattle.hatch_lists.specs.Lists.{word, number, Entry, entry, Switch, switch}
+use Rattle.hatch_lists.specs.Lists.{number, Entry, entry}
 use Rattle.hatch_lists.specs.Within.{All, VertexWithin}
 
 -- ---- the items of a list: what each has stands one behind the other. `L` is an item's layout, `P` what is asked of it, and `ws` and `ns` its entries

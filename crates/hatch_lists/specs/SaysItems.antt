@@ -1,8 +1,7 @@
 -- What edges, vertices and pattern lines say of words and of how many numbers are left: the items of specs/Items, by the steps of specs/Steps.
 -- Assumes nothing.
-use mathlib.Core.Path.{_≡_, refl, sym, ap, ap₂, subst, _∙_}
+use mathlib.Core.Path.{_≡_, refl, ap, subst, _∙_}
 use mathlib.Core.Bool.{Bool, true, false}
-use mathlib.Core.List.{List, [], _∷_}
 use Prim.Native.Nat.{ℕ, zero, suc, _+_, _*_}
 use native.Mathlib.Nat.{mul-one}
 use native.Mathlib.Omega.{arith}
@@ -10,25 +9,7 @@ use lib.ListN.{length}
 use Rattle.bitcursor.specs.Reading.{got}
 use Rattle.bitcursor.specs.Format.{Format, pure, refuse, _>>=_, relay}
 use Rattle.hatch_format.specs.declared.Caps.{Caps}
-use Rattle.hatch_format.specs.Values.{
-  Point,
-  Vertex,
-  Arc,
-  Ellipse,
-  Fits,
-  unfitted,
-  Spline,
-  Edge,
-  line,
-  arc,
-  ellipse,
-  spline,
-  Segments,
-  polyline,
-  edges,
-  PatternLine,
-}
-use Rattle.hatch_format.specs.Entries.{fitCount}
+use Rattle.hatch_format.specs.Values.{Arc, Ellipse, unfitted, Spline, Edge, line, arc, ellipse, spline, Segments, polyline, edges, PatternLine}
 use Rattle.hatch_format.specs.Counts.{times}
 use Rattle.hatch_lists.specs.declared.Item.{Item}
 use Rattle.hatch_lists.specs.Items.{

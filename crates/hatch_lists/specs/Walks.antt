@@ -6,8 +6,8 @@ use Prim.Native.Nat.{ℕ, zero, suc, _-_, _*_}
 use lib.Dec.{leb, eqb}
 use Rattle.hatch_format.specs.declared.Caps.{Caps}
 use Rattle.hatch_lists.specs.declared.Item.{Item}
-use Rattle.hatch_lists.specs.Items.{no-item, itemSize}
-use Rattle.hatch_lists.specs.Steps.{Step, next, broken, andNext, Head, edgeStep, handlesStep, headStep, lineStep}
+use Rattle.hatch_lists.specs.Items.{itemSize}
+use Rattle.hatch_lists.specs.Steps.{Step, next, broken, andNext, edgeStep, handlesStep, headStep, lineStep}
 
 -- what is left: words, and how many numbers
 pub record Left : Type 0 where

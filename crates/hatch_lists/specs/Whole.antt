@@ -1,19 +1,18 @@
 -- When a record and its lists are whole, and what they then hold. Assumes nothing.
-use mathlib.Core.Path.{_≡_, refl, sym, ap, ap₂, subst, _∙_}
+use mathlib.Core.Path.{_≡_}
 use mathlib.Core.Bool.{Bool, true, false, _&&_}
-use mathlib.Core.List.{List, [], _∷_, _++_, append-nil}
+use mathlib.Core.List.{List, [], _∷_}
 use Prim.Native.Nat.{ℕ, _≤_}
 use lib.Dec.{leb}
 use lib.ListN.{length, take}
-use borrow.Author.Tests.{le-leb, leb-true}
 use Rattle.loads.specs.Bits.{bit}
 use Rattle.bitcursor.specs.Reading.{Out, got, refused}
 use Rattle.hatch_format.specs.declared.Hatch.{Hatch}
 use Rattle.hatch_format.specs.declared.HatchBits.{HatchBits}
 use Rattle.hatch_format.specs.Caps.{documentCaps}
 use Rattle.hatch_lists.specs.declared.HatchCounts.{HatchCounts}
-use Rattle.hatch_lists.specs.Lists.{Lists, listsOf, Stands}
-use Rattle.hatch_lists.specs.Holding.{Holding, heldWords, heldNumbers, HoldingWithin, Numbered, HoldingHeld, holding}
+use Rattle.hatch_lists.specs.Lists.{Lists, listsOf}
+use Rattle.hatch_lists.specs.Holding.{Holding, heldWords, heldNumbers, HoldingWithin, Numbered, holding}
 
 -- ---- what a record says of its lists: that of a call over 64 bits, and that of one over f64
 abbrev pub countsOfBits : HatchBits → HatchCounts

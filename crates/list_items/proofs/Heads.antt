@@ -1,7 +1,7 @@
 -- What the words of a path's head say: the four words of a polyline behind its flags, and flags by their value 2. Assumes nothing.
-use mathlib.Core.Path.{_≡_, refl, sym, ap, ap₂, subst, _∙_}
+use mathlib.Core.Path.{_≡_, refl, sym, ap, _∙_}
 use mathlib.Core.Bool.{Bool, true, false, _&&_}
-use mathlib.Core.List.{List, [], _∷_}
+use mathlib.Core.List.{List, _∷_}
 use Prim.Native.Nat.{ℕ, zero, suc, _+_, _-_, _≤_, _<_}
 use native.Mathlib.Omega.{arith}
 use lib.Dec.{leb}
@@ -11,7 +11,7 @@ use Rattle.hatch_format.specs.Caps.{documentCaps}
 use Rattle.hatch_format.specs.Values.{polylined}
 use Rattle.hatch_lists.specs.declared.Item.{Item}
 use Rattle.hatch_lists.specs.Items.{item, polylineItem}
-use Rattle.hatch_lists.specs.Steps.{Step, next, broken, andNext, aSwitch, countIf, aCount, Head, verticesStep, polylineStep, edgesStep, headBy, headStep}
+use Rattle.hatch_lists.specs.Steps.{Step, next, broken, andNext, aSwitch, aCount, Head, verticesStep, polylineStep, edgesStep, headBy, headStep}
 use Rattle.list_items.specs.Found.{Small, FindsHead, polylineWords}
 use Rattle.list_items.specs.declared.HeadAt.{HeadAt}
 use Rattle.list_items.specs.declared.HeadAt.the-variants.{Found as FoundHead, Broken as BrokenHead}

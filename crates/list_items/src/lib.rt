@@ -2,12 +2,9 @@
 // An item is an edge, a path's head, a handle count or a pattern line; words that are missing, and words that no hatch has, are not whole.
 // specs/ promise of each that it is crate hatch_lists' step from the index on, and the index of the word behind it.
 ghost use mathlib.Core.Path.{_≡_};
-ghost use mathlib.Core.Bool.{_&&_};
 ghost use Prim.Native.Nat.{_+_, _^_, _≤_, _<_};
-ghost use lib.Dec.{leb};
 ghost use lib.ListN.{length, getD};
 ghost use Rattle.hatch_format.specs.Caps.{documentCaps};
-ghost use Rattle.hatch_format.specs.Values.{polylined};
 ghost use Rattle.hatch_lists.specs.Items.{item, tangentNumbers};
 ghost use Rattle.hatch_lists.specs.Steps.{turnedStep, splineStep, edgeStep, handlesStep, polylineStep, edgesStep, headStep, lineStep};
 ghost use Rattle.list_items.specs.Found.{Finds, FindsHead, splineWords, polylineWords};

@@ -1,6 +1,6 @@
 -- From what the tests say to the definition's outcome: whole lists hold a hatch, whose roles the walk finds; then extrusion, origin and coordinates decide.
 -- Assumes nothing.
-use mathlib.Core.Path.{_≡_, refl, sym, ap, subst, _∙_}
+use mathlib.Core.Path.{_≡_, refl, sym, ap, _∙_}
 use mathlib.Core.Bool.{Bool, true, false, _&&_}
 use mathlib.Core.List.{List, [], _++_}
 use Prim.Native.Nat.{ℕ, _≤_}
@@ -10,14 +10,12 @@ use Rattle.hatch_format.specs.Caps.{documentCaps}
 use Rattle.hatch_lists.specs.declared.HatchCounts.{HatchCounts}
 use Rattle.hatch_lists.specs.Items.{gathered, pointsItem, heldItems}
 use Rattle.hatch_lists.specs.Holding.{Holding}
-use Rattle.hatch_lists.specs.Whole.{Held, whole, not-whole, Fitting, heldIf, held, Whole}
+use Rattle.hatch_lists.specs.Whole.{Held, whole, not-whole, heldIf, held}
 use Rattle.hatch_lists.specs.WholeLaws.{fits-fitting, held-whole}
 use Rattle.hatch_lists.specs.Coordinates.{Role, itemRoles, heldRoles}
 use Rattle.hatch_lists.specs.CoordinateLaws.{roles-of-items}
-use Rattle.hatch_lists.specs.Steps.{next}
-use Rattle.hatch_lists.specs.Walks.{leftOf, finish}
+use Rattle.hatch_lists.specs.Walks.{leftOf}
 use Rattle.hatch_lists.specs.FollowsWhole.{itemsHeld}
-use Rattle.whole_lists.specs.Stepped.{walkAt}
 use Rattle.whole_lists.specs.Ended.{isHeld, Judges}
 use Rattle.whole_lists.proofs.Judged.{items-walk}
 use Rattle.moved_hatch.specs.declared.MoveRefusal.the-variants.{ListsNotWhole, OtherPlane, CoordinateOutOfRange}

@@ -3,7 +3,7 @@
 use mathlib.Core.Path.{_≡_, refl, sym, ap, subst, _∙_}
 use mathlib.Core.Bool.{Bool, true, false, _&&_, and-eq-true-iff}
 use mathlib.Core.List.{List, [], _∷_, _++_, append-assoc, append-nil}
-use Prim.Native.Nat.{ℕ, zero, suc, _+_, _-_, _*_, _≤_}
+use Prim.Native.Nat.{ℕ, _+_, _-_, _*_, _≤_}
 use native.Mathlib.Omega.{arith}
 use lib.Dec.{eqb}
 use borrow.Author.Tests.{eqb-true}
@@ -14,7 +14,7 @@ use Rattle.hatch_lists.specs.Within.{All}
 use Rattle.hatch_lists.specs.Coordinates.{Role, itemRoles}
 use Rattle.hatch_lists.specs.CoordinateLaws.{item-size, gathered-append}
 use Rattle.hatch_lists.specs.Steps.{Step as Walked, next, broken}
-use Rattle.hatch_lists.specs.Walks.{Left, leftOf, prepend, endIf, finish}
+use Rattle.hatch_lists.specs.Walks.{Left, prepend, endIf, finish}
 use Rattle.list_items.specs.Found.{Small}
 use Rattle.whole_lists.specs.declared.Place.{Place}
 use Rattle.whole_lists.specs.declared.Step.{Step}

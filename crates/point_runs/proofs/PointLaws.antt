@@ -7,11 +7,10 @@ use native.Mathlib.Nat.{sub-zero, suc-mul}
 use native.Mathlib.Omega.{arith}
 use lib.Bits.{bitOr, or-lt, or-add-and, and-le-l, and-le-r}
 use borrow.Author.Tests.{lt-ltb, le-ltb, ltb-true, ltb-false}
-use lib.ListN.{length, getD, set, take, drop, take-append-drop, length-drop, length-set, length-replicate}
-use lib.Seq.{drop-cons, getD-set-other, getD-drop, sets-eq, drop-set-lt}
+use lib.ListN.{length, getD, set, take, drop, take-append-drop, length-set, length-replicate}
+use lib.Seq.{drop-cons, getD-set-other, sets-eq, drop-set-lt}
 use Rattle.differences.specs.Limits.{below}
-use Rattle.hatch_lists.specs.Coordinates.{Role, x, y, other, others, pointRun}
-use Rattle.hatch_lists.specs.CoordinateLaws.{run-long}
+use Rattle.hatch_lists.specs.Coordinates.{Role, x, y, others, pointRun}
 use Rattle.moved_hatch.specs.Moving.{moved, allInRange}
 use Rattle.moved_hatch.specs.MovedLists.{moved-others}
 use Rattle.moved_hatch.specs.Parts.{movedFrom, inRangeFrom}

@@ -1,11 +1,11 @@
 -- Where the walk ends tells whether a record and its lists are whole, and where a path ends: hatch_lists' laws of the walk, at its end. Assumes nothing.
-use mathlib.Core.Path.{_≡_, refl, sym, ap, ap₂, subst, _∙_}
+use mathlib.Core.Path.{_≡_, refl, sym, ap, ap₂, _∙_}
 use mathlib.Core.Bool.{Bool, true, false, _&&_}
-use mathlib.Core.List.{List, [], _∷_}
-use Prim.Native.Nat.{ℕ, zero, suc, _+_, _-_, _*_, _≤_, _<_}
+use mathlib.Core.List.{List, []}
+use Prim.Native.Nat.{ℕ, _-_, _*_, _≤_}
 use native.Mathlib.Omega.{arith}
 use lib.Dec.{leb, eqb}
-use lib.ListN.{length, take, drop, length-take, length-drop}
+use lib.ListN.{length, take, drop, length-drop}
 use lib.Seq.{length-take-le, drop-cons, drop-length}
 use borrow.Author.Tests.{leb-true, leb-false}
 use Rattle.bitcursor.specs.Reading.{Out, got, refused}
@@ -16,11 +16,10 @@ use Rattle.hatch_lists.specs.declared.Item.{Item}
 use Rattle.hatch_lists.specs.Items.{pathItems}
 use Rattle.hatch_lists.specs.Lists.{Lists, listsOf}
 use Rattle.hatch_lists.specs.Paths.{path}
-use Rattle.hatch_lists.specs.Holding.{holding}
-use Rattle.hatch_lists.specs.Whole.{Held, whole, not-whole, Fitting, fitting, ended, heldIf, held}
+use Rattle.hatch_lists.specs.Whole.{Held, whole, not-whole, Fitting, fitting, heldIf, held}
 use Rattle.hatch_lists.specs.WholeLaws.{fitting-fits}
 use Rattle.hatch_lists.specs.Steps.{Step as Walked, next, broken}
-use Rattle.hatch_lists.specs.Walks.{Left, leftOf, prepend, Walk, here, pathThen, walk, endIf, finish}
+use Rattle.hatch_lists.specs.Walks.{Left, leftOf, prepend, here, pathThen, walk, endIf, finish}
 use Rattle.hatch_lists.specs.Says.{left}
 use Rattle.hatch_lists.specs.Follows.{itemsThen}
 use Rattle.hatch_lists.specs.FollowsPaths.{before-path}

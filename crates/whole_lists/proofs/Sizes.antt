@@ -1,6 +1,5 @@
 -- An item within document 01's caps has few numbers. Assumes nothing.
-use mathlib.Core.Path.{_≡_}
-use Prim.Native.Nat.{ℕ, _*_, _≤_}
+use Prim.Native.Nat.{_*_, _≤_}
 use native.Mathlib.Nat.{le-trans, mul-le-mul-left, mul-le-mul-right}
 use Rattle.hatch_lists.specs.declared.Item.{Item}
 use Rattle.list_items.specs.Found.{Small}

@@ -1,20 +1,20 @@
 -- A step of the walk, from what was found at its word: the item's numbers are there and the walk goes on behind them, or it breaks off. Assumes nothing.
-use mathlib.Core.Path.{_≡_, refl, sym, ap, subst, _∙_}
+use mathlib.Core.Path.{_≡_, refl, ap, subst, _∙_}
 use mathlib.Core.Bool.{Bool, true, false, _&&_}
 use mathlib.Core.List.{List, [], _∷_}
 use Prim.Native.Nat.{ℕ, zero, suc, _+_, _-_, _≤_, _<_}
 use native.Mathlib.Omega.{arith}
 use lib.Dec.{leb, eqb}
-use lib.ListN.{length, drop}
+use lib.ListN.{drop}
 use borrow.Author.Tests.{leb-true}
 use Rattle.hatch_format.specs.Caps.{documentCaps}
 use Rattle.hatch_lists.specs.declared.Item.{Item}
 use Rattle.hatch_lists.specs.Items.{itemSize}
 use Rattle.hatch_lists.specs.Steps.{Step as Walked, next, broken, andNext, Head, handlesStep, edgeStep, headStep, lineStep}
-use Rattle.hatch_lists.specs.Walks.{Left, leftOf, passIf as passLeft, passing, stepping, prepend, Walk, itemThen, timesThen, partsThen, pathThen, walk}
+use Rattle.hatch_lists.specs.Walks.{Left, leftOf, passIf as passLeft, passing, stepping, prepend, Walk, itemThen, partsThen, pathThen, walk}
 use Rattle.whole_lists.specs.declared.Place.{Place}
 use Rattle.whole_lists.specs.declared.Step.{Step}
-use Rattle.whole_lists.specs.declared.Step.the-variants.{Next, Broken}
+use Rattle.whole_lists.specs.declared.Step.the-variants.{Broken}
 use Rattle.list_items.specs.declared.ItemAt.{ItemAt}
 use Rattle.list_items.specs.declared.ItemAt.the-variants.{Found, Broken as NotFound}
 use Rattle.list_items.specs.declared.HeadAt.{HeadAt}

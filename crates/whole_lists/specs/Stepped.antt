@@ -8,7 +8,7 @@ use lib.ListN.{length, drop}
 use Rattle.hatch_format.specs.Caps.{documentCaps}
 use Rattle.hatch_lists.specs.declared.Item.{Item}
 use Rattle.hatch_lists.specs.Items.{itemSize}
-use Rattle.hatch_lists.specs.Steps.{Step as Walked, next, broken}
+use Rattle.hatch_lists.specs.Steps.{Step as Walked, broken}
 use Rattle.hatch_lists.specs.Walks.{Left, leftOf, prepend, Walk, walk}
 use Rattle.whole_lists.specs.declared.Place.{Place}
 use Rattle.whole_lists.specs.declared.Step.{Step}

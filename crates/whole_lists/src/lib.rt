@@ -2,7 +2,7 @@
 // One walk over the words, on any record and any lists; numbers are counted and not looked at.
 // specs/ promise whole exactly where crate hatch_lists reads the lists to their ends, and of each step that it is that of the walk defined there.
 ghost use mathlib.Core.Path.{_≡_};
-ghost use mathlib.Core.Bool.{true, false};
+ghost use mathlib.Core.Bool.{false};
 ghost use Prim.Native.Nat.{_≤_, _<_};
 ghost use lib.ListN.{length};
 ghost use Rattle.hatch_lists.specs.Items.{itemSize};

@@ -1,25 +1,18 @@
 -- The kind picks what the definition reads one word further on; no word and other kinds are not whole.
-use mathlib.Core.Path.{_≡_, refl, sym, ap, _∙_}
-use mathlib.Core.List.{List, []}
-use Prim.Native.Nat.{ℕ, _+_, _-_, _≤_, _<_}
+use mathlib.Core.Path.{_≡_, ap, _∙_}
+use Prim.Native.Nat.{ℕ, _+_, _-_}
 use native.Mathlib.Omega.{arith}
-use lib.ListN.{length, getD, drop}
+use lib.ListN.{drop}
 use denote.Ref.{now}
 use Rattle.hatch_format.specs.Caps.{documentCaps}
 use Rattle.hatch_lists.specs.Items.{pointsItem}
-use Rattle.hatch_lists.specs.Steps.{Step, next, broken, edgeStep, edgeBy}
+use Rattle.hatch_lists.specs.Steps.{edgeStep, edgeBy}
 use Rattle.list_items.specs.Found.{Small}
 use Rattle.list_items.proofs.Words.{no-word}
 use Rattle.list_items.proofs.Finds.{found, edge-of, edge-behind, edge-none}
 use borrow.Author.Needs.{needs}
 use Rattle.list_items.proofs.edge_item.Statement.{statement}
 use Rattle.list_items.proofs.edge_item.Tie as tie
-use Rattle.list_items.proofs.edge_item.Reads as reads
-use Rattle.list_items.proofs.edge_item.Lts as lts
-use Rattle.list_items.proofs.item.Reads as item-reads
-use Rattle.list_items.proofs.spline_item.Reads as spline-item-reads
-use Rattle.list_items.proofs.turned_item.Reads as turned-item-reads
-use Rattle.list_items.proofs.word.Reads as word-reads
 
 returns : tie.Need-returns
 returns c =

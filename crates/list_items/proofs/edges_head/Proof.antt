@@ -1,23 +1,18 @@
 -- A word within the cap is the definition's count of edges, and so many parts and one more follow.
-use mathlib.Core.Path.{_≡_, refl, sym, ap, _∙_}
-use mathlib.Core.List.{List, []}
-use Prim.Native.Nat.{ℕ, suc, _+_, _-_, _≤_, _<_}
+use mathlib.Core.Path.{_≡_, ap}
+use Prim.Native.Nat.{ℕ, suc, _+_, _-_}
 use native.Mathlib.Omega.{arith}
-use lib.ListN.{length, getD, drop}
+use lib.ListN.{getD, drop}
 use denote.Ref.{now}
 use Rattle.hatch_format.specs.Caps.{documentCaps}
 use Rattle.hatch_lists.specs.Items.{item, no-item}
-use Rattle.hatch_lists.specs.Steps.{Step, next, broken, andNext, edgesStep}
+use Rattle.hatch_lists.specs.Steps.{next, edgesStep}
 use Rattle.list_items.proofs.Words.{no-word, count-broken, count-found}
 use Rattle.list_items.proofs.Finds.{no-item-small, found-head}
 use Rattle.list_items.proofs.Heads.{headOf}
 use borrow.Author.Needs.{needs}
 use Rattle.list_items.proofs.edges_head.Statement.{statement}
 use Rattle.list_items.proofs.edges_head.Tie as tie
-use Rattle.list_items.proofs.edges_head.Reads as reads
-use Rattle.list_items.proofs.edges_head.Lts as lts
-use Rattle.list_items.proofs.item.Reads as item-reads
-use Rattle.list_items.proofs.word.Reads as word-reads
 
 returns : tie.Need-returns
 returns c =

@@ -1,25 +1,18 @@
 -- The flags' value 2 picks the definition's polyline or its edges, one word further on.
-use mathlib.Core.Path.{_≡_, refl, sym, ap, _∙_}
-use mathlib.Core.List.{List, []}
-use Prim.Native.Nat.{ℕ, _+_, _-_, _/_, _%_, _≤_, _<_}
+use mathlib.Core.Path.{_≡_, ap}
+use Prim.Native.Nat.{_-_, _/_, _%_}
 use native.Mathlib.Omega.{arith}
-use lib.ListN.{length, getD, drop}
 use denote.Ref.{now}
 use Rattle.hatch_format.specs.Caps.{documentCaps}
-use mathlib.Core.Bool.{Bool, true, false}
+use mathlib.Core.Bool.{true, false}
 use Rattle.hatch_format.specs.Values.{polylined}
-use Rattle.hatch_lists.specs.Steps.{Step, next, broken, headStep, headBy, polylineStep, edgesStep}
+use Rattle.hatch_lists.specs.Steps.{headStep}
 use borrow.Author.Tests.{eq-eqb, ne-eqb}
 use Rattle.list_items.proofs.Words.{no-word}
 use Rattle.list_items.proofs.Heads.{head-polyline, head-edges}
 use borrow.Author.Needs.{needs}
 use Rattle.list_items.proofs.path_head.Statement.{statement}
 use Rattle.list_items.proofs.path_head.Tie as tie
-use Rattle.list_items.proofs.path_head.Reads as reads
-use Rattle.list_items.proofs.path_head.Lts as lts
-use Rattle.list_items.proofs.edges_head.Reads as edges-head-reads
-use Rattle.list_items.proofs.polyline_head.Reads as polyline-head-reads
-use Rattle.list_items.proofs.word.Reads as word-reads
 
 returns : tie.Need-returns
 returns c =

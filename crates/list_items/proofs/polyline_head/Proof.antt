@@ -1,25 +1,17 @@
 -- With four words left the definition reads them one by one; with fewer it breaks off.
-use mathlib.Core.Path.{_≡_, refl, sym, ap, _∙_}
-use mathlib.Core.List.{List, []}
-use Prim.Native.Nat.{ℕ, _+_, _-_, _≤_, _<_}
+use mathlib.Core.Path.{sym, _∙_}
+use Prim.Native.Nat.{_+_, _-_}
 use native.Mathlib.Omega.{arith}
-use lib.ListN.{length, getD, drop}
 use denote.Ref.{now}
 use Rattle.hatch_format.specs.Caps.{documentCaps}
-use mathlib.Core.Bool.{Bool, true, false, not}
 use borrow.Author.Tests.{not-true, not-false}
 use Rattle.hatch_lists.specs.Items.{item}
-use Rattle.hatch_lists.specs.Steps.{Step, next, broken, polylineStep}
+use Rattle.hatch_lists.specs.Steps.{polylineStep}
 use Rattle.list_items.proofs.Heads.{polyline-short, polyline-yes, polyline-no, polyline-small}
 use Rattle.list_items.proofs.Finds.{found-head}
 use borrow.Author.Needs.{needs}
 use Rattle.list_items.proofs.polyline_head.Statement.{statement}
 use Rattle.list_items.proofs.polyline_head.Tie as tie
-use Rattle.list_items.proofs.polyline_head.Reads as reads
-use Rattle.list_items.proofs.polyline_head.Lts as lts
-use Rattle.list_items.proofs.is_polyline.Reads as is-polyline-reads
-use Rattle.list_items.proofs.item.Reads as item-reads
-use Rattle.list_items.proofs.word.Reads as word-reads
 
 sub-if1 : tie.Need-sub-if1
 sub-if1 c = search needs

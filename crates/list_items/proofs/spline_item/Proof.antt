@@ -1,27 +1,17 @@
 -- With six words left the definition reads them one by one; with fewer it breaks off.
-use mathlib.Core.Path.{_≡_, refl, sym, ap, _∙_}
-use mathlib.Core.List.{List, []}
-use Prim.Native.Nat.{ℕ, _+_, _-_, _≤_, _<_}
+use mathlib.Core.Path.{sym, ap, _∙_}
+use Prim.Native.Nat.{_+_, _-_}
 use native.Mathlib.Omega.{arith}
-use lib.ListN.{length, getD, drop}
 use denote.Ref.{now}
 use Rattle.hatch_format.specs.Caps.{documentCaps}
-use mathlib.Core.Bool.{Bool, true, false, not}
 use borrow.Author.Tests.{not-true, not-false}
-use Rattle.hatch_lists.specs.Items.{item, tangentNumbers}
-use Rattle.hatch_lists.specs.Steps.{Step, next, broken, splineStep}
-use Rattle.list_items.specs.Found.{splineWords}
+use Rattle.hatch_lists.specs.Items.{item}
+use Rattle.hatch_lists.specs.Steps.{splineStep}
 use Rattle.list_items.proofs.Words.{spline-short, spline-yes, spline-no, spline-small}
 use Rattle.list_items.proofs.Finds.{found}
 use borrow.Author.Needs.{needs}
 use Rattle.list_items.proofs.spline_item.Statement.{statement}
 use Rattle.list_items.proofs.spline_item.Tie as tie
-use Rattle.list_items.proofs.spline_item.Reads as reads
-use Rattle.list_items.proofs.spline_item.Lts as lts
-use Rattle.list_items.proofs.is_spline.Reads as is-spline-reads
-use Rattle.list_items.proofs.item.Reads as item-reads
-use Rattle.list_items.proofs.tangent_numbers.Reads as tangent-numbers-reads
-use Rattle.list_items.proofs.word.Reads as word-reads
 
 sub-if1 : tie.Need-sub-if1
 sub-if1 c = search needs

@@ -1,14 +1,11 @@
 -- None without fit points, else two of two numbers.
-use mathlib.Core.Path.{_≡_, refl, sym, ap}
-use Prim.Native.Nat.{ℕ, _+_, _-_, _≤_, _<_}
+use mathlib.Core.Path.{_≡_, refl}
+use Prim.Native.Nat.{ℕ, _-_, _<_}
 use native.Mathlib.Omega.{arith}
 use Rattle.hatch_lists.specs.Items.{tangentNumbers}
 use Prim.Native.Nat.{zero, suc}
-use borrow.Author.Needs.{needs}
 use Rattle.list_items.proofs.tangent_numbers.Statement.{statement}
 use Rattle.list_items.proofs.tangent_numbers.Tie as tie
-use Rattle.list_items.proofs.tangent_numbers.Reads as reads
-use Rattle.list_items.proofs.tangent_numbers.Lts as lts
 
 returns : tie.Need-returns
 returns c = let e : c .before .args .fit-points ≡ 0 = omega arith in rw e

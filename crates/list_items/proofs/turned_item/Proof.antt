@@ -1,22 +1,15 @@
 -- A word that is 0 or 1 is the definition's switch; a missing one and any other are not whole.
-use mathlib.Core.Path.{_≡_, refl, sym, ap, _∙_}
-use mathlib.Core.List.{List, []}
-use Prim.Native.Nat.{ℕ, _+_, _-_, _≤_, _<_}
+use mathlib.Core.Path.{ap}
+use Prim.Native.Nat.{_+_, _-_}
 use native.Mathlib.Omega.{arith}
-use lib.ListN.{length, getD, drop}
 use denote.Ref.{now}
-use Rattle.hatch_format.specs.Caps.{documentCaps}
-use Rattle.hatch_lists.specs.Items.{item, no-item}
-use Rattle.hatch_lists.specs.Steps.{Step, next, broken, andNext, turnedStep}
+use Rattle.hatch_lists.specs.Items.{item}
+use Rattle.hatch_lists.specs.Steps.{turnedStep}
 use Rattle.list_items.proofs.Words.{no-word, switch-broken, switch-found}
 use Rattle.list_items.proofs.Finds.{found}
 use borrow.Author.Needs.{needs}
 use Rattle.list_items.proofs.turned_item.Statement.{statement}
 use Rattle.list_items.proofs.turned_item.Tie as tie
-use Rattle.list_items.proofs.turned_item.Reads as reads
-use Rattle.list_items.proofs.turned_item.Lts as lts
-use Rattle.list_items.proofs.item.Reads as item-reads
-use Rattle.list_items.proofs.word.Reads as word-reads
 
 returns : tie.Need-returns
 returns c =

@@ -1,12 +1,10 @@
 -- The word at the index, which is below 2 ^ 32 as all words are.
-use mathlib.Core.Path.{_≡_, refl, sym, ap, _∙_}
-use Prim.Native.Nat.{ℕ, _+_, _-_, _≤_, _<_}
+use mathlib.Core.Path.{refl}
+use Prim.Native.Nat.{_-_}
 use native.Mathlib.Omega.{arith}
 use borrow.Author.Needs.{needs}
 use Rattle.list_items.proofs.word.Statement.{statement}
 use Rattle.list_items.proofs.word.Tie as tie
-use Rattle.list_items.proofs.word.Reads as reads
-use Rattle.list_items.proofs.word.Lts as lts
 
 mul-result : tie.Need-mul-result
 mul-result c = search needs

@@ -1,28 +1,21 @@
 -- The coordinates so far are in range, item by item; at the end of the walk only the seed points are left.
-use mathlib.Core.Path.{_≡_, sym, ap, subst, _∙_}
-use mathlib.Core.Bool.{true, false}
-use Prim.Native.Nat.{ℕ, _+_, _-_, _≤_, _<_}
+use mathlib.Core.Path.{sym, ap, subst, _∙_}
+use Prim.Native.Nat.{_-_}
 use native.Mathlib.Omega.{arith}
 use lib.ListN.{length}
 use denote.Ref.{now}
 use borrow.Author.Needs.{needs}
 use borrow.Author.Tests.{not-true, not-false}
 use Rattle.hatch_lists.specs.declared.Item.{Item}
-use Rattle.hatch_lists.specs.Items.{itemSize, pointsItem}
+use Rattle.hatch_lists.specs.Items.{itemSize}
 use Rattle.hatch_lists.specs.Coordinates.{itemRoles}
 use Rattle.list_items.specs.Found.{Small}
-use Rattle.whole_lists.specs.Stepped.{finished, Steps}
+use Rattle.whole_lists.specs.Stepped.{Steps}
 use Rattle.moved_hatch.specs.Parts.{inRangeFrom}
 use Rattle.differences.specs.Limits.{isWithin}
 use Rattle.move_origin.proofs.Walking.{InRange, in-range-start, in-range-next, in-range-no, in-range-end, never-broken, seeds-room, seeds-small}
 use Rattle.move_origin.proofs.are_within.Statement.{statement}
 use Rattle.move_origin.proofs.are_within.Tie as tie
-use Rattle.move_origin.proofs.are_within.Reads as reads
-use Rattle.move_origin.proofs.are_within.Lts as lts
-use Rattle.move_origin.proofs.seeds_item.Reads as seeds-item-reads
-use Rattle.point_runs.proofs.item_within.Reads as item-within-reads
-use Rattle.whole_lists.proofs.is_finished.Reads as is-finished-reads
-use Rattle.whole_lists.proofs.next_item.Reads as next-item-reads
 
 abbrev Inv-loop : tie.InvT-loop
 Inv-loop words numbers used seeds at₀ at = InRange isWithin words used numbers at₀ at

@@ -1,31 +1,22 @@
 -- The coordinates so far are moved, item by item; at the end of the walk only the seed points are left, and they are moved last.
-use mathlib.Core.Path.{_≡_, sym, ap, subst, _∙_}
-use mathlib.Core.Bool.{true, false}
-use mathlib.Core.List.{List}
-use Prim.Native.Nat.{ℕ, _+_, _-_, _≤_, _<_}
+use mathlib.Core.Path.{sym, ap, subst, _∙_}
+use Prim.Native.Nat.{_-_, _≤_}
 use native.Mathlib.Omega.{arith}
-use lib.Ieee.{Float}
 use lib.ListN.{length}
 use denote.Ref.{now}
 use borrow.Author.Needs.{needs}
 use borrow.Author.Tests.{not-true, not-false}
 use Rattle.hatch_lists.specs.declared.Item.{Item}
-use Rattle.hatch_lists.specs.Items.{itemSize, pointsItem}
+use Rattle.hatch_lists.specs.Items.{itemSize}
 use Rattle.hatch_lists.specs.Coordinates.{itemRoles}
 use Rattle.list_items.specs.Found.{Small}
-use Rattle.whole_lists.specs.Stepped.{finished, Steps}
+use Rattle.whole_lists.specs.Stepped.{Steps}
 use Rattle.moved_hatch.specs.Parts.{movedFrom}
 use Rattle.differences.specs.Difference.{difference}
 use Rattle.point_runs.proofs.PartLaws.{moved-from-length}
 use Rattle.move_origin.proofs.Walking.{MovedSoFar, moved-start, moved-next, moved-end, moved-long, never-broken, seeds-room, seeds-small}
 use Rattle.move_origin.proofs.move_all.Statement.{statement}
 use Rattle.move_origin.proofs.move_all.Tie as tie
-use Rattle.move_origin.proofs.move_all.Reads as reads
-use Rattle.move_origin.proofs.move_all.Lts as lts
-use Rattle.move_origin.proofs.seeds_item.Reads as seeds-item-reads
-use Rattle.point_runs.proofs.move_item.Reads as move-item-reads
-use Rattle.whole_lists.proofs.is_finished.Reads as is-finished-reads
-use Rattle.whole_lists.proofs.next_item.Reads as next-item-reads
 
 abbrev Inv-loop : tie.InvT-loop
 Inv-loop words numbers₀ used seeds x y at₀ numbers at = MovedSoFar difference x y words used numbers₀ at₀ at numbers

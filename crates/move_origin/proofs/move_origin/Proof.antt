@@ -1,9 +1,7 @@
 -- Each test in turn decides the definition's outcome: whole, upright, the origin, every coordinate; only behind all of them are the numbers moved.
 use mathlib.Core.Path.{_≡_, refl, sym, ap, subst, _∙_}
-use mathlib.Core.Bool.{Bool, true, false, _&&_}
+use mathlib.Core.Bool.{Bool, true, _&&_}
 use mathlib.Core.List.{List}
-use Prim.Native.Nat.{ℕ}
-use native.Mathlib.Omega.{arith}
 use lib.Ieee.{Float}
 use lib.ListN.{length, take}
 use lib.Seq.{length-take-le}
@@ -16,7 +14,7 @@ use Rattle.differences.specs.Upright.{isUpright}
 use Rattle.hatch_lists.specs.Coordinates.{Role}
 use Rattle.whole_lists.specs.declared.Place.{Place}
 use Rattle.whole_lists.specs.Ended.{Judges}
-use Rattle.moved_hatch.specs.Moving.{Outcome, outcome, answerOf, after, MovesOrigin}
+use Rattle.moved_hatch.specs.Moving.{Outcome, answerOf, after}
 use Rattle.moved_hatch.specs.Doubles.{ofDoubles}
 use Rattle.moved_hatch.specs.Parts.{movedFrom, inRangeFrom}
 use Rattle.point_runs.proofs.PartLaws.{moved-from-length}
@@ -24,14 +22,6 @@ use Rattle.move_origin.specs.Walked.{startOf, Walks, rolesAt}
 use Rattle.move_origin.proofs.Outcomes.{usedOf, Holds, holds, words-long, refused-11, refused-12, refused-origin, refused-13, moves-all, after-all}
 use Rattle.move_origin.proofs.move_origin.Statement.{statement}
 use Rattle.move_origin.proofs.move_origin.Tie as tie
-use Rattle.move_origin.proofs.move_origin.Reads as reads
-use Rattle.move_origin.proofs.move_origin.Lts as lts
-use Rattle.move_origin.proofs.start_of.Reads as start-of-reads
-use Rattle.move_origin.proofs.are_within.Reads as are-within-reads
-use Rattle.move_origin.proofs.is_origin.Reads as is-origin-reads
-use Rattle.move_origin.proofs.move_all.Reads as move-all-reads
-use Rattle.differences.proofs.is_upright.Reads as is-upright-reads
-use Rattle.whole_lists.proofs.is_whole.Reads as is-whole-reads
 
 is-whole-requires : tie.Need-is-whole-requires
 is-whole-requires c κs = search needs

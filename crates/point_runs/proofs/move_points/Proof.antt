@@ -1,5 +1,4 @@
 -- What is left to move of the list is what the whole moves of the first; each turn moves one point more.
-use mathlib.Core.Path.{_≡_}
 use Prim.Native.Nat.{_-_}
 use native.Mathlib.Omega.{arith}
 use lib.ListN.{length-set}

@@ -1,6 +1,5 @@
 -- What is left to move of the list is what the whole moves of the first, and is in range; each turn moves one point more.
-use mathlib.Core.Path.{_≡_}
-use mathlib.Core.Bool.{true, and-eq-true-iff}
+use mathlib.Core.Bool.{and-eq-true-iff}
 use Prim.Native.Nat.{_-_}
 use native.Mathlib.Omega.{arith}
 use lib.ListN.{length-set}

@@ -1,6 +1,6 @@
 -- What was found so far and the points left decide; each turn takes two points of them, and where one is left it is the last.
-use mathlib.Core.Path.{_≡_, refl, sym, _∙_}
-use mathlib.Core.Bool.{Bool, _&&_}
+use mathlib.Core.Path.{_≡_, refl}
+use mathlib.Core.Bool.{_&&_}
 use native.Mathlib.Omega.{arith}
 use lib.Ieee.{nan}
 use Rattle.differences.specs.Limits.{isWithin}

@@ -1,5 +1,5 @@
 -- One point more: its x with what was found of each x, its y with what was found of each y.
-use mathlib.Core.Path.{_≡_, ap}
+use mathlib.Core.Path.{ap}
 use mathlib.Core.Bool.{Bool, _&&_}
 use borrow.Author.Needs.{needs}
 use Rattle.point_runs.proofs.with_point.Statement.{statement}

@@ -1,5 +1,5 @@
 -- One point more: an "or" is below 2 ^ 63 where both are.
-use mathlib.Core.Path.{_≡_, ap, _∙_}
+use mathlib.Core.Path.{ap, _∙_}
 use mathlib.Core.Bool.{Bool, _&&_}
 use Rattle.differences.specs.Limits.{below}
 use Rattle.point_runs.proofs.PointLaws.{gathered}

@@ -3,8 +3,6 @@ use native.Mathlib.Omega.{arith}
 use borrow.Author.Tests.{le-leb, lt-leb}
 use Rattle.whole_lists.proofs.are_counts.Statement.{statement}
 use Rattle.whole_lists.proofs.are_counts.Tie as tie
-use Rattle.whole_lists.proofs.are_counts.Reads as reads
-use Rattle.whole_lists.proofs.are_counts.Lts as lts
 
 -- src/lib.rt:227:9
 returns : tie.Need-returns

@@ -3,8 +3,6 @@ use native.Mathlib.Omega.{arith}
 use borrow.Author.Tests.{le-leb, lt-leb}
 use Rattle.whole_lists.proofs.are_switches.Statement.{statement}
 use Rattle.whole_lists.proofs.are_switches.Tie as tie
-use Rattle.whole_lists.proofs.are_switches.Reads as reads
-use Rattle.whole_lists.proofs.are_switches.Lts as lts
 
 -- src/lib.rt:214:9
 returns : tie.Need-returns

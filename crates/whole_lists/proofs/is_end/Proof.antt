@@ -1,13 +1,11 @@
 -- The definition's two tests of where a walk ended.
-use mathlib.Core.Path.{_≡_, sym, subst}
+use mathlib.Core.Path.{subst}
 use native.Mathlib.Omega.{arith}
 use borrow.Author.Tests.{le-leb, lt-leb}
 use Rattle.whole_lists.specs.Ended.{EndWithin}
 use borrow.Author.Needs.{needs}
 use Rattle.whole_lists.proofs.is_end.Statement.{statement}
 use Rattle.whole_lists.proofs.is_end.Tie as tie
-use Rattle.whole_lists.proofs.is_end.Reads as reads
-use Rattle.whole_lists.proofs.is_end.Lts as lts
 
 -- src/lib.rt:260:21
 enum-known-end : tie.Need-enum-known-end

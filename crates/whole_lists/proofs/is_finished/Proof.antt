@@ -1,11 +1,8 @@
 -- The three tests of the definition, one by one.
-use Prim.Native.Nat.{ℕ, _<_}
 use native.Mathlib.Omega.{arith}
 use borrow.Author.Tests.{eq-eqb, ne-eqb}
 use Rattle.whole_lists.proofs.is_finished.Statement.{statement}
 use Rattle.whole_lists.proofs.is_finished.Tie as tie
-use Rattle.whole_lists.proofs.is_finished.Reads as reads
-use Rattle.whole_lists.proofs.is_finished.Lts as lts
 
 -- src/lib.rt:47:9
 returns : tie.Need-returns

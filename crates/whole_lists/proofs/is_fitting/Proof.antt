@@ -7,10 +7,6 @@ use Rattle.hatch_lists.specs.Whole.{switches, counted}
 use borrow.Author.Needs.{needs}
 use Rattle.whole_lists.proofs.is_fitting.Statement.{statement}
 use Rattle.whole_lists.proofs.is_fitting.Tie as tie
-use Rattle.whole_lists.proofs.is_fitting.Reads as reads
-use Rattle.whole_lists.proofs.is_fitting.Lts as lts
-use Rattle.whole_lists.proofs.are_counts.Reads as are-counts-reads
-use Rattle.whole_lists.proofs.are_switches.Reads as are-switches-reads
 
 -- src/lib.rt:242:9
 are-switches-requires : tie.Need-are-switches-requires

@@ -1,24 +1,17 @@
 -- A record that fits its lists is whole exactly where the walk over the used parts ends behind the last word and before the seed points.
 use mathlib.Core.Path.{_≡_, sym, _∙_}
-use mathlib.Core.Bool.{true, false}
-use Prim.Native.Nat.{ℕ, _≤_}
+use mathlib.Core.Bool.{true}
 use native.Mathlib.Omega.{arith}
-use lib.ListN.{length, take}
+use lib.ListN.{length}
 use lib.Seq.{length-take-le}
 use denote.Ref.{now}
 use borrow.Author.Tests.{not-true, not-false}
 use Rattle.hatch_lists.specs.Whole.{Fitting, fitting}
 use Rattle.hatch_lists.specs.WholeLaws.{fitting-fits}
-use Rattle.whole_lists.specs.Stepped.{Within}
 use Rattle.whole_lists.proofs.Judged.{judges-no, judges-end, end-within}
 use borrow.Author.Needs.{needs}
 use Rattle.whole_lists.proofs.is_whole.Statement.{statement}
 use Rattle.whole_lists.proofs.is_whole.Tie as tie
-use Rattle.whole_lists.proofs.is_whole.Reads as reads
-use Rattle.whole_lists.proofs.is_whole.Lts as lts
-use Rattle.whole_lists.proofs.is_end.Reads as is-end-reads
-use Rattle.whole_lists.proofs.is_fitting.Reads as is-fitting-reads
-use Rattle.whole_lists.proofs.pass_all.Reads as pass-all-reads
 
 is-fitting-requires : tie.Need-is-fitting-requires
 is-fitting-requires c κs = search needs

@@ -5,8 +5,6 @@ use Rattle.whole_lists.proofs.Sizes.{run-few}
 use borrow.Author.Needs.{needs}
 use Rattle.whole_lists.proofs.item_size.Statement.{statement}
 use Rattle.whole_lists.proofs.item_size.Tie as tie
-use Rattle.whole_lists.proofs.item_size.Reads as reads
-use Rattle.whole_lists.proofs.item_size.Lts as lts
 
 -- src/lib.rt:39:17
 mul-result : tie.Need-mul-result

@@ -1,6 +1,6 @@
 -- The walk begins with a pattern line, and goes on behind what was found.
-use mathlib.Core.Path.{_≡_, refl, sym, ap, subst, _∙_}
-use Prim.Native.Nat.{ℕ, _-_, _≤_, _<_}
+use mathlib.Core.Path.{sym, subst}
+use Prim.Native.Nat.{_-_}
 use native.Mathlib.Omega.{arith}
 use denote.Ref.{now}
 use Rattle.hatch_format.specs.Caps.{documentCaps}
@@ -10,10 +10,6 @@ use Rattle.whole_lists.proofs.StepLaws.{small-at, steps-item, begins-li
 use borrow.Author.Needs.{needs}
 use Rattle.whole_lists.proofs.line_step.Statement.{statement}
 use Rattle.whole_lists.proofs.line_step.Tie as tie
-use Rattle.whole_lists.proofs.line_step.Reads as reads
-use Rattle.whole_lists.proofs.line_step.Lts as lts
-use Rattle.list_items.proofs.line_item.Reads as line-item-reads
-use Rattle.whole_lists.proofs.pass_found.Reads as pass-found-reads
 
 line-item-requires : tie.Need-line-item-requires
 line-item-requires c κs = search needs

@@ -4,11 +4,6 @@ use Rattle.whole_lists.proofs.StepLaws.{left-over}
 use borrow.Author.Needs.{needs}
 use Rattle.whole_lists.proofs.next_item.Statement.{statement}
 use Rattle.whole_lists.proofs.next_item.Tie as tie
-use Rattle.whole_lists.proofs.next_item.Reads as reads
-use Rattle.whole_lists.proofs.next_item.Lts as lts
-use Rattle.whole_lists.proofs.line_step.Reads as line-step-reads
-use Rattle.whole_lists.proofs.part_step.Reads as part-step-reads
-use Rattle.whole_lists.proofs.path_step.Reads as path-step-reads
 
 -- src/lib.rt:148:9
 part-step-requires : tie.Need-part-step-requires

@@ -4,9 +4,6 @@ use Rattle.whole_lists.proofs.Judged.{ends-path}
 use borrow.Author.Needs.{needs}
 use Rattle.whole_lists.proofs.next_path.Statement.{statement}
 use Rattle.whole_lists.proofs.next_path.Tie as tie
-use Rattle.whole_lists.proofs.next_path.Reads as reads
-use Rattle.whole_lists.proofs.next_path.Lts as lts
-use Rattle.whole_lists.proofs.pass_all.Reads as pass-all-reads
 
 -- src/lib.rt:195:5
 pass-all-requires : tie.Need-pass-all-requires

@@ -1,6 +1,6 @@
 -- The walk begins with the last part, a handle count, or with an edge, and goes on behind what was found.
-use mathlib.Core.Path.{_≡_, refl, sym, ap, subst, _∙_}
-use Prim.Native.Nat.{ℕ, _-_, _≤_, _<_}
+use mathlib.Core.Path.{sym, subst}
+use Prim.Native.Nat.{_-_}
 use native.Mathlib.Omega.{arith}
 use denote.Ref.{now}
 use Rattle.hatch_format.specs.Caps.{documentCaps}
@@ -10,11 +10,6 @@ use Rattle.whole_lists.proofs.StepLaws.{small-at, steps-item, begins-ha
 use borrow.Author.Needs.{needs}
 use Rattle.whole_lists.proofs.part_step.Statement.{statement}
 use Rattle.whole_lists.proofs.part_step.Tie as tie
-use Rattle.whole_lists.proofs.part_step.Reads as reads
-use Rattle.whole_lists.proofs.part_step.Lts as lts
-use Rattle.list_items.proofs.edge_item.Reads as edge-item-reads
-use Rattle.list_items.proofs.handles_item.Reads as handles-item-reads
-use Rattle.whole_lists.proofs.pass_found.Reads as pass-found-reads
 
 handles-item-requires : tie.Need-handles-item-requires
 handles-item-requires c κs = search needs

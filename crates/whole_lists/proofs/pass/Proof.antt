@@ -1,5 +1,5 @@
 -- The definition's test, by the size that was summed.
-use mathlib.Core.Path.{_≡_, ap}
+use mathlib.Core.Path.{ap}
 use Prim.Native.Nat.{ℕ, _+_, _-_}
 use native.Mathlib.Omega.{arith}
 use borrow.Author.Tests.{le-leb, lt-leb}
@@ -8,9 +8,6 @@ use Rattle.whole_lists.specs.declared.Step.the-variants.{Next}
 use borrow.Author.Needs.{needs}
 use Rattle.whole_lists.proofs.pass.Statement.{statement}
 use Rattle.whole_lists.proofs.pass.Tie as tie
-use Rattle.whole_lists.proofs.pass.Reads as reads
-use Rattle.whole_lists.proofs.pass.Lts as lts
-use Rattle.whole_lists.proofs.item_size.Reads as item-size-reads
 
 -- src/lib.rt:47:9
 item-size-requires : tie.Need-item-size-requires

@@ -1,6 +1,6 @@
 -- The walk goes on from item to item; where nothing is left, what comes behind it begins there.
-use mathlib.Core.Path.{_≡_, sym, subst, _∙_}
-use Prim.Native.Nat.{ℕ, _-_, _<_}
+use mathlib.Core.Path.{sym, subst, _∙_}
+use Prim.Native.Nat.{_-_}
 use native.Mathlib.Omega.{arith}
 use lib.ListN.{length}
 use denote.Ref.{now}
@@ -10,10 +10,6 @@ use Rattle.whole_lists.specs.Stepped.{Steps}
 use Rattle.whole_lists.proofs.Loops.{Along, along-start, along-next, along-broken, along-end}
 use Rattle.whole_lists.proofs.pass_all.Statement.{statement}
 use Rattle.whole_lists.proofs.pass_all.Tie as tie
-use Rattle.whole_lists.proofs.pass_all.Reads as reads
-use Rattle.whole_lists.proofs.pass_all.Lts as lts
-use Rattle.whole_lists.proofs.is_finished.Reads as is-finished-reads
-use Rattle.whole_lists.proofs.next_item.Reads as next-item-reads
 
 abbrev Inv-loop : tie.InvT-loop
 Inv-loop words numbers at₀ at = Along words numbers at₀ at

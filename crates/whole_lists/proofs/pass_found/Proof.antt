@@ -1,15 +1,10 @@
 -- An item is passed as its numbers are there; without one there is nothing to pass.
-use mathlib.Core.Path.{_≡_, refl, sym, ap, subst, _∙_}
-use Prim.Native.Nat.{ℕ, _-_, _≤_, _<_}
-use native.Mathlib.Omega.{arith}
-use denote.Ref.{now}
+use mathlib.Core.Path.{sym, ap, subst, _∙_}
+use Prim.Native.Nat.{_-_}
 use Rattle.whole_lists.specs.Stepped.{SmallAt, passedFound}
 use borrow.Author.Needs.{needs}
 use Rattle.whole_lists.proofs.pass_found.Statement.{statement}
 use Rattle.whole_lists.proofs.pass_found.Tie as tie
-use Rattle.whole_lists.proofs.pass_found.Reads as reads
-use Rattle.whole_lists.proofs.pass_found.Lts as lts
-use Rattle.whole_lists.proofs.pass.Reads as pass-reads
 
 enum-known-found : tie.Need-enum-known-found
 enum-known-found c = search needs

@@ -1,7 +1,6 @@
 -- The walk begins with a path's head, and goes on behind what was found with the parts that it says.
-use mathlib.Core.Path.{_≡_, refl, sym, ap, subst, _∙_}
-use Prim.Native.Nat.{ℕ, _-_, _≤_, _<_}
-use native.Mathlib.Omega.{arith}
+use mathlib.Core.Path.{sym, ap, subst, _∙_}
+use Prim.Native.Nat.{_-_}
 use denote.Ref.{now}
 use Rattle.hatch_format.specs.Caps.{documentCaps}
 use Rattle.hatch_lists.specs.Steps.{headStep}
@@ -11,10 +10,6 @@ use Rattle.whole_lists.proofs.StepLaws.{passedHead, steps-head, begins-
 use borrow.Author.Needs.{needs}
 use Rattle.whole_lists.proofs.path_step.Statement.{statement}
 use Rattle.whole_lists.proofs.path_step.Tie as tie
-use Rattle.whole_lists.proofs.path_step.Reads as reads
-use Rattle.whole_lists.proofs.path_step.Lts as lts
-use Rattle.list_items.proofs.path_head.Reads as path-head-reads
-use Rattle.whole_lists.proofs.pass.Reads as pass-reads
 
 -- src/lib.rt:116:11
 path-head-requires : tie.Need-path-head-requires

@@ -1,15 +1,11 @@
 -- Each case's number, and 0 for the places.
-use mathlib.Core.Path.{_≡_, sym, ap, _∙_}
+use mathlib.Core.Path.{sym, ap, _∙_}
 use Prim.Native.Nat.{ℕ}
 use Rattle.boundary.specs.declared.moves.MoveAnswer.{MoveAnswer}
 use Rattle.boundary.specs.MoveBoundary.{moveAnswer}
 use borrow.Author.Needs.{needs}
 use Rattle.boundary.proofs.moves.of_outcome.Statement.{statement}
 use Rattle.boundary.proofs.moves.of_outcome.Tie as tie
-use Rattle.boundary.proofs.moves.of_outcome.Reads as reads
-use Rattle.boundary.proofs.moves.of_outcome.Lts as lts
-use Rattle.boundary.proofs.moves.number.Reads as number-reads
-use Rattle.boundary.proofs.moves.of_number.Reads as of-number-reads
 
 enum-told : tie.Need-enum-told
 enum-told c = search needs

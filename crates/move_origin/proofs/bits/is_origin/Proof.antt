@@ -1,14 +1,11 @@
 -- Both tests of the definition, the second only where the first holds.
-use mathlib.Core.Path.{_≡_, sym, ap, _∙_}
-use mathlib.Core.Bool.{Bool, true, false, _&&_}
+use mathlib.Core.Path.{sym, ap, _∙_}
+use mathlib.Core.Bool.{Bool, _&&_}
 use Rattle.differences.specs.Limits.{isWithinBits}
 use borrow.Author.Tests.{not-true, not-false}
 use borrow.Author.Needs.{needs}
 use Rattle.move_origin.proofs.bits.is_origin.Statement.{statement}
 use Rattle.move_origin.proofs.bits.is_origin.Tie as tie
-use Rattle.move_origin.proofs.bits.is_origin.Reads as reads
-use Rattle.move_origin.proofs.bits.is_origin.Lts as lts
-use Rattle.differences.proofs.is_within_bits.Reads as is-within-bits-reads
 
 is-within-bits-requires : tie.Need-is-within-bits-requires
 is-within-bits-requires c κs = search needs

@@ -1,20 +1,17 @@
 -- The coordinates so far are moved, item by item, and those left are in range still; at the end of the walk only the seed points are left, and they
 -- are moved last.
-use mathlib.Core.Path.{_≡_, sym, ap, subst, _∙_}
-use mathlib.Core.Bool.{true, false}
-use mathlib.Core.List.{List}
-use Prim.Native.Nat.{ℕ, _+_, _-_, _≤_, _<_}
+use mathlib.Core.Path.{sym, ap, subst, _∙_}
+use Prim.Native.Nat.{_-_, _≤_}
 use native.Mathlib.Omega.{arith}
-use lib.Ieee.{Float}
 use lib.ListN.{length}
 use denote.Ref.{now}
 use borrow.Author.Needs.{needs}
 use borrow.Author.Tests.{not-true, not-false}
 use Rattle.hatch_lists.specs.declared.Item.{Item}
-use Rattle.hatch_lists.specs.Items.{itemSize, pointsItem}
+use Rattle.hatch_lists.specs.Items.{itemSize}
 use Rattle.hatch_lists.specs.Coordinates.{itemRoles}
 use Rattle.list_items.specs.Found.{Small}
-use Rattle.whole_lists.specs.Stepped.{finished, Steps}
+use Rattle.whole_lists.specs.Stepped.{Steps}
 use Rattle.moved_hatch.specs.Parts.{movedFrom, Movable}
 use Rattle.differences.specs.Difference.{differenceBits}
 use Rattle.differences.specs.Limits.{isWithinBits}
@@ -23,12 +20,6 @@ use Rattle.move_origin.proofs.Walking.{MovedSoFar, moved-start, moved-n
 use Rattle.move_origin.proofs.Walking.{movable-next, movable-end}
 use Rattle.move_origin.proofs.bits.move_all.Statement.{statement}
 use Rattle.move_origin.proofs.bits.move_all.Tie as tie
-use Rattle.move_origin.proofs.bits.move_all.Reads as reads
-use Rattle.move_origin.proofs.bits.move_all.Lts as lts
-use Rattle.move_origin.proofs.seeds_item.Reads as seeds-item-reads
-use Rattle.point_runs.proofs.move_item_bits.Reads as move-item-bits-reads
-use Rattle.whole_lists.proofs.is_finished.Reads as is-finished-reads
-use Rattle.whole_lists.proofs.next_item.Reads as next-item-reads
 
 abbrev Inv-loop : tie.InvT-loop
 Inv-loop words bits₀ used seeds x y at₀ bits at = MovedSoFar differenceBits x y words used bits₀ at₀ at bits
