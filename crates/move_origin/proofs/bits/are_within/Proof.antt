@@ -115,7 +115,7 @@ item-within-bits-requires-2 c κs =
     let all = sym (tested .is-finished .ensures) ∙ not-false (tested .is-finished .result) (c .before .if1 .left) in
     let room = seeds-room (now (a .words)) (a .used) (a .seeds) (a .from) (at-loop .loop .inv .along) (entry .pre .ends) all in
     let is = c .seeds-item .ensures in
-    (subst Small (sym is) (seeds-small (a .seeds) (entry .pre .few)), omega (arith, ap itemSize is, room, entry .pre .room))
+    (subst Small (sym is) (seeds-small _ (omega (arith, entry .pre .few))), omega (arith, ap itemSize is, room, entry .pre .room))
 
 returns-3 : tie.Need-returns-3 Inv-loop μ-loop
 returns-3 c =
