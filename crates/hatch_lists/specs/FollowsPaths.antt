@@ -16,7 +16,8 @@ use Rattle.hatch_lists.specs.Lists.{Lists, lists, word, entry, count}
 use Rattle.hatch_lists.specs.Within.{SegmentsWithin}
 use Rattle.hatch_lists.specs.Edges.{edge}
 use Rattle.hatch_lists.specs.Paths.{segments, segments-read, path, path-read}
-use Rattle.hatch_lists.specs.Steps.{Step, next, broken, andNext, aWord, aCount, Head, verticesStep, polylineStep, edgesStep, headBy, handlesStep, edgeStep}
+use Rattle.hatch_lists.specs.Steps.{Step, next, broken, andNext, aWord, aCount, Head}
+use Rattle.hatch_lists.specs.Steps.{verticesStep, polylineStep, edgesStep, headBy, handlesStep, edgeStep}
 use Rattle.hatch_lists.specs.Walks.{Left, leftOf, passing, stepping, prepend, Walk, itemThen, timesThen, partsThen, pathThen}
 use Rattle.hatch_lists.specs.Says.{left, summary, Says, withNumbers, SaysWords, says-word, says-count, pass-none}
 use Rattle.hatch_lists.specs.SaysItems.{itself, says-edge, verticesItem, says-vertices}
