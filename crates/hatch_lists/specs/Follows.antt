@@ -1,5 +1,4 @@
--- What paths, pattern lines and a whole holding say of words and of how many numbers are left: the walk of specs/Walks gives their items. So
--- which numbers stand in the list does not matter to whether it is whole. Assumes nothing.
+-- The items of what a format reads come before those of any walk behind it: one law for each way in which formats are put together. Assumes nothing.
 use mathlib.Core.Path.{_≡_, refl, sym, ap, _∙_}
 use mathlib.Core.List.{List, [], _∷_, _++_, append-assoc}
 use Prim.Native.Nat.{ℕ, zero, suc}

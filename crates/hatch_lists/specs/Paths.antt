@@ -1,4 +1,4 @@
--- Paths and pattern lines read back from the lists, and all that a hatch's lists hold. Assumes nothing.
+-- Paths and pattern lines read back from the lists. Assumes nothing.
 use mathlib.Core.Path.{refl, sym, subst}
 use mathlib.Core.Bool.{Bool, true, false}
 use mathlib.Core.List.{List, [], _∷_, _++_, append-nil}

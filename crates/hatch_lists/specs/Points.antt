@@ -1,4 +1,4 @@
--- Points, vertices, arcs and ellipses read back from the lists. Assumes nothing.
+-- Points and vertices read back from the lists, and items of any kind one behind the other. Assumes nothing.
 use mathlib.Core.Path.{_≡_, refl, sym, ap, subst}
 use mathlib.Core.Bool.{Bool, true, false}
 use mathlib.Core.List.{List, [], _∷_}

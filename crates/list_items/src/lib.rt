@@ -66,7 +66,7 @@ fn tangent_numbers(fit_points: usize) -> usize
     4
 }
 
-// Two switches and three counts of a spline.
+// A spline's two switches are 0 or 1, its three counts within document 01's caps.
 fn is_spline(rational: usize, periodic: usize, knots: usize, controls: usize, fits: usize) -> bool
     ensures { λ r. ⌜ r ≡ splineWords rational periodic knots controls fits ⌝ }
 {
@@ -151,7 +151,7 @@ pub fn line_item(words: &[u32], at: usize) -> ItemAt
     ItemAt::Found(item(1, 1, 2, 0, 2 + dashes), at + 1)
 }
 
-// Two switches and two counts of a polyline.
+// A polyline's two switches are 0 or 1, its two counts within document 01's caps.
 fn is_polyline(bulge: usize, closed: usize, vertices: usize, handles: usize) -> bool
     ensures { λ r. ⌜ r ≡ polylineWords bulge closed vertices handles ⌝ }
 {

@@ -1,6 +1,5 @@
 -- Where a call moves, record and lists are whole, and origin and coordinates are in range. The list afterwards is whole too: it holds the moved
--- hatch, with the
--- same words and items, and the same numbers are coordinates. Assumes nothing.
+-- hatch, with the same words and items, and the same numbers are coordinates. Assumes nothing.
 use mathlib.Core.Path.{_≡_, refl, sym, ap, ap₂, subst, _∙_}
 use mathlib.Core.Bool.{Bool, true, false, _&&_, and-eq-true-iff}
 use mathlib.Core.List.{List, _++_}

@@ -216,7 +216,7 @@ fn are_switches(c: HatchCounts) -> bool
     c.pattern_double <= 1
 }
 
-// Each count of a record is within its cap.
+// Each count of a record is within document 01's cap.
 fn are_counts(c: HatchCounts) -> bool
     ensures { λ r. ⌜ r ≡ counted c ⌝ }
 {
