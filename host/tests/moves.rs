@@ -193,6 +193,55 @@ fn other_planes_and_far_coordinates_are_refused() {
     }
 }
 
+/// A hatch of one path of so many points: vertices with bulges or without, or the control points, with weights or without, and the fit points of a spline.
+/// The second list says which numbers are coordinates: 0 for an x, 1 for a y.
+fn run(points: usize, form: u32) -> (ReadHatch<u64>, Vec<Option<usize>>) {
+    let (mut read, extra, count) = (small(), form % 2, points as u32);
+    let point = [Some(0), Some(1)];
+    let with_extra: Vec<_> = if extra == 1 { [&point[..], &[None]].concat() } else { point.to_vec() };
+    let (words, roles) = if form < 2 {
+        (vec![2, extra, 1, count, 0], with_extra.repeat(points))
+    } else {
+        let tangents = if points == 0 { 0 } else { 4 }; // only with fit points
+        let roles = [&[None; 2][..], &with_extra.repeat(points), &point.repeat(points), &vec![None; tangents]].concat();
+        (vec![0, 1, 4, 3, extra, 0, 2, count, count, 0], roles)
+    };
+    read.words = words;
+    read.numbers = (0..roles.len()).map(|at| (4_650_000.0 + at as f64 / 8.0).to_bits()).collect();
+    (read.hatch.num_paths, read.hatch.num_seed_points) = (1, 0);
+    (read.hatch.words_used, read.hatch.numbers_used) = (read.words.len(), read.numbers.len());
+    (read, roles)
+}
+
+/// The compiler makes loops over several points at once of those that judge and move: so runs of every length up to five turns of them, with each number out of
+/// range in turn.
+#[test]
+fn runs_of_every_length_are_judged_and_moved() {
+    let (origin, far) = ([4_650_000.125, -9_230_000.5], [1_099_511_627_776.0f64.next_up(), f64::NEG_INFINITY, f64::NAN]);
+    for (points, form) in (0..=40).flat_map(|points| (0..4).map(move |form| (points, form))) {
+        let (read, roles) = run(points, form);
+        let moved = |number: u64, role: Option<usize>| role.map_or(number, |axis| (f64::from_bits(number) - origin[axis]).to_bits());
+        let wanted = |read: &ReadHatch<u64>| -> Vec<u64> { read.numbers.iter().zip(&roles).map(|(number, role)| moved(*number, *role)).collect() };
+        let check = |read: &ReadHatch<u64>, wanted: Result<Vec<u64>, Reason>, what: &str| {
+            let (mut bits, mut doubles) = (read.numbers.clone(), read.numbers.iter().map(|number| f64::from_bits(*number)).collect::<Vec<_>>());
+            let answers = [
+                GivenHatch::from(&read.hatch).move_origin(&read.words, &mut bits, origin[0].to_bits(), origin[1].to_bits()),
+                doubled(read).move_origin(&read.words, &mut doubles, origin[0], origin[1]),
+            ];
+            let left = wanted.clone().unwrap_or_else(|_| read.numbers.clone());
+            assert_eq!(answers.map(|answer| answer.map_err(|refusal| refusal.reason)), [(); 2].map(|()| wanted.clone().map(|_| ())), "{what}");
+            assert_eq!((&bits, doubles.iter().map(|number| number.to_bits()).collect::<Vec<_>>()), (&left, left.clone()), "{what}");
+        };
+        check(&read, Ok(wanted(&read)), &format!("{points} points, form {form}"));
+        for (at, number) in (0..roles.len()).flat_map(|at| far.map(|number| (at, number))) {
+            let mut altered = read.clone();
+            altered.numbers[at] = number.to_bits();
+            let refused = roles[at].map(|_| Reason::CoordinateOutOfRange);
+            check(&altered, refused.map_or_else(|| Ok(wanted(&altered)), Err), &format!("{points} points, form {form}, number {at} is {number}"));
+        }
+    }
+}
+
 /// A tree is moved with all that was added to it; one that has no lists, or more colours than a record holds, is refused.
 #[test]
 fn altered_trees_are_looked_at() {

@@ -95,6 +95,14 @@ static void check_words(const Lent *lent, size_t used) {
     }
 }
 
+/* The seed points are the last numbers used, two for each; none where the list or the numbers used are too few. */
+void check_seeds(const DwgBodyFields *fields, size_t length) {
+    size_t used = fields->numbers_used, seeds = fields->num_seed_points;
+    DwgSeedPart part = dwg_hatch_seed_points(used, seeds, length);
+    bool there = used <= length && seeds <= SIZE_MAX / 2 && 2 * seeds <= used;
+    claim(part.count == (there ? 2 * seeds : 0) && part.begin == (there ? used - part.count : 0), "the seed points are the last numbers used, or none");
+}
+
 static bool same_text(const DwgTextFields *a, const DwgTextFields *b) {
     return a->source == b->source && a->width == b->width && a->position == b->position && a->count == b->count;
 }
@@ -218,6 +226,7 @@ void answer_hatch(const Request *r, Line *line) {
     claim(b.place == needed.place && b.string_place == needed.string_place, "measuring and reading end alike");
     claim(b.refusal != 0 || (b.fields.words_used == needed.words && b.fields.numbers_used == needed.numbers), "what was measured is used");
     check_numbers(&lent, b.fields.numbers_used);
+    check_seeds(&b.fields, lent.num_numbers);
     check_words(&lent, b.fields.words_used);
     if (b.refusal != 0) {
         check_refused(&b);

@@ -31,6 +31,7 @@ void answer_move(const Request *r, Line *line) {
     claim(a.place == 0 && a.string_place == 0 && b.place == 0 && b.string_place == 0, "a move has no places");
     claim(memcmp(bits, doubles, 8 * g->num_bits) == 0, "both entries of a move leave the same doubles");
     check_left(g, &a, bits, doubles, words);
+    check_seeds(&g->hatch.fields, g->num_bits); /* whatever the fields are */
     if (a.refusal != 0) {
         put_refusal(line, a.refusal, a.place, a.string_place);
     } else {

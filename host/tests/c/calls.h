@@ -76,6 +76,9 @@ void answer(const Request *request, Line *line);
 void answer_hatch(const Request *request, Line *line);
 void answer_move(const Request *request, Line *line);
 
+/* Where the seed points lie, by a record's fields, whatever they are, and a list's length. */
+void check_seeds(const DwgBodyFields *fields, size_t length);
+
 /* The hatch that the words behind `move` hand over; false if they do not. It is taken apart, and stays until the next one. */
 bool parse_move(char *rest, Request *request);
 
