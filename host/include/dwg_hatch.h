@@ -250,7 +250,8 @@ DwgSeedPart dwg_hatch_seed_points(size_t numbers_used, size_t num_seed_points, s
 /* Moves the origin of a hatch to (x, y), in place: each coordinate of the numbers used becomes coordinate minus origin, x by x and y by y, by one
  * subtraction of doubles. Coordinates are those of vertices, line ends, centres, control points, fit points, origins of pattern lines and seed
  * points. All other entries keep every bit: bulges, weights, knots, radii, ratios, angles, ends of major axes, tangents, offsets, dashes, and
- * what lies past numbers_used. `hatch` is a reading's answer as it was given, `words` and `numbers` are its lists, which may be longer than used;
+ * what lies past numbers_used. (Where such an entry is a NaN, that its pattern stays is proved of the function over 64 bits below; of this one it is
+ * proved that a NaN stays, and tested that its bits do.) `hatch` is a reading's answer as it was given, `words` and `numbers` are its lists, which may be longer than used;
  * doubles may be altered since, and whatever else was is looked at: nothing is asked of the fields of `hatch` or of the words.
  *
  * Refused, in this order: DWG_LIST_TOO_SHORT if record and lists do not fit each other (a count of the record or the words is above its cap, a
