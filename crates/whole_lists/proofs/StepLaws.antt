@@ -1,5 +1,5 @@
 -- A step of the walk, from what was found at its word: the item's numbers are there and the walk goes on behind them, or it breaks off. Assumes nothing.
-use mathlib.Core.Path.{_≡_, refl, ap, subst, _∙_}
+use mathlib.Core.Path.{_≡_, refl, sym, ap, subst, _∙_}
 use mathlib.Core.Bool.{Bool, true, false, _&&_}
 use mathlib.Core.List.{List, [], _∷_}
 use Prim.Native.Nat.{ℕ, zero, suc, _+_, _-_, _≤_, _<_}
@@ -13,14 +13,27 @@ use Rattle.hatch_lists.specs.Items.{itemSize}
 use Rattle.hatch_lists.specs.Steps.{Step as Walked, next, broken, andNext, Head, handlesStep, edgeStep, headStep, lineStep}
 use Rattle.hatch_lists.specs.Walks.{Left, leftOf, passIf as passLeft, passing, stepping, prepend, Walk, itemThen, partsThen, pathThen, walk}
 use Rattle.whole_lists.specs.declared.Place.{Place}
-use Rattle.whole_lists.specs.declared.Step.{Step}
-use Rattle.whole_lists.specs.declared.Step.the-variants.{Broken}
 use Rattle.list_items.specs.declared.ItemAt.{ItemAt}
 use Rattle.list_items.specs.declared.ItemAt.the-variants.{Found, Broken as NotFound}
 use Rattle.list_items.specs.declared.HeadAt.{HeadAt}
 use Rattle.list_items.specs.declared.HeadAt.the-variants.{Found as FoundHead, Broken as NoHead}
-use Rattle.list_items.specs.Found.{Small, Behind, Finds, FindsHead}
-use Rattle.whole_lists.specs.Stepped.{Within, leftAt, walkAt, passIf, passedTo, SmallAt, passedFound, resumed, Onward, Steps}
+use Rattle.list_items.specs.Found.{Small, Behind, Finds, FindsHead, itemAt, headAt}
+use Rattle.list_items.proofs.Finds.{item-is, head-is}
+use Rattle.whole_lists.specs.Stepped.{
+  Within,
+  leftAt,
+  walkAt,
+  passIf,
+  passedTo,
+  SmallAt,
+  passedFound,
+  passedHead,
+  stepBy,
+  stepAt,
+  resumed,
+  Onward,
+  Steps,
+}
 
 -- ---- the step of any kind: its value a has an item, and the walk goes on by K a
 module _ {A : Type 0} (item-of : A → Item) (step : List ℕ → Walked (List ℕ) A) (K : A → Walk) (ws : List ℕ) (n : ℕ) (p : Place) where
@@ -55,99 +68,107 @@ module _ (ws : List ℕ) (n : ℕ) (p : Place) (w : Within ws n p) (i : Item) (t
       (omega (arith, behind .further, qw), record { word = omega (arith, behind .within, qw); number = omega (arith, h, k); parts = parts }, refl, small)
   passed-onward false e = tt
 
-  passed-steps : ((b : Bool) → leb (itemSize i) (n - p .number) ≡ b → (rest : Walk) → walkAt rest ws n p ≡ resumed rest ws n (passIf b (p .number) i q))
+  passed-steps : passedTo n (p .number) i q ≡ stepAt ws n p
+      → ((b : Bool) → leb (itemSize i) (n - p .number) ≡ b → (rest : Walk) → walkAt rest ws n p ≡ resumed rest ws n (passIf b (p .number) i q))
       → Steps ws n p (passedTo n (p .number) i q)
-  passed-steps same = record { same = same (leb (itemSize i) (n - p .number)) refl; onward = passed-onward (leb (itemSize i) (n - p .number)) refl }
+  passed-steps is same =
+      record { is = is; same = same (leb (itemSize i) (n - p .number)) refl; onward = passed-onward (leb (itemSize i) (n - p .number)) refl }
+
+-- ---- what walk and step begin with at a place: an item of this kind, or a path's head; and what is left behind it
+pub record Begins (ws : List ℕ) (n : ℕ) (p : Place) (step : List ℕ → Walked (List ℕ) Item) (parts paths lines : ℕ) : Type 0 where
+  pub walks : (rest : Walk) → walkAt rest ws n p ≡ itemThen step (walk documentCaps rest parts paths lines) (leftAt ws n p)
+  pub steps : stepAt ws n p ≡ passedFound n (p .number) (itemAt step ws (p .word)) parts paths lines
+
+pub record BeginsPath (ws : List ℕ) (n : ℕ) (p : Place) (paths lines : ℕ) : Type 0 where
+  pub walks : (rest : Walk) → walkAt rest ws n p ≡ pathThen documentCaps (walk documentCaps rest 0 paths lines) (leftAt ws n p)
+  pub steps : stepAt ws n p ≡ passedHead n (p .number) (headAt (headStep documentCaps) ws (p .word)) paths lines
 
 module _ (ws : List ℕ) (n : ℕ) (p : Place) (w : Within ws n p) where
-  -- a walk that begins with an item of this step
-  pub steps-item : (step : List ℕ → Walked (List ℕ) Item) (parts paths lines : ℕ) → parts ≤ 100_001
-      → ((rest : Walk) → walkAt rest ws n p ≡ itemThen step (walk documentCaps rest parts paths lines) (leftAt ws n p))
+  pub steps-item : (step : List ℕ → Walked (List ℕ) Item) (parts paths lines : ℕ) → parts ≤ 100_001 → Begins ws n p step parts paths lines
       → (r : ItemAt) → Finds ws (p .word) r step → Steps ws n p (passedFound n (p .number) r parts paths lines)
-  steps-item step parts paths lines few begins (Found i to) f =
-      passed-steps ws n p w i to (f .1) (f .2) q refl few same
+  steps-item step parts paths lines few begins r f = go r f (is r f)
     where
-      q : Place
-      q = record { word = to; number = p .number; parts = parts; paths = paths; lines = lines }
+      is : (r : ItemAt) → Finds ws (p .word) r step → passedFound n (p .number) r parts paths lines ≡ stepAt ws n p
+      is r f = ap (λ (o : ItemAt). passedFound n (p .number) o parts paths lines) (item-is step ws (p .word) r f) ∙ sym (begins .steps)
 
-      same : (b : Bool) → leb (itemSize i) (n - p .number) ≡ b → (rest : Walk) → walkAt rest ws n p ≡ resumed rest ws n (passIf b (p .number) i q)
-      same true e rest = begins rest ∙ on (λ i. i) step (λ i. walk documentCaps rest parts paths lines) ws n p i to (f .0) true e
-      same false e rest = begins rest ∙ on (λ i. i) step (λ i. walk documentCaps rest parts paths lines) ws n p i to (f .0) false e
-  steps-item step parts paths lines few begins NotFound f =
-      record {
-        same = λ rest. begins rest ∙ broken-off (λ i. i) step (λ i. walk documentCaps rest parts paths lines) ws n p f;
-        onward = tt;
-      }
+      goes : Walk → Item → Walk
+      goes rest i = walk documentCaps rest parts paths lines
 
-  -- a walk that begins with a path
-  abbrev pub passedHead : HeadAt → ℕ → ℕ → Step
-  passedHead (FoundHead i parts to) paths lines =
-      passedTo n (p .number) i (record { word = to; number = p .number; parts = parts; paths = paths; lines = lines })
-  passedHead NoHead paths lines = Broken
+      go : (r : ItemAt) → Finds ws (p .word) r step → passedFound n (p .number) r parts paths lines ≡ stepAt ws n p
+          → Steps ws n p (passedFound n (p .number) r parts paths lines)
+      go (Found i to) f e =
+          passed-steps ws n p w i to (f .1) (f .2) q refl few e same
+        where
+          q : Place
+          q = record { word = to; number = p .number; parts = parts; paths = paths; lines = lines }
 
-  pub steps-head : (paths lines : ℕ)
-      → ((rest : Walk) → walkAt rest ws n p ≡ pathThen documentCaps (walk documentCaps rest 0 paths lines) (leftAt ws n p))
-      → (r : HeadAt) → FindsHead ws (p .word) r (headStep documentCaps) → Steps ws n p (passedHead r paths lines)
-  steps-head paths lines begins (FoundHead i parts to) f =
-      passed-steps ws n p w i to (f .1) (f .2) q refl (f .3) same
+          same : (b : Bool) → leb (itemSize i) (n - p .number) ≡ b → (rest : Walk) → walkAt rest ws n p ≡ resumed rest ws n (passIf b (p .number) i q)
+          same true h rest = begins .walks rest ∙ on (λ i. i) step (goes rest) ws n p i to (f .0) true h
+          same false h rest = begins .walks rest ∙ on (λ i. i) step (goes rest) ws n p i to (f .0) false h
+      go NotFound f e =
+          record { is = e; same = λ rest. begins .walks rest ∙ broken-off (λ i. i) step (goes rest) ws n p f; onward = tt }
+
+  pub steps-head : (paths lines : ℕ) → BeginsPath ws n p paths lines → (r : HeadAt) → FindsHead ws (p .word) r (headStep documentCaps)
+      → Steps ws n p (passedHead n (p .number) r paths lines)
+  steps-head paths lines begins r f = go r f (is r f)
     where
-      q : Place
-      q = record { word = to; number = p .number; parts = parts; paths = paths; lines = lines }
+      is : (r : HeadAt) → FindsHead ws (p .word) r (headStep documentCaps) → passedHead n (p .number) r paths lines ≡ stepAt ws n p
+      is r f = ap (λ (o : HeadAt). passedHead n (p .number) o paths lines) (head-is (headStep documentCaps) ws (p .word) r f) ∙ sym (begins .steps)
 
       goes : Walk → Head → Walk
       goes rest h = partsThen documentCaps (h .parts) (walk documentCaps rest 0 paths lines)
 
-      same : (b : Bool) → leb (itemSize i) (n - p .number) ≡ b → (rest : Walk) → walkAt rest ws n p ≡ resumed rest ws n (passIf b (p .number) i q)
-      same true e rest = begins rest ∙ on (λ h. h .item) (headStep documentCaps) (goes rest) ws n p (record { item = i; parts = parts }) to (f .0) true e
-      same false e rest = begins rest ∙ on (λ h. h .item) (headStep documentCaps) (goes rest) ws n p (record { item = i; parts = parts }) to (f .0) false e
-  steps-head paths lines begins NoHead f =
-      record {
-        same = λ rest. begins rest ∙ broken-off (λ h. h .item) (headStep documentCaps)
-            (λ h. partsThen documentCaps (h .parts) (walk documentCaps rest 0 paths lines)) ws n p f;
-        onward = tt;
-      }
+      go : (r : HeadAt) → FindsHead ws (p .word) r (headStep documentCaps) → passedHead n (p .number) r paths lines ≡ stepAt ws n p
+          → Steps ws n p (passedHead n (p .number) r paths lines)
+      go (FoundHead i parts to) f e =
+          passed-steps ws n p w i to (f .1) (f .2) q refl (f .3) e same
+        where
+          q : Place
+          q = record { word = to; number = p .number; parts = parts; paths = paths; lines = lines }
 
--- ---- what the walk begins with
-module _ (ws : List ℕ) (n : ℕ) (p : Place) (rest : Walk) where
-  pub begins-handles : p .parts ≡ 1 → walkAt rest ws n p ≡ itemThen (handlesStep documentCaps) (walk documentCaps rest 0 (p .paths) (p .lines))
-      (leftAt ws n p)
-  begins-handles e = ap (λ (k : ℕ). walk documentCaps rest k (p .paths) (p .lines) (leftAt ws n p)) e
+          same : (b : Bool) → leb (itemSize i) (n - p .number) ≡ b → (rest : Walk) → walkAt rest ws n p ≡ resumed rest ws n (passIf b (p .number) i q)
+          same true h rest =
+              begins .walks rest ∙ on (λ h. h .item) (headStep documentCaps) (goes rest) ws n p (record { item = i; parts = parts }) to (f .0) true h
+          same false h rest =
+              begins .walks rest ∙ on (λ h. h .item) (headStep documentCaps) (goes rest) ws n p (record { item = i; parts = parts }) to (f .0) false h
+      go NoHead f e =
+          record { is = e; same = λ rest. begins .walks rest ∙ broken-off (λ h. h .item) (headStep documentCaps) (goes rest) ws n p f; onward = tt }
 
-  pub begins-edge : 1 < p .parts
-      → walkAt rest ws n p ≡ itemThen (edgeStep documentCaps) (walk documentCaps rest (p .parts - 1) (p .paths) (p .lines)) (leftAt ws n p)
-  begins-edge h = go (p .parts) h
-    where
-      go : (k : ℕ) → 1 < k → walk documentCaps rest k (p .paths) (p .lines) (leftAt ws n p)
-          ≡ itemThen (edgeStep documentCaps) (walk documentCaps rest (k - 1) (p .paths) (p .lines)) (leftAt ws n p)
-      go zero h = absurd (omega arith)
-      go (suc zero) h = absurd (omega arith)
-      go (suc (suc k)) h =
-          let e : suc k ≡ suc (suc k) - 1 = omega arith in
-          ap (λ (m : ℕ). itemThen (edgeStep documentCaps) (walk documentCaps rest m (p .paths) (p .lines)) (leftAt ws n p)) e
+-- ---- which it is, by what is left
+module _ (ws : List ℕ) (n : ℕ) (p : Place) where
+  module _ (parts paths lines : ℕ) (e : p .parts ≡ parts) (f : p .paths ≡ paths) (g : p .lines ≡ lines) where
+    walk-is : (rest : Walk) → walkAt rest ws n p ≡ walk documentCaps rest parts paths lines (leftAt ws n p)
+    walk-is rest =
+        ap (λ (k : ℕ). walk documentCaps rest k (p .paths) (p .lines) (leftAt ws n p)) e
+        ∙ ap (λ (k : ℕ). walk documentCaps rest parts k (p .lines) (leftAt ws n p)) f
+        ∙ ap (λ (k : ℕ). walk documentCaps rest parts paths k (leftAt ws n p)) g
 
-  pub begins-path : p .parts ≡ 0 → 0 < p .paths
-      → walkAt rest ws n p ≡ pathThen documentCaps (walk documentCaps rest 0 (p .paths - 1) (p .lines)) (leftAt ws n p)
-  begins-path e h = ap (λ (k : ℕ). walk documentCaps rest k (p .paths) (p .lines) (leftAt ws n p)) e ∙ go (p .paths) h
-    where
-      go : (k : ℕ) → 0 < k → walk documentCaps rest 0 k (p .lines) (leftAt ws n p)
-          ≡ pathThen documentCaps (walk documentCaps rest 0 (k - 1) (p .lines)) (leftAt ws n p)
-      go zero h = absurd (omega arith)
-      go (suc k) h =
-          let e : k ≡ suc k - 1 = omega arith in
-          ap (λ (m : ℕ). pathThen documentCaps (walk documentCaps rest 0 m (p .lines)) (leftAt ws n p)) e
+    step-is : stepAt ws n p ≡ stepBy ws n (p .word) (p .number) parts paths lines
+    step-is =
+        ap (λ (k : ℕ). stepBy ws n (p .word) (p .number) k (p .paths) (p .lines)) e
+        ∙ ap (λ (k : ℕ). stepBy ws n (p .word) (p .number) parts k (p .lines)) f
+        ∙ ap (λ (k : ℕ). stepBy ws n (p .word) (p .number) parts paths k) g
 
-  pub begins-line : p .parts ≡ 0 → p .paths ≡ 0 → 0 < p .lines
-      → walkAt rest ws n p ≡ itemThen (lineStep documentCaps) (walk documentCaps rest 0 0 (p .lines - 1)) (leftAt ws n p)
+  pub begins-handles : p .parts ≡ 1 → Begins ws n p (handlesStep documentCaps) 0 (p .paths) (p .lines)
+  begins-handles e = record { walks = walk-is 1 (p .paths) (p .lines) e refl refl; steps = step-is 1 (p .paths) (p .lines) e refl refl }
+
+  pub begins-edge : 1 < p .parts → Begins ws n p (edgeStep documentCaps) (p .parts - 1) (p .paths) (p .lines)
+  begins-edge h =
+      let k = p .parts - 2 in
+      let e : p .parts ≡ suc (suc k) = omega (arith, h) in
+      let f : suc k ≡ p .parts - 1 = omega (arith, h) in
+      subst (λ (m : ℕ). Begins ws n p (edgeStep documentCaps) m (p .paths) (p .lines)) f
+      (record { walks = walk-is (suc (suc k)) (p .paths) (p .lines) e refl refl; steps = step-is (suc (suc k)) (p .paths) (p .lines) e refl refl })
+
+  pub begins-path : p .parts ≡ 0 → 0 < p .paths → BeginsPath ws n p (p .paths - 1) (p .lines)
+  begins-path e h =
+      let f : p .paths ≡ suc (p .paths - 1) = omega (arith, h) in
+      record { walks = walk-is 0 (suc (p .paths - 1)) (p .lines) e f refl; steps = step-is 0 (suc (p .paths - 1)) (p .lines) e f refl }
+
+  pub begins-line : p .parts ≡ 0 → p .paths ≡ 0 → 0 < p .lines → Begins ws n p (lineStep documentCaps) 0 0 (p .lines - 1)
   begins-line e f h =
-      ap (λ (k : ℕ). walk documentCaps rest k (p .paths) (p .lines) (leftAt ws n p)) e
-      ∙ ap (λ (k : ℕ). walk documentCaps rest 0 k (p .lines) (leftAt ws n p)) f ∙ go (p .lines) h
-    where
-      go : (k : ℕ) → 0 < k → walk documentCaps rest 0 0 k (leftAt ws n p)
-          ≡ itemThen (lineStep documentCaps) (walk documentCaps rest 0 0 (k - 1)) (leftAt ws n p)
-      go zero h = absurd (omega arith)
-      go (suc k) h =
-          let e : k ≡ suc k - 1 = omega arith in
-          ap (λ (m : ℕ). itemThen (lineStep documentCaps) (walk documentCaps rest 0 0 m) (leftAt ws n p)) e
+      let g : p .lines ≡ suc (p .lines - 1) = omega (arith, h) in
+      record { walks = walk-is 0 0 (suc (p .lines - 1)) e f g; steps = step-is 0 0 (suc (p .lines - 1)) e f g }
 
 -- ---- what was found is within document 01's caps
 pub small-at : (ws : List ℕ) (at : ℕ) (r : ItemAt) (step : List ℕ → Walked (List ℕ) Item) → Finds ws at r step → SmallAt r

@@ -2,20 +2,22 @@
 use mathlib.Core.Path.{_≡_}
 use mathlib.Core.Bool.{Bool, true, false, _&&_}
 use mathlib.Core.List.{List, [], _∷_}
-use Prim.Native.Nat.{ℕ, _+_, _-_, _≤_, _<_}
+use Prim.Native.Nat.{ℕ, zero, suc, _+_, _-_, _≤_, _<_}
 use lib.Dec.{leb, eqb}
 use lib.ListN.{length, drop}
 use Rattle.hatch_format.specs.Caps.{documentCaps}
 use Rattle.hatch_lists.specs.declared.Item.{Item}
 use Rattle.hatch_lists.specs.Items.{itemSize}
-use Rattle.hatch_lists.specs.Steps.{Step as Walked, broken}
+use Rattle.hatch_lists.specs.Steps.{Step as Walked, broken, edgeStep, handlesStep, headStep, lineStep}
 use Rattle.hatch_lists.specs.Walks.{Left, leftOf, prepend, Walk, walk}
 use Rattle.whole_lists.specs.declared.Place.{Place}
 use Rattle.whole_lists.specs.declared.Step.{Step}
 use Rattle.whole_lists.specs.declared.Step.the-variants.{Next, Broken}
 use Rattle.list_items.specs.declared.ItemAt.{ItemAt}
 use Rattle.list_items.specs.declared.ItemAt.the-variants.{Found, Broken as NotFound}
-use Rattle.list_items.specs.Found.{Small}
+use Rattle.list_items.specs.declared.HeadAt.{HeadAt}
+use Rattle.list_items.specs.declared.HeadAt.the-variants.{Found as FoundHead, Broken as NoHead}
+use Rattle.list_items.specs.Found.{Small, itemAt, headAt}
 
 -- ---- a place in lists of words and of so many numbers
 pub record Within (ws : List ℕ) (numbers : ℕ) (p : Place) : Type 0 where
@@ -54,7 +56,29 @@ passedFound numbers number (Found i to) parts paths lines =
     passedTo numbers number i (record { word = to; number = number; parts = parts; paths = paths; lines = lines })
 passedFound numbers number NotFound parts paths lines = Broken
 
--- ---- a step: the walk goes on behind the item, whatever comes behind the walk; or it is not whole
+-- and of a path's head, which says how many parts follow
+abbrev pub passedHead : ℕ → ℕ → HeadAt → ℕ → ℕ → Step
+passedHead numbers number (FoundHead i parts to) paths lines =
+    passedTo numbers number i (record { word = to; number = number; parts = parts; paths = paths; lines = lines })
+passedHead numbers number NoHead paths lines = Broken
+
+-- ---- the step from a place, by what is left there: an edge or, last, the handle count of the path under way; a path's head; a pattern line.
+-- Where all is passed there is none.
+abbrev pub stepBy : List ℕ → ℕ → ℕ → ℕ → ℕ → ℕ → ℕ → Step
+stepBy ws numbers word number (suc (suc k)) paths lines =
+    passedFound numbers number (itemAt (edgeStep documentCaps) ws word) (suc k) paths lines
+stepBy ws numbers word number (suc zero) paths lines =
+    passedFound numbers number (itemAt (handlesStep documentCaps) ws word) 0 paths lines
+stepBy ws numbers word number zero (suc k) lines =
+    passedHead numbers number (headAt (headStep documentCaps) ws word) k lines
+stepBy ws numbers word number zero zero (suc k) =
+    passedFound numbers number (itemAt (lineStep documentCaps) ws word) 0 0 k
+stepBy ws numbers word number zero zero zero = Broken
+
+abbrev pub stepAt : List ℕ → ℕ → Place → Step
+stepAt ws numbers p = stepBy ws numbers (p .word) (p .number) (p .parts) (p .paths) (p .lines)
+
+-- ---- the walk goes on behind the step's item, whatever comes behind the walk; or it is not whole
 abbrev pub resumed : Walk → List ℕ → ℕ → Step → Walked Left (List Item)
 resumed rest ws numbers (Next i p) = prepend (i ∷ []) (walkAt rest ws numbers p)
 resumed rest ws numbers Broken = broken
@@ -64,6 +88,8 @@ abbrev pub Onward : List ℕ → ℕ → Place → Step → Type 0
 Onward ws numbers p (Next i q) = (p .word < q .word) × Within ws numbers q × (q .number ≡ p .number + itemSize i) × Small i
 Onward ws numbers p Broken = Unit {0}
 
+-- a step is the one from its place, and with it the walk goes on
 pub record Steps (ws : List ℕ) (numbers : ℕ) (p : Place) (r : Step) : Type 0 where
+  pub is : r ≡ stepAt ws numbers p
   pub same : (rest : Walk) → walkAt rest ws numbers p ≡ resumed rest ws numbers r
   pub onward : Onward ws numbers p r

@@ -31,7 +31,7 @@ returns c =
     let a = entry .args in
     subst (Steps (now (a .words)) (a .numbers) (a .at)) (sym (c .pass-found .ensures))
     (steps-item (now (a .words)) (a .numbers) (a .at) (entry .pre .0) (lineStep documentCaps) 0 0 (a .at .lines - 1) (omega arith)
-    (λ rest. begins-line (now (a .words)) (a .numbers) (a .at) rest (entry .pre .1 .0) (entry .pre .1 .1 .0) (entry .pre .1 .1 .1))
+    (begins-line (now (a .words)) (a .numbers) (a .at) (entry .pre .1 .0) (entry .pre .1 .1 .0) (entry .pre .1 .1 .1))
     (after-line .line-item .result) (after-line .line-item .ensures))
 
 pub line-step-spec : {M : Type 1} → statement M

@@ -29,7 +29,7 @@ returns c =
     let a = entry .args in
     subst (Steps (now (a .words)) (a .numbers) (a .at)) (sym (c .pass-found .ensures))
     (steps-item (now (a .words)) (a .numbers) (a .at) (entry .pre .0) (handlesStep documentCaps) 0 (a .at .paths) (a .at .lines) (omega arith)
-    (λ rest. begins-handles (now (a .words)) (a .numbers) (a .at) rest (omega arith))
+    (begins-handles (now (a .words)) (a .numbers) (a .at) (omega arith))
     (after-handles .handles-item .result) (after-handles .handles-item .ensures))
 
 edge-item-requires : tie.Need-edge-item-requires
@@ -54,7 +54,7 @@ returns-2 c =
     let a = entry .args in
     subst (Steps (now (a .words)) (a .numbers) (a .at)) (sym (c .pass-found2 .ensures))
     (steps-item (now (a .words)) (a .numbers) (a .at) (entry .pre .0) (edgeStep documentCaps) (a .at .parts - 1) (a .at .paths) (a .at .lines)
-    (omega (arith, entry .pre .0 .parts)) (λ rest. begins-edge (now (a .words)) (a .numbers) (a .at) rest (omega (arith, entry .pre .1)))
+    (omega (arith, entry .pre .0 .parts)) (begins-edge (now (a .words)) (a .numbers) (a .at) (omega (arith, entry .pre .1)))
     (after-edge .edge-item .result) (after-edge .edge-item .ensures))
 
 pub part-step-spec : {M : Type 1} → statement M

@@ -5,8 +5,8 @@ use denote.Ref.{now}
 use Rattle.hatch_format.specs.Caps.{documentCaps}
 use Rattle.hatch_lists.specs.Steps.{headStep}
 use Rattle.list_items.specs.Found.{FindsHead}
-use Rattle.whole_lists.specs.Stepped.{Steps}
-use Rattle.whole_lists.proofs.StepLaws.{passedHead, steps-head, begins-path}
+use Rattle.whole_lists.specs.Stepped.{passedHead, Steps}
+use Rattle.whole_lists.proofs.StepLaws.{steps-head, begins-path}
 use borrow.Author.Needs.{needs}
 use Rattle.whole_lists.proofs.path_step.Statement.{statement}
 use Rattle.whole_lists.proofs.path_step.Tie as tie
@@ -46,11 +46,11 @@ returns c =
     let a = entry .args in
     let steps =
     steps-head (now (a .words)) (a .numbers) (a .at) (entry .pre .0) (a .at .paths - 1) (a .at .lines)
-    (λ rest. begins-path (now (a .words)) (a .numbers) (a .at) rest (entry .pre .1 .0) (entry .pre .1 .1))
+    (begins-path (now (a .words)) (a .numbers) (a .at) (entry .pre .1 .0) (entry .pre .1 .1))
     (after-head .path-head .result) (after-head .path-head .ensures) in
     let same =
     c .pass .ensures
-    ∙ ap (λ r. passedHead (now (a .words)) (a .numbers) (a .at) (entry .pre .0) r (a .at .paths - 1) (a .at .lines)) (sym (after-i .i .given .1)) in
+    ∙ ap (λ r. passedHead (a .numbers) (a .at .number) r (a .at .paths - 1) (a .at .lines)) (sym (after-i .i .given .1)) in
     subst (Steps (now (a .words)) (a .numbers) (a .at)) (sym same) steps
 
 -- src/lib.rt:112:1
@@ -61,10 +61,10 @@ returns-2 c =
     let a = entry .args in
     let steps =
     steps-head (now (a .words)) (a .numbers) (a .at) (entry .pre .0) (a .at .paths - 1) (a .at .lines)
-    (λ rest. begins-path (now (a .words)) (a .numbers) (a .at) rest (entry .pre .1 .0) (entry .pre .1 .1))
+    (begins-path (now (a .words)) (a .numbers) (a .at) (entry .pre .1 .0) (entry .pre .1 .1))
     (after-head .path-head .result) (after-head .path-head .ensures) in
     subst (λ r. Steps (now (a .words)) (a .numbers) (a .at)
-    (passedHead (now (a .words)) (a .numbers) (a .at) (entry .pre .0) r (a .at .paths - 1) (a .at .lines)))
+    (passedHead (a .numbers) (a .at .number) r (a .at .paths - 1) (a .at .lines)))
     (c .enum-told .given .1) steps
 
 pub path-step-spec : {M : Type 1} → statement M
