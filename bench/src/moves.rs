@@ -1,5 +1,5 @@
-//! The origin moved: loops over the Rust's own tree, and the port's two entries on the lists of the same body. One loop is plain: it subtracts, and
-//! tests nothing. The other promises what the port does of a tree: all tests first, and where one fails nothing is moved.
+//! The origin moved: two loops over the Rust's own tree, and the port's two entries on the lists of the same body. The first loop promises what the port
+//! does of a tree: all tests first, and where one fails nothing is moved. The other subtracts, and tests nothing; its column is `plain`.
 
 use std::hint::black_box;
 
@@ -35,7 +35,7 @@ fn can_be_moved(hatch: &Hatch, [x, y]: [f64; 2]) -> bool {
     outlines && hatch.pattern_lines.iter().all(|line| fits(&line.origin)) && hatch.seed_points.iter().all(|(x, y)| near(*x) && near(*y))
 }
 
-/// All tests, and then the plain loop.
+/// All tests, and then the loop that subtracts.
 fn move_tested(hatch: &mut Hatch, origin: [f64; 2]) -> bool {
     let can = can_be_moved(hatch, origin);
     if can {
@@ -44,7 +44,7 @@ fn move_tested(hatch: &mut Hatch, origin: [f64; 2]) -> bool {
     can
 }
 
-/// The plain loop.
+/// The loop that only subtracts.
 fn move_tree(hatch: &mut Hatch, origin: [f64; 2]) {
     for path in &mut hatch.paths {
         match &mut path.segments {

@@ -1,9 +1,9 @@
 -- Points with so many numbers from each to the next: one of them judged or moved leaves a run of one point less. Assumes nothing.
 use mathlib.Core.Path.{_≡_, refl, sym, ap, ap₂, subst, _∙_}
-use mathlib.Core.Bool.{Bool, true, false, not, _&&_, and-eq-true-iff, and-true, and-false, and-assoc}
-use mathlib.Core.List.{List, [], _∷_, _++_, append-assoc}
-use Prim.Native.Nat.{ℕ, suc, _+_, _-_, _*_, _^_, _≤_, _<_}
-use native.Mathlib.Nat.{sub-zero, suc-mul}
+use mathlib.Core.Bool.{Bool, true, false, not, _&&_, and-eq-true-iff, and-true}
+use mathlib.Core.List.{List, [], _∷_, _++_, append-assoc, append-nil}
+use Prim.Native.Nat.{ℕ, zero, suc, _+_, _-_, _*_, _^_, _≤_, _<_}
+use native.Mathlib.Nat.{sub-zero, suc-mul, add-mul, mul-le-mul-right}
 use native.Mathlib.Omega.{arith}
 use lib.Bits.{bitOr, or-lt, or-add-and, and-le-l, and-le-r}
 use borrow.Author.Tests.{lt-ltb, le-ltb, ltb-true, ltb-false}
@@ -11,6 +11,7 @@ use lib.ListN.{length, getD, set, take, drop, take-append-drop, length-set, leng
 use lib.Seq.{drop-cons, getD-set-other, sets-eq, drop-set-lt}
 use Rattle.differences.specs.Limits.{below}
 use Rattle.hatch_lists.specs.Coordinates.{Role, x, y, others, pointRun}
+use Rattle.hatch_lists.specs.CoordinateLaws.{run-long}
 use Rattle.moved_hatch.specs.Moving.{moved, allInRange}
 use Rattle.moved_hatch.specs.MovedLists.{moved-others}
 use Rattle.moved_hatch.specs.Parts.{movedFrom, inRangeFrom}
@@ -56,83 +57,108 @@ reached-next stride from n at i lt h =
 pub point-there : (stride from n at i : ℕ) → i < n → Reached stride from n at i → at + stride ≤ from + n * stride
 point-there stride from n at i lt h = let r = reached-next stride from n at i lt h in omega (arith, r)
 
--- ---- judged: what was found of the points passed, and the points left, decide
-pub record Judged {A : Type 0} (in-range : A → Bool) (stride : ℕ) (l : List A) (from n at left : ℕ) (found : Bool) : Type 0 where
+-- ---- judged: runs one behind the other
+run-behind : (stride k m : ℕ) → pointRun stride (k + m) ≡ pointRun stride k ++ pointRun stride m
+run-behind stride zero m = let e : 0 + m ≡ m = omega arith in ap (pointRun stride) e
+run-behind stride (suc k) m =
+    let e : suc k + m ≡ suc (k + m) = omega arith in
+    ap (pointRun stride) e
+    ∙ ap (λ rs. x ∷ (y ∷ (others (stride - 2) ++ rs))) (run-behind stride k m)
+    ∙ ap (λ rs. x ∷ (y ∷ rs)) (sym (append-assoc (others (stride - 2)) (pointRun stride k) (pointRun stride m)))
+
+module _ {A : Type 0} (in-range : A → Bool) (stride : ℕ) (two : 2 ≤ stride) (l : List A) where
+  -- whether the coordinates of n points from an index on are in range
+  abbrev inRun : ℕ → ℕ → Bool
+  inRun at n = inRangeFrom in-range at (pointRun stride n) l
+
+  pub run-then : (at k m : ℕ) → inRun at (k + m) ≡ inRun at k && inRun (at + k * stride) m
+  run-then at k m =
+      ap (λ rs. inRangeFrom in-range at rs l) (run-behind stride k m) ∙ in-range-behind in-range at (pointRun stride k) (pointRun stride m) l
+      ∙ ap (λ j. inRun at k && inRun (at + j) m) (run-long stride k two)
+
+  module _ (z : A) where
+    -- of the point at an index
+    abbrev inPoint : ℕ → Bool
+    inPoint at = in-range (getD l at z) && in-range (getD l (at + 1) z)
+
+    pub run-one : (at : ℕ) → at + 2 ≤ length l → inRun at 1 ≡ inPoint at
+    run-one at h =
+        ap (λ rs. inRangeFrom in-range at (x ∷ (y ∷ rs)) l) (append-nil (others (stride - 2)))
+        ∙ ap (allInRange in-range (aPoint stride)) (two-numbers z l at h)
+        ∙ ap (λ b. in-range (getD l at z) && b)
+        (ap (λ b. in-range (getD l (at + 1) z) && b) (others-in-range in-range (stride - 2) (drop (at + 2) l)) ∙ and-true (in-range (getD l (at + 1) z)))
+
+    pub run-next : (at m : ℕ) → at + 2 ≤ length l → inRun at (suc m) ≡ inPoint at && inRun (at + stride) m
+    run-next at m h =
+        let e : 1 * stride ≡ stride = omega arith in
+        let f : suc m ≡ 1 + m = omega arith in
+        ap (inRun at) f ∙ run-then at 1 m ∙ ap₂ (λ b j. b && inRun (at + j) m) (run-one at h) e
+
+    pub run-two : (at : ℕ) → at + 2 * stride ≤ length l → inRun at 2 ≡ inPoint at && inPoint (at + stride)
+    run-two at h = run-next at 1 (omega arith) ∙ ap (λ b. inPoint at && b) (run-one (at + stride) (omega arith))
+
+-- fewer points have room where more have
+pub fewer-there : (stride at : ℕ) {k n : ℕ} → k ≤ n → at + k * stride ≤ at + n * stride
+fewer-there stride at h = let e = mul-le-mul-right stride h in omega (arith, e)
+
+-- the last points of a run: one, two, or two and then one
+module _ {A : Type 0} (in-range : A → Bool) (stride : ℕ) (two : 2 ≤ stride) (l : List A) (z : A) (at n : ℕ) (room : at + n * stride ≤ length l) where
+  pub last-one : n ≡ 1 → {b : Bool} → b ≡ inPoint in-range stride two l z at → b ≡ inRun in-range stride two l at n
+  last-one e eb =
+      let one = ap (λ k. k * stride) e in
+      eb ∙ sym (run-one in-range stride two l z at (omega (arith, room, two, one))) ∙ ap (inRun in-range stride two l at) (sym e)
+
+  pub last-two : n ≡ 2 → {b : Bool} → b ≡ inRun in-range stride two l at 2 → b ≡ inRun in-range stride two l at n
+  last-two e eb = eb ∙ ap (inRun in-range stride two l at) (sym e)
+
+  pub last-three : n ≡ 3 → {b c : Bool} → b ≡ inRun in-range stride two l at 2 → c ≡ inPoint in-range stride two l z (at + 2 * stride)
+      → b && c ≡ inRun in-range stride two l at n
+  last-three e eb ec =
+      let three = ap (λ k. k * stride) e in
+      ap₂ (λ b c. b && c) eb (ec ∙ sym (run-one in-range stride two l z (at + 2 * stride) (omega (arith, room, two, three))))
+      ∙ sym (run-then in-range stride two l at 2 1) ∙ ap (inRun in-range stride two l at) (sym e)
+
+-- so many points are left, and they decide
+pub record Judged {A : Type 0} (in-range : A → Bool) (stride : ℕ) (l : List A) (from n at left : ℕ) : Type 0 where
   pub reached : at + left * stride ≡ from + n * stride
-  pub same : inRangeFrom in-range from (pointRun stride n) l ≡ found && inRangeFrom in-range at (pointRun stride left) l
+  pub same : inRangeFrom in-range from (pointRun stride n) l ≡ inRangeFrom in-range at (pointRun stride left) l
 
--- of x and of y apart
-apart : (p q r s : Bool) → (p && q) && (r && s) ≡ (p && r) && (q && s)
-apart true true r s = refl
-apart true false r s = sym (and-false r)
-apart false q r s = refl
-
-module _ {A : Type 0} (in-range : A → Bool) (stride : ℕ) (l : List A) where
-  pub judged-none : (from n : ℕ) → Judged in-range stride l from n from n true
+module _ {A : Type 0} (in-range : A → Bool) (stride : ℕ) (two : 2 ≤ stride) (l : List A) where
+  pub judged-none : (from n : ℕ) → Judged in-range stride l from n from n
   judged-none from n = record { reached = refl; same = refl }
 
-  pub judged-all : {from n at left : ℕ} {b : Bool} → Judged in-range stride l from n at left b → left ≡ 0
-      → b ≡ inRangeFrom in-range from (pointRun stride n) l
-  judged-all {from} {n} {at} {left} {b} h e =
-      sym (h .same ∙ ap (λ m. b && inRangeFrom in-range at (pointRun stride m) l) e ∙ and-true b)
+  module _ {from n at left : ℕ} (h : Judged in-range stride l from n at left) (lt : 3 < left) where
+    -- four of them, and the rest
+    four : left ≡ 4 + (left - 4)
+    four = omega (arith, lt)
 
-  -- the numbers of the next point are there, and those of the next two
-  next-there : {from n at left : ℕ} {b : Bool} → Judged in-range stride l from n at left b → (m : ℕ) → left ≡ m + 1
-      → at + stride + m * stride ≡ from + n * stride
-  next-there h m e = omega (arith, h .reached, ap (λ k. k * stride) e ∙ ap (λ k. k * stride) (one-more m) ∙ suc-mul m stride)
-    where
-      one-more : (k : ℕ) → k + 1 ≡ suc k
-      one-more k = omega arith
+    four-reached : at + 4 * stride + (left - 4) * stride ≡ from + n * stride
+    four-reached =
+        let e = ap (λ k. k * stride) four in
+        let f = add-mul 4 (left - 4) stride in
+        omega (arith, h .reached, e, f)
 
-  pub one-there : {from n at left : ℕ} {b : Bool} → Judged in-range stride l from n at left b → 0 < left → at + stride ≤ from + n * stride
-  one-there {from} {n} {at} {left} h lt =
-      let e : left ≡ (left - 1) + 1 = omega (arith, lt) in
-      let there = next-there h (left - 1) e in
-      omega (arith, there)
+    pub four-there : at + 4 * stride ≤ from + n * stride
+    four-there = omega (arith, four-reached)
 
-  pub two-there : {from n at left : ℕ} {b : Bool} → Judged in-range stride l from n at left b → 1 < left → at + stride + stride ≤ from + n * stride
-  two-there {from} {n} {at} {left} h lt =
-      let e : left ≡ suc (suc (left - 2)) = omega (arith, lt) in
-      omega (arith, h .reached, ap (λ k. k * stride) e ∙ suc-mul (suc (left - 2)) stride, suc-mul (left - 2) stride)
+    four-same : inRangeFrom in-range from (pointRun stride n) l
+        ≡ (inRun in-range stride two l at 2 && inRun in-range stride two l (at + 2 * stride) 2)
+        && inRun in-range stride two l (at + 4 * stride) (left - 4)
+    four-same =
+        h .same ∙ ap (inRun in-range stride two l at) four ∙ run-then in-range stride two l at 4 (left - 4)
+        ∙ ap (λ b. b && inRun in-range stride two l (at + 4 * stride) (left - 4)) (run-then in-range stride two l at 2 2)
 
-  module _ (z : A) (two : 2 ≤ stride) where
-    one-point : (at n : ℕ) → at + stride ≤ length l → inRangeFrom in-range at (pointRun stride (suc n)) l
-        ≡ (in-range (getD l at z) && in-range (getD l (at + 1) z)) && inRangeFrom in-range (at + stride) (pointRun stride n) l
-    one-point at n h =
-        in-range-behind in-range at (aPoint stride) (pointRun stride n) l
-        ∙ ap₂ (λ b m. b && inRangeFrom in-range (at + m) (pointRun stride n) l) this (point-long stride two)
-      where
-        this : inRangeFrom in-range at (aPoint stride) l ≡ in-range (getD l at z) && in-range (getD l (at + 1) z)
-        this =
-            ap (allInRange in-range (aPoint stride)) (two-numbers z l at (omega arith))
-            ∙ ap (λ b. in-range (getD l at z) && b)
-            (ap (λ b. in-range (getD l (at + 1) z) && b) (others-in-range in-range (stride - 2) (drop (at + 2) l)) ∙ and-true (in-range (getD l (at + 1) z)))
+    module _ {b c : Bool} (eb : b ≡ inRun in-range stride two l at 2) (ec : c ≡ inRun in-range stride two l (at + 2 * stride) 2) where
+      pub judged-next : b && c ≡ true → Judged in-range stride l from n (at + 4 * stride) (left - 4)
+      judged-next t =
+          record {
+            reached = four-reached;
+            same = four-same ∙ ap (λ d. d && inRun in-range stride two l (at + 4 * stride) (left - 4)) (sym (ap₂ (λ d e. d && e) eb ec) ∙ t);
+          }
 
-    pub judged-next : {from n at left : ℕ} (p q : Bool) {s t : Bool} → Judged in-range stride l from n at left (p && q) → from + n * stride ≤ length l
-        → (m : ℕ) → left ≡ m + 1 → s ≡ p && in-range (getD l at z) → t ≡ q && in-range (getD l (at + 1) z)
-        → Judged in-range stride l from n (at + stride) m (s && t)
-    judged-next {from} {n} {at} {left} p q h room m e es et =
-        let f : left ≡ suc m = omega (arith, e) in
-        let there = next-there h m e in
-        let u = in-range (getD l at z) in
-        let v = in-range (getD l (at + 1) z) in
-        let rest = inRangeFrom in-range (at + stride) (pointRun stride m) l in
-        record {
-          reached = there;
-          same = h .same ∙ ap (λ k. (p && q) && inRangeFrom in-range at (pointRun stride k) l) f
-              ∙ ap (λ b. (p && q) && b) (one-point at m (omega (arith, there))) ∙ sym (and-assoc (p && q) (u && v) rest)
-              ∙ ap (λ b. b && rest) (apart p q u v ∙ sym (ap₂ (λ b c. b && c) es et));
-        }
-
-    pub judged-two : {from n at left : ℕ} (p q s t : Bool) {v w : Bool} → Judged in-range stride l from n at left (p && q) → from + n * stride ≤ length l
-        → 1 < left → s ≡ p && in-range (getD l at z) → t ≡ q && in-range (getD l (at + 1) z)
-        → v ≡ s && in-range (getD l (at + stride) z) → w ≡ t && in-range (getD l (at + stride + 1) z)
-        → Judged in-range stride l from n (at + (stride + stride)) (left - 2) (v && w)
-    judged-two {from} {n} {at} {left} p q s t {v} {w} h room lt es et ev ew =
-        let e : left ≡ (left - 2 + 1) + 1 = omega (arith, lt) in
-        let f : at + stride + stride ≡ at + (stride + stride) = omega arith in
-        subst (λ (k : ℕ). Judged in-range stride l from n k (left - 2) (v && w)) f
-        (judged-next s t (judged-next p q h room (left - 2 + 1) e es et) room (left - 2) refl ev ew)
+      pub judged-beyond : b && c ≡ false → false ≡ inRangeFrom in-range from (pointRun stride n) l
+      judged-beyond t =
+          sym (four-same ∙ ap (λ d. d && inRun in-range stride two l (at + 4 * stride) (left - 4)) (sym (ap₂ (λ d e. d && e) eb ec) ∙ t))
 
 -- ---- gathered by `|`: the top bit tells whether one of them has it
 pub gathered : (a b : ℕ) → below (bitOr a b) ≡ below a && below b
@@ -206,7 +232,7 @@ module _ {A : Type 0} (in-range : A → Bool) (stride : ℕ) where
     split =
         let e : n - i ≡ suc (n - (i + 1)) = omega arith in
         and-eq-true-iff (in-range (getD l at z) && in-range (getD l (at + 1) z)) (inRangeFrom in-range (at + stride) (pointRun stride (n - (i + 1))) l) .0
-        (sym (ap (λ m. inRangeFrom in-range at (pointRun stride m) l) e ∙ one-point in-range stride l z two at (n - (i + 1)) room) ∙ h)
+        (sym (ap (λ m. inRangeFrom in-range at (pointRun stride m) l) e ∙ run-next in-range stride two l z at (n - (i + 1)) (omega arith)) ∙ h)
 
     pub x-ahead : in-range (getD l at z) ≡ true
     x-ahead = and-eq-true-iff (in-range (getD l at z)) (in-range (getD l (at + 1) z)) .0 (split .0) .0

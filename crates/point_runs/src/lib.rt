@@ -14,55 +14,58 @@ ghost use Rattle.moved_hatch.specs.Parts.{movedFrom, inRangeFrom, Movable};
 ghost use Rattle.list_items.specs.Found.{Small};
 use hatch_lists::Item;
 
-// What was found of the points so far: whether each x is in range, and each y.
-struct Found {
-    x: bool,
-    y: bool,
-}
-
-// With one point more.
-fn with_point(numbers: &[f64], at: usize, found: Found) -> Found
+// Whether the coordinates of the point at an index are in range. Both are looked at, whatever the first is: so the compiler tests them at once.
+fn point_within(numbers: &[f64], at: usize) -> bool
     requires { ⌜ at + 2 ≤ length (now numbers) ⌝ }
-    ensures { λ r. ⌜ (r .x ≡ found .x && isWithin (getD (now (numbers .entry)) at nan))
-        × (r .y ≡ found .y && isWithin (getD (now (numbers .entry)) (at + 1) nan)) ⌝ }
+    ensures { λ r. ⌜ r ≡ isWithin (getD (now (numbers .entry)) at nan) && isWithin (getD (now (numbers .entry)) (at + 1) nan) ⌝ }
 {
-    Found {
-        x: found.x & differences::is_within(numbers[at]),
-        y: found.y & differences::is_within(numbers[at + 1]),
-    }
+    differences::is_within(numbers[at]) & differences::is_within(numbers[at + 1])
 }
 
-// Whether the coordinates of n points are in range, with so many numbers from each point to the next. Two points a turn, and no test hangs on one
-// before it: so the compiler tests x and y at once.
+// The same of two points.
+fn pair_within(numbers: &[f64], at: usize, stride: usize) -> bool
+    requires { ⌜ (at + 2 * stride ≤ length (now numbers)) × (2 ≤ stride) ⌝ }
+    ensures { λ r. ⌜ r ≡ inRangeFrom isWithin at (pointRun stride 2) (now (numbers .entry)) ⌝ }
+{
+    point_within(numbers, at) & point_within(numbers, at + stride)
+}
+
+// Of the last points of a run, fewer than four.
+fn last_within(numbers: &[f64], at: usize, n: usize, stride: usize) -> bool
+    requires { ⌜ (at + n * stride ≤ length (now numbers)) × (2 ≤ stride) × (n ≤ 3) ⌝ }
+    ensures { λ r. ⌜ r ≡ inRangeFrom isWithin at (pointRun stride n) (now (numbers .entry)) ⌝ }
+{
+    if n == 0 {
+        return true;
+    }
+    if n == 1 {
+        return point_within(numbers, at);
+    }
+    let first = pair_within(numbers, at, stride);
+    if n == 2 {
+        return first;
+    }
+    first & point_within(numbers, at + 2 * stride)
+}
+
+// Whether the coordinates of n points are in range, with so many numbers from each point to the next. Four points a turn, and out at the first turn
+// where one is not.
 fn points_within(numbers: &[f64], from: usize, n: usize, stride: usize) -> bool
     requires { ⌜ (from + n * stride ≤ length (now numbers)) × (2 ≤ stride) ⌝ }
     ensures { λ r. ⌜ r ≡ inRangeFrom isWithin from (pointRun stride n) (now (numbers .entry)) ⌝ }
 {
-    let mut found = Found { x: true, y: true };
     let mut at = from;
     let mut left = n;
-    while 1 < left {
-        let first = with_point(numbers, at, found);
-        found = with_point(numbers, at + stride, first);
-        at += stride + stride;
-        left -= 2;
+    while 3 < left {
+        let first = pair_within(numbers, at, stride);
+        let second = pair_within(numbers, at + 2 * stride, stride);
+        if !(first & second) {
+            return false;
+        }
+        at += 4 * stride;
+        left -= 4;
     }
-    if left == 1 {
-        let last = with_point(numbers, at, found);
-        return last.x & last.y;
-    }
-    found.x & found.y
-}
-
-// The same where there are 2 or 3 numbers from point to point, each a loop of its own for the compiler.
-fn run_within(numbers: &[f64], from: usize, n: usize, stride: usize) -> bool
-    requires { ⌜ (from + n * stride ≤ length (now numbers)) × (2 ≤ stride) × (stride ≤ 3) ⌝ }
-    ensures { λ r. ⌜ r ≡ inRangeFrom isWithin from (pointRun stride n) (now (numbers .entry)) ⌝ }
-{
-    if stride == 2 {
-        return points_within(numbers, from, n, 2);
-    }
-    points_within(numbers, from, n, 3)
+    last_within(numbers, at, left, stride)
 }
 
 // Each point's x less x, and its y less y.
@@ -87,7 +90,7 @@ pub fn item_within(numbers: &[f64], from: usize, i: Item) -> bool
 {
     let points = from + i.before;
     let fits = points + i.points * i.stride;
-    if !run_within(numbers, points, i.points, i.stride) {
+    if !points_within(numbers, points, i.points, i.stride) {
         return false;
     }
     points_within(numbers, fits, i.fit_points, 2)
@@ -104,51 +107,54 @@ pub fn move_item(numbers: &mut [f64], from: usize, i: Item, x: f64, y: f64)
     move_points(numbers, fits, i.fit_points, 2, x, y);
 }
 
-// What was found of the points so far: below 2^63 where each x is in range, and each y.
-struct FoundBits {
-    x: u64,
-    y: u64,
+// Below 2^63 where the coordinates of the point at an index are in range.
+fn point_over(numbers: &[u64], at: usize) -> u64
+    requires { ⌜ at + 2 ≤ length (now numbers) ⌝ }
+    ensures { λ r. ⌜ below r ≡ isWithinBits (getD (now (numbers .entry)) at 0) && isWithinBits (getD (now (numbers .entry)) (at + 1) 0) ⌝ }
+{
+    differences::over_bits(numbers[at]) | differences::over_bits(numbers[at + 1])
 }
 
-fn with_point_bits(numbers: &[u64], at: usize, found: FoundBits) -> FoundBits
-    requires { ⌜ at + 2 ≤ length (now numbers) ⌝ }
-    ensures { λ r. ⌜ (below (r .x) ≡ below (found .x) && isWithinBits (getD (now (numbers .entry)) at 0))
-        × (below (r .y) ≡ below (found .y) && isWithinBits (getD (now (numbers .entry)) (at + 1) 0)) ⌝ }
+fn pair_over(numbers: &[u64], at: usize, stride: usize) -> u64
+    requires { ⌜ (at + 2 * stride ≤ length (now numbers)) × (2 ≤ stride) ⌝ }
+    ensures { λ r. ⌜ below r ≡ inRangeFrom isWithinBits at (pointRun stride 2) (now (numbers .entry)) ⌝ }
 {
-    FoundBits {
-        x: found.x | differences::over_bits(numbers[at]),
-        y: found.y | differences::over_bits(numbers[at + 1]),
+    point_over(numbers, at) | point_over(numbers, at + stride)
+}
+
+fn last_over(numbers: &[u64], at: usize, n: usize, stride: usize) -> u64
+    requires { ⌜ (at + n * stride ≤ length (now numbers)) × (2 ≤ stride) × (n ≤ 3) ⌝ }
+    ensures { λ r. ⌜ below r ≡ inRangeFrom isWithinBits at (pointRun stride n) (now (numbers .entry)) ⌝ }
+{
+    if n == 0 {
+        return 0;
     }
+    if n == 1 {
+        return point_over(numbers, at);
+    }
+    let first = pair_over(numbers, at, stride);
+    if n == 2 {
+        return first;
+    }
+    first | point_over(numbers, at + 2 * stride)
 }
 
 fn points_within_bits(numbers: &[u64], from: usize, n: usize, stride: usize) -> bool
     requires { ⌜ (from + n * stride ≤ length (now numbers)) × (2 ≤ stride) ⌝ }
     ensures { λ r. ⌜ r ≡ inRangeFrom isWithinBits from (pointRun stride n) (now (numbers .entry)) ⌝ }
 {
-    let mut found = FoundBits { x: 0, y: 0 };
     let mut at = from;
     let mut left = n;
-    while 1 < left {
-        let first = with_point_bits(numbers, at, found);
-        found = with_point_bits(numbers, at + stride, first);
-        at += stride + stride;
-        left -= 2;
+    while 3 < left {
+        let first = pair_over(numbers, at, stride);
+        let second = pair_over(numbers, at + 2 * stride, stride);
+        if 0x8000_0000_0000_0000 <= first | second {
+            return false;
+        }
+        at += 4 * stride;
+        left -= 4;
     }
-    if left == 1 {
-        let last = with_point_bits(numbers, at, found);
-        return (last.x | last.y) < 0x8000_0000_0000_0000;
-    }
-    (found.x | found.y) < 0x8000_0000_0000_0000
-}
-
-fn run_within_bits(numbers: &[u64], from: usize, n: usize, stride: usize) -> bool
-    requires { ⌜ (from + n * stride ≤ length (now numbers)) × (2 ≤ stride) × (stride ≤ 3) ⌝ }
-    ensures { λ r. ⌜ r ≡ inRangeFrom isWithinBits from (pointRun stride n) (now (numbers .entry)) ⌝ }
-{
-    if stride == 2 {
-        return points_within_bits(numbers, from, n, 2);
-    }
-    points_within_bits(numbers, from, n, 3)
+    last_over(numbers, at, left, stride) < 0x8000_0000_0000_0000
 }
 
 // What is moved must be in range: then no pattern is a NaN's, and none is looked for.
@@ -172,7 +178,7 @@ pub fn item_within_bits(numbers: &[u64], from: usize, i: Item) -> bool
 {
     let points = from + i.before;
     let fits = points + i.points * i.stride;
-    if !run_within_bits(numbers, points, i.points, i.stride) {
+    if !points_within_bits(numbers, points, i.points, i.stride) {
         return false;
     }
     points_within_bits(numbers, fits, i.fit_points, 2)

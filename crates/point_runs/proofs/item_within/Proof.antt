@@ -15,8 +15,8 @@ mul-fits c = search needs
 add-fits : tie.Need-add-fits
 add-fits c = search needs
 
-run-within-requires : tie.Need-run-within-requires
-run-within-requires c κs = search needs
+points-within-requires : tie.Need-points-within-requires
+points-within-requires c κs = search needs
 
 returns : tie.Need-returns
 returns c =
@@ -24,11 +24,11 @@ returns c =
     let started = called .before .before in
     let entry = started .before .before in
     let a = entry .args in
-    let first = called .run-within in
+    let first = called .points-within in
     sym (points-beyond (a .i) (a .from) isWithin (entry .pre .0 .from-two) (a .numbers .now) (first .result) (first .ensures) (c .if1 .taken))
 
-points-within-requires : tie.Need-points-within-requires
-points-within-requires c κs = search needs
+points-within-requires-2 : tie.Need-points-within-requires-2
+points-within-requires-2 c κs = search needs
 
 returns-2 : tie.Need-returns-2
 returns-2 c =
@@ -37,8 +37,8 @@ returns-2 c =
     let started = called .before .before in
     let entry = started .before .before in
     let a = entry .args in
-    let first = called .run-within in
-    c .points-within .ensures
+    let first = called .points-within in
+    c .points-within2 .ensures
     ∙ sym (fits-decide (a .i) (a .from) isWithin (entry .pre .0 .from-two) (a .numbers .now) (first .result) (first .ensures) (tested .if1 .left))
 
 pub item-within-spec : {M : Type 1} → statement M
@@ -48,7 +48,7 @@ item-within-spec =
     add-points
     mul-fits
     add-fits
-    run-within-requires
-    returns
     points-within-requires
+    returns
+    points-within-requires-2
     returns-2)

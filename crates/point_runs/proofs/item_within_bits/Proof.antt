@@ -15,8 +15,8 @@ mul-fits c = search needs
 add-fits : tie.Need-add-fits
 add-fits c = search needs
 
-run-within-bits-requires : tie.Need-run-within-bits-requires
-run-within-bits-requires c κs = search needs
+points-within-bits-requires : tie.Need-points-within-bits-requires
+points-within-bits-requires c κs = search needs
 
 returns : tie.Need-returns
 returns c =
@@ -24,11 +24,11 @@ returns c =
     let started = called .before .before in
     let entry = started .before .before in
     let a = entry .args in
-    let first = called .run-within-bits in
+    let first = called .points-within-bits in
     sym (points-beyond (a .i) (a .from) isWithinBits (entry .pre .0 .from-two) (a .numbers .now) (first .result) (first .ensures) (c .if1 .taken))
 
-points-within-bits-requires : tie.Need-points-within-bits-requires
-points-within-bits-requires c κs = search needs
+points-within-bits-requires-2 : tie.Need-points-within-bits-requires-2
+points-within-bits-requires-2 c κs = search needs
 
 returns-2 : tie.Need-returns-2
 returns-2 c =
@@ -37,8 +37,8 @@ returns-2 c =
     let started = called .before .before in
     let entry = started .before .before in
     let a = entry .args in
-    let first = called .run-within-bits in
-    c .points-within-bits .ensures
+    let first = called .points-within-bits in
+    c .points-within-bits2 .ensures
     ∙ sym (fits-decide (a .i) (a .from) isWithinBits (entry .pre .0 .from-two) (a .numbers .now) (first .result) (first .ensures) (tested .if1 .left))
 
 pub item-within-bits-spec : {M : Type 1} → statement M
@@ -48,7 +48,7 @@ item-within-bits-spec =
     add-points
     mul-fits
     add-fits
-    run-within-bits-requires
-    returns
     points-within-bits-requires
+    returns
+    points-within-bits-requires-2
     returns-2)

@@ -1,61 +1,88 @@
--- What was found so far and the points left decide; each turn takes two points of them, and where one is left it is the last.
-use mathlib.Core.Path.{_≡_, refl}
+-- The points left decide; each turn takes four of them, or finds one out of range.
+use mathlib.Core.Path.{refl, sym, _∙_}
 use mathlib.Core.Bool.{_&&_}
 use native.Mathlib.Omega.{arith}
-use lib.Ieee.{nan}
 use Rattle.differences.specs.Limits.{isWithin}
-use Rattle.point_runs.proofs.PointLaws.{Judged, judged-none, judged-next, judged-two, judged-all, one-there, two-there}
+use Rattle.point_runs.proofs.PointLaws.{refused, passed, Judged, judged-none, judged-next, judged-beyond, four-there}
 use borrow.Author.Needs.{needs}
 use Rattle.point_runs.proofs.points_within.Statement.{statement}
 use Rattle.point_runs.proofs.points_within.Tie as tie
 
 abbrev Inv-loop : tie.InvT-loop
-Inv-loop numbers from n stride found₀ at₀ left₀ found at left = Judged isWithin stride numbers from n at left (found .x && found .y)
+Inv-loop numbers from n stride at₀ left₀ at left = Judged isWithin stride numbers from n at left
 
 abbrev μ-loop : tie.MeasureT-loop
-μ-loop numbers from n stride found₀ at₀ left₀ found at left = left
+μ-loop numbers from n stride at₀ left₀ at left = left
 
 loop-holds : tie.Need-loop-holds Inv-loop μ-loop
-loop-holds c = let a = c .before .args in judged-none isWithin (a .stride) (a .numbers .now) (a .from) (a .n)
+loop-holds c =
+    let entry = c .before in
+    let a = entry .args in
+    judged-none isWithin (a .stride) (entry .pre .1) (a .numbers .now) (a .from) (a .n)
 
-with-point-requires : tie.Need-with-point-requires Inv-loop μ-loop
-with-point-requires c κs =
+pair-within-requires : tie.Need-pair-within-requires Inv-loop μ-loop
+pair-within-requires c κs =
     let in-loop = c in
     let at-loop = in-loop .before in
     let entry = at-loop .before .before in
-    let there = two-there isWithin (entry .args .stride) (entry .args .numbers .now) (at-loop .loop .inv) (in-loop .loop-test .taken) in
-    omega (arith, there, entry .pre .0, entry .pre .1)
+    let a = entry .args in
+    let there = four-there isWithin (a .stride) (entry .pre .1) (a .numbers .now) (at-loop .loop .inv) (in-loop .loop-test .taken) in
+    (omega (arith, there, entry .pre .0, entry .pre .1), entry .pre .1)
 
-add-with-point : tie.Need-add-with-point Inv-loop μ-loop
-add-with-point c =
+mul-pair-within : tie.Need-mul-pair-within Inv-loop μ-loop
+mul-pair-within c =
     let in-loop = c .before in
     let at-loop = in-loop .before in
     let entry = at-loop .before .before in
-    let there = two-there isWithin (entry .args .stride) (entry .args .numbers .now) (at-loop .loop .inv) (in-loop .loop-test .taken) in
+    let a = entry .args in
+    let there = four-there isWithin (a .stride) (entry .pre .1) (a .numbers .now) (at-loop .loop .inv) (in-loop .loop-test .taken) in
     omega (arith, there, entry .pre .0, entry .pre .1)
 
-with-point-requires-2 : tie.Need-with-point-requires-2 Inv-loop μ-loop
-with-point-requires-2 c κs =
+add-pair-within : tie.Need-add-pair-within Inv-loop μ-loop
+add-pair-within c =
     let in-loop = c .before in
     let at-loop = in-loop .before in
     let entry = at-loop .before .before in
-    let there = two-there isWithin (entry .args .stride) (entry .args .numbers .now) (at-loop .loop .inv) (in-loop .loop-test .taken) in
+    let a = entry .args in
+    let there = four-there isWithin (a .stride) (entry .pre .1) (a .numbers .now) (at-loop .loop .inv) (in-loop .loop-test .taken) in
+    omega (arith, there, entry .pre .0, entry .pre .1)
+
+pair-within-requires-2 : tie.Need-pair-within-requires-2 Inv-loop μ-loop
+pair-within-requires-2 c κs =
+    let in-loop = c .before in
+    let at-loop = in-loop .before in
+    let entry = at-loop .before .before in
+    let a = entry .args in
+    let there = four-there isWithin (a .stride) (entry .pre .1) (a .numbers .now) (at-loop .loop .inv) (in-loop .loop-test .taken) in
+    (omega (arith, there, entry .pre .0, entry .pre .1), entry .pre .1)
+
+returns : tie.Need-returns Inv-loop μ-loop
+returns c =
+    let second = c .before in
+    let first = second .before in
+    let in-loop = first .before in
+    let at-loop = in-loop .before in
+    let entry = at-loop .before .before in
+    let a = entry .args in
+    judged-beyond isWithin (a .stride) (entry .pre .1) (a .numbers .now) (at-loop .loop .inv) (in-loop .loop-test .taken)
+    (first .pair-within .ensures) (second .pair-within2 .ensures) (refused (first .pair-within .result && second .pair-within2 .result) (c .if1 .taken) refl)
+
+mul-at : tie.Need-mul-at Inv-loop μ-loop
+mul-at c =
+    let in-loop = c .before .before .before in
+    let at-loop = in-loop .before in
+    let entry = at-loop .before .before in
+    let a = entry .args in
+    let there = four-there isWithin (a .stride) (entry .pre .1) (a .numbers .now) (at-loop .loop .inv) (in-loop .loop-test .taken) in
     omega (arith, there, entry .pre .0, entry .pre .1)
 
 add-at : tie.Need-add-at Inv-loop μ-loop
 add-at c =
-    let in-loop = c .before .before in
+    let in-loop = c .before .before .before in
     let at-loop = in-loop .before in
     let entry = at-loop .before .before in
-    let there = two-there isWithin (entry .args .stride) (entry .args .numbers .now) (at-loop .loop .inv) (in-loop .loop-test .taken) in
-    omega (arith, there, entry .pre .0, entry .pre .1)
-
-add-at-2 : tie.Need-add-at-2 Inv-loop μ-loop
-add-at-2 c =
-    let in-loop = c .before .before in
-    let at-loop = in-loop .before in
-    let entry = at-loop .before .before in
-    let there = two-there isWithin (entry .args .stride) (entry .args .numbers .now) (at-loop .loop .inv) (in-loop .loop-test .taken) in
+    let a = entry .args in
+    let there = four-there isWithin (a .stride) (entry .pre .1) (a .numbers .now) (at-loop .loop .inv) (in-loop .loop-test .taken) in
     omega (arith, there, entry .pre .0, entry .pre .1)
 
 sub-left : tie.Need-sub-left Inv-loop μ-loop
@@ -66,43 +93,25 @@ loop-less c = search needs
 
 loop-again : tie.Need-loop-again Inv-loop μ-loop
 loop-again c =
-    let first = c .before in
+    let second = c .before in
+    let first = second .before in
     let in-loop = first .before in
     let at-loop = in-loop .before in
     let entry = at-loop .before .before in
-    let found = at-loop .loop .found in
-    let one = first .with-point .result in
-    judged-two isWithin (entry .args .stride) (entry .args .numbers .now) nan (entry .pre .1) (found .x) (found .y) (one .x) (one .y)
-    (at-loop .loop .inv) (entry .pre .0) (in-loop .loop-test .taken)
-    (first .with-point .ensures .0) (first .with-point .ensures .1) (c .with-point2 .ensures .0) (c .with-point2 .ensures .1)
+    let a = entry .args in
+    judged-next isWithin (a .stride) (entry .pre .1) (a .numbers .now) (at-loop .loop .inv) (in-loop .loop-test .taken)
+    (first .pair-within .ensures) (second .pair-within2 .ensures) (passed (first .pair-within .result && second .pair-within2 .result) (c .if1 .left) refl)
 
-with-point-requires-3 : tie.Need-with-point-requires-3 Inv-loop μ-loop
-with-point-requires-3 c κs =
-    let at-loop = c .before .before in
+last-within-requires : tie.Need-last-within-requires Inv-loop μ-loop
+last-within-requires c κs =
+    let at-loop = c .before in
     let entry = at-loop .before .before in
-    let there = one-there isWithin (entry .args .stride) (entry .args .numbers .now) (at-loop .loop .inv) (omega (arith, c .if1 .taken)) in
-    omega (arith, there, entry .pre .0, entry .pre .1)
-
-returns : tie.Need-returns Inv-loop μ-loop
-returns c =
-    let last = c .before in
-    let tested = last .before in
-    let at-loop = tested .before .before in
-    let entry = at-loop .before .before in
-    let found = at-loop .loop .found in
-    let all =
-    judged-next isWithin (entry .args .stride) (entry .args .numbers .now) nan (entry .pre .1) (found .x) (found .y)
-    (at-loop .loop .inv) (entry .pre .0) 0 (tested .if1 .taken) (last .with-point3 .ensures .0) (last .with-point3 .ensures .1) in
-    judged-all isWithin (entry .args .stride) (entry .args .numbers .now) all refl
+    (omega (arith, at-loop .loop .inv .reached, entry .pre .0), entry .pre .1, omega (arith, c .loop-test .left))
 
 returns-2 : tie.Need-returns-2 Inv-loop μ-loop
 returns-2 c =
-    let tested = c .before in
-    let in-loop = tested .before in
-    let at-loop = in-loop .before in
-    let a = at-loop .before .before .args in
-    let none : at-loop .loop .left ≡ 0 = omega (arith, in-loop .loop-test .left, tested .if1 .left) in
-    judged-all isWithin (a .stride) (a .numbers .now) (at-loop .loop .inv) none
+    let at-loop = c .before .before in
+    c .last-within .ensures ∙ sym (at-loop .loop .inv .same)
 
 pub points-within-spec : {M : Type 1} → statement M
 points-within-spec =
@@ -111,14 +120,15 @@ points-within-spec =
     Inv-loop
     μ-loop
     loop-holds
-    with-point-requires
-    add-with-point
-    with-point-requires-2
+    pair-within-requires
+    mul-pair-within
+    add-pair-within
+    pair-within-requires-2
+    returns
+    mul-at
     add-at
-    add-at-2
     sub-left
     loop-less
     loop-again
-    with-point-requires-3
-    returns
+    last-within-requires
     returns-2)
