@@ -1,5 +1,5 @@
 -- A step of the walk from a place in the lists, and where it leads. Assumes nothing.
-use mathlib.Core.Path.{_≡_}
+use mathlib.Core.Path.{_≡_, refl}
 use mathlib.Core.Bool.{Bool, true, false, _&&_}
 use mathlib.Core.List.{List, [], _∷_}
 use Prim.Native.Nat.{ℕ, zero, suc, _+_, _-_, _≤_, _<_}
@@ -7,7 +7,7 @@ use lib.Dec.{leb, eqb}
 use lib.ListN.{length, drop}
 use Rattle.hatch_format.specs.Caps.{documentCaps}
 use Rattle.hatch_lists.specs.declared.Item.{Item}
-use Rattle.hatch_lists.specs.Items.{itemSize}
+use Rattle.hatch_lists.specs.Items.{itemSize, pointsItem}
 use Rattle.hatch_lists.specs.Steps.{Step as Walked, broken, edgeStep, handlesStep, headStep, lineStep}
 use Rattle.hatch_lists.specs.Walks.{Left, leftOf, prepend, Walk, walk}
 use Rattle.whole_lists.specs.declared.Place.{Place}
@@ -77,6 +77,15 @@ stepBy ws numbers word number zero zero zero = Broken
 
 abbrev pub stepAt : List ℕ → ℕ → Place → Step
 stepAt ws numbers p = stepBy ws numbers (p .word) (p .number) (p .parts) (p .paths) (p .lines)
+
+-- a line edge and the handle count are left: the step is the edge, with its four numbers, and what follows is not looked at, here a handle count above the cap
+an-edge : stepAt (1 ∷ (1_025 ∷ [])) 4 (record { word = 0; number = 0; parts = 2; paths = 0; lines = 0 })
+    ≡ Next (pointsItem 2) (record { word = 1; number = 4; parts = 1; paths = 0; lines = 0 })
+an-edge = refl
+
+-- and then the lists are not whole
+no-handles : stepAt (1 ∷ (1_025 ∷ [])) 4 (record { word = 1; number = 4; parts = 1; paths = 0; lines = 0 }) ≡ Broken
+no-handles = refl
 
 -- ---- the walk goes on behind the step's item, whatever comes behind the walk; or it is not whole
 abbrev pub resumed : Walk → List ℕ → ℕ → Step → Walked Left (List Item)
