@@ -2,8 +2,8 @@
 -- Assumes nothing.
 use mathlib.Core.Path.{_≡_, refl, sym, ap, subst, _∙_}
 use mathlib.Core.List.{List}
-use Prim.Native.Nat.{ℕ, zero, suc, _+_, _-_, _≤_, _<_}
-use lib.ListN.{length, getD, drop, length-drop}
+use Prim.Native.Nat.{ℕ, zero, suc, _+_, _≤_, _<_}
+use lib.ListN.{length, getD, drop}
 use Rattle.hatch_format.specs.Caps.{documentCaps}
 use Rattle.hatch_lists.specs.declared.Item.{Item}
 use native.Mathlib.Omega.{arith}
@@ -11,9 +11,8 @@ use Rattle.hatch_lists.specs.Items.{no-item}
 use Rattle.hatch_lists.specs.Steps.{Step, next, broken, Head, edgeBy, edgeStep}
 use Rattle.list_items.specs.declared.ItemAt.the-variants.{Found, Broken}
 use Rattle.list_items.specs.declared.ItemAt.{ItemAt}
-use Rattle.list_items.specs.declared.HeadAt.the-variants.{Found as FoundHead, Broken as BrokenHead}
-use Rattle.list_items.specs.declared.HeadAt.{HeadAt}
-use Rattle.list_items.specs.Found.{Small, Finds, FindsHead, foundItem, itemAt, foundHead, headAt}
+use Rattle.list_items.specs.declared.HeadAt.the-variants.{Found as FoundHead}
+use Rattle.list_items.specs.Found.{Small, Finds, FindsHead}
 use Rattle.list_items.proofs.Words.{first-word}
 use Rattle.list_items.proofs.Heads.{headOf}
 
@@ -33,18 +32,6 @@ module _ (ws : List ℕ) (at to : ℕ) (i j : Item) (same : i ≡ j) (small : Sm
     subst Small (sym same) small,
     h,
   )
-
--- what is found is one value
-behind-is : (ws : List ℕ) (to : ℕ) → to ≤ length ws → to ≡ length ws - length (drop to ws)
-behind-is ws to h = let e = length-drop to ws in omega (arith, h, e)
-
-pub item-is : (step : List ℕ → Step (List ℕ) Item) (ws : List ℕ) (at : ℕ) (r : ItemAt) → Finds ws at r step → r ≡ itemAt step ws at
-item-is step ws at (Found i to) f = ap (Found i) (behind-is ws to (f .1 .within)) ∙ ap (foundItem (length ws)) (sym (f .0))
-item-is step ws at Broken f = ap (foundItem (length ws)) (sym f)
-
-pub head-is : (step : List ℕ → Step (List ℕ) Head) (ws : List ℕ) (at : ℕ) (r : HeadAt) → FindsHead ws at r step → r ≡ headAt step ws at
-head-is step ws at (FoundHead i parts to) f = ap (FoundHead i parts) (behind-is ws to (f .1 .within)) ∙ ap (foundHead (length ws)) (sym (f .0))
-head-is step ws at BrokenHead f = ap (foundHead (length ws)) (sym f)
 
 -- an item one word further on
 pub found-behind : (ws : List ℕ) (at : ℕ) (step behind : List ℕ → Step (List ℕ) Item) → step (drop at ws) ≡ behind (drop (at + 1) ws) → (r : ItemAt)

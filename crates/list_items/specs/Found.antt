@@ -3,7 +3,7 @@ use mathlib.Core.Path.{_≡_}
 use mathlib.Core.Bool.{Bool, _&&_}
 use mathlib.Core.List.{List}
 use lib.Dec.{leb}
-use Prim.Native.Nat.{ℕ, _-_, _≤_, _<_}
+use Prim.Native.Nat.{ℕ, _≤_, _<_}
 use lib.ListN.{length, drop}
 use Rattle.hatch_lists.specs.declared.Item.{Item}
 use Rattle.hatch_lists.specs.Steps.{Step, next, broken, Head}
@@ -34,21 +34,6 @@ abbrev pub FindsHead : List ℕ → ℕ → HeadAt → (List ℕ → Step (List 
 FindsHead ws at (FoundHead i parts to) step =
     (step (drop at ws) ≡ next (record { item = i; parts = parts }) (drop to ws)) × Behind ws at to × Small i × (parts ≤ 100_001)
 FindsHead ws at BrokenHead step = step (drop at ws) ≡ broken
-
--- the same as one value: the index behind is the list's length less that of the words left
-abbrev pub foundItem : ℕ → Step (List ℕ) Item → ItemAt
-foundItem words (next i left) = Found i (words - length left)
-foundItem words broken = Broken
-
-abbrev pub itemAt : (List ℕ → Step (List ℕ) Item) → List ℕ → ℕ → ItemAt
-itemAt step ws at = foundItem (length ws) (step (drop at ws))
-
-abbrev pub foundHead : ℕ → Step (List ℕ) Head → HeadAt
-foundHead words (next h left) = FoundHead (h .item) (h .parts) (words - length left)
-foundHead words broken = BrokenHead
-
-abbrev pub headAt : (List ℕ → Step (List ℕ) Head) → List ℕ → ℕ → HeadAt
-headAt step ws at = foundHead (length ws) (step (drop at ws))
 
 -- the words of a spline behind its degree, and those of a polyline behind its flags, are those of a hatch
 abbrev pub splineWords : ℕ → ℕ → ℕ → ℕ → ℕ → Bool

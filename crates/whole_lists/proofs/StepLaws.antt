@@ -5,134 +5,87 @@ use mathlib.Core.List.{List, [], _∷_}
 use Prim.Native.Nat.{ℕ, zero, suc, _+_, _-_, _≤_, _<_}
 use native.Mathlib.Omega.{arith}
 use lib.Dec.{leb, eqb}
-use lib.ListN.{drop}
+use lib.ListN.{length, drop, length-drop}
 use borrow.Author.Tests.{leb-true}
 use Rattle.hatch_format.specs.Caps.{documentCaps}
 use Rattle.hatch_lists.specs.declared.Item.{Item}
 use Rattle.hatch_lists.specs.Items.{itemSize}
-use Rattle.hatch_lists.specs.Steps.{Step as Walked, next, broken, andNext, Head, handlesStep, edgeStep, headStep, lineStep}
-use Rattle.hatch_lists.specs.Walks.{Left, leftOf, passIf as passLeft, passing, stepping, prepend, Walk, itemThen, partsThen, pathThen, walk}
+use Rattle.hatch_lists.specs.Steps.{Step as Walked, next, broken, andNext, handlesStep, edgeStep, headStep, lineStep}
+use Rattle.hatch_lists.specs.Walks.{Left, leftOf, passIf as passLeft, passing, stepping, prepend, Walk, walk}
 use Rattle.whole_lists.specs.declared.Place.{Place}
+use Rattle.whole_lists.specs.declared.Step.the-variants.{Broken}
 use Rattle.list_items.specs.declared.ItemAt.{ItemAt}
 use Rattle.list_items.specs.declared.ItemAt.the-variants.{Found, Broken as NotFound}
-use Rattle.list_items.specs.declared.HeadAt.{HeadAt}
-use Rattle.list_items.specs.declared.HeadAt.the-variants.{Found as FoundHead, Broken as NoHead}
-use Rattle.list_items.specs.Found.{Small, Behind, Finds, FindsHead, itemAt, headAt}
-use Rattle.list_items.proofs.Finds.{item-is, head-is}
-use Rattle.whole_lists.specs.Stepped.{
-  Within,
-  leftAt,
-  walkAt,
-  passIf,
-  passedTo,
-  SmallAt,
-  passedFound,
-  passedHead,
-  stepBy,
-  stepAt,
-  resumed,
-  Onward,
-  Steps,
-}
+use Rattle.list_items.specs.Found.{Small, Behind, Finds}
+use Rattle.whole_lists.specs.Stepped.{Within, leftAt, walkAt, passIf, passedTo, SmallAt, passedFound}
+use Rattle.whole_lists.specs.Stepped.{stepOn, stepBy, stepAt, resumed, Onward, Steps}
 
--- ---- the step of any kind: its value a has an item, and the walk goes on by K a
-module _ {A : Type 0} (item-of : A → Item) (step : List ℕ → Walked (List ℕ) A) (K : A → Walk) (ws : List ℕ) (n : ℕ) (p : Place) where
-  abbrev stepped : Walked Left (List Item)
-  stepped = andNext (stepping item-of step (leftAt ws n p)) (λ a r. prepend (item-of a ∷ []) (K a r))
+-- what walk and step begin with at a place: a value that has an item and says how many parts follow it; so many paths and lines are left behind it
+pub record Begins {A : Type 0} (item-of : A → Item) (parts-of : A → ℕ) (step : List ℕ → Walked (List ℕ) A) (ws : List ℕ) (n : ℕ) (p : Place)
+    (paths lines : ℕ) : Type 0 where
+  pub walks : (rest : Walk) → walkAt rest ws n p
+      ≡ andNext (stepping item-of step (leftAt ws n p)) (λ a r. prepend (item-of a ∷ []) (walk documentCaps rest (parts-of a) paths lines r))
+  pub steps : stepAt ws n p ≡ stepOn ws n (p .number) item-of parts-of (step (drop (p .word) ws)) paths lines
 
-  broken-off : step (drop (p .word) ws) ≡ broken → stepped ≡ broken
-  broken-off e = ap (λ (o : Walked (List ℕ) A). andNext (passing item-of (n - p .number) o) (λ a r. prepend (item-of a ∷ []) (K a r))) e
+-- ---- a step of any kind, from what the words say
+module _ {A : Type 0} (item-of : A → Item) (parts-of : A → ℕ) (step : List ℕ → Walked (List ℕ) A) (ws : List ℕ) (n : ℕ) (p : Place) (paths lines : ℕ)
+    (begins : Begins item-of parts-of step ws n p paths lines) where
+  -- the walk goes on
+  abbrev goesOn : Walk → A → Left → Walked Left (List Item)
+  goesOn rest a r = prepend (item-of a ∷ []) (walk documentCaps rest (parts-of a) paths lines r)
 
-  on : (a : A) (to : ℕ) → step (drop (p .word) ws) ≡ next a (drop to ws) → (b : Bool) → leb (itemSize (item-of a)) (n - p .number) ≡ b
-      → stepped ≡ elim b [
-        | true ↦ prepend (item-of a ∷ []) (K a (leftOf (drop to ws) (n - (p .number + itemSize (item-of a)))))
-        | false ↦ broken
-      ]
-  on a to e true f =
-      let m : n - p .number - itemSize (item-of a) ≡ n - (p .number + itemSize (item-of a)) = omega arith in
-      ap (λ (o : Walked (List ℕ) A). andNext (passing item-of (n - p .number) o) (λ a r. prepend (item-of a ∷ []) (K a r))) e
-      ∙ ap (λ (t : Bool). andNext (passLeft t a (itemSize (item-of a)) (drop to ws) (n - p .number)) (λ a r. prepend (item-of a ∷ []) (K a r))) f
-      ∙ ap (λ (k : ℕ). prepend (item-of a ∷ []) (K a (leftOf (drop to ws) k))) m
-  on a to e false f =
-      ap (λ (o : Walked (List ℕ) A). andNext (passing item-of (n - p .number) o) (λ a r. prepend (item-of a ∷ []) (K a r))) e
-      ∙ ap (λ (t : Bool). andNext (passLeft t a (itemSize (item-of a)) (drop to ws) (n - p .number)) (λ a r. prepend (item-of a ∷ []) (K a r))) f
+  walk-said : {said : Walked (List ℕ) A} → step (drop (p .word) ws) ≡ said → (rest : Walk)
+      → walkAt rest ws n p ≡ andNext (passing item-of (n - p .number) said) (goesOn rest)
+  walk-said e rest = begins .walks rest ∙ ap (λ (o : Walked (List ℕ) A). andNext (passing item-of (n - p .number) o) (goesOn rest)) e
 
--- ---- an item, with its numbers passed or not
-module _ (ws : List ℕ) (n : ℕ) (p : Place) (w : Within ws n p) (i : Item) (to : ℕ) (behind : Behind ws (p .word) to) (small : Small i) (q : Place)
-    (qw : q .word ≡ to)
-    (parts : q .parts ≤ 100_001) where
-  passed-onward : (b : Bool) → leb (itemSize i) (n - p .number) ≡ b → Onward ws n p (passIf b (p .number) i q)
-  passed-onward true e =
-      let h = leb-true (itemSize i) (n - p .number) e in
-      let k = w .number in
-      (omega (arith, behind .further, qw), record { word = omega (arith, behind .within, qw); number = omega (arith, h, k); parts = parts }, refl, small)
-  passed-onward false e = tt
+  step-said : {said : Walked (List ℕ) A} → step (drop (p .word) ws) ≡ said → stepOn ws n (p .number) item-of parts-of said paths lines ≡ stepAt ws n p
+  step-said e = sym (begins .steps ∙ ap (λ (o : Walked (List ℕ) A). stepOn ws n (p .number) item-of parts-of o paths lines) e)
 
-  passed-steps : passedTo n (p .number) i q ≡ stepAt ws n p
-      → ((b : Bool) → leb (itemSize i) (n - p .number) ≡ b → (rest : Walk) → walkAt rest ws n p ≡ resumed rest ws n (passIf b (p .number) i q))
-      → Steps ws n p (passedTo n (p .number) i q)
-  passed-steps is same =
-      record { is = is; same = same (leb (itemSize i) (n - p .number)) refl; onward = passed-onward (leb (itemSize i) (n - p .number)) refl }
+  pub steps-broken : step (drop (p .word) ws) ≡ broken → Steps ws n p Broken
+  steps-broken e = record { is = step-said e; same = walk-said e; onward = tt }
 
--- ---- what walk and step begin with at a place: an item of this kind, or a path's head; and what is left behind it
-pub record Begins (ws : List ℕ) (n : ℕ) (p : Place) (step : List ℕ → Walked (List ℕ) Item) (parts paths lines : ℕ) : Type 0 where
-  pub walks : (rest : Walk) → walkAt rest ws n p ≡ itemThen step (walk documentCaps rest parts paths lines) (leftAt ws n p)
-  pub steps : stepAt ws n p ≡ passedFound n (p .number) (itemAt step ws (p .word)) parts paths lines
+  module _ (w : Within ws n p) (a : A) (to : ℕ) (said : step (drop (p .word) ws) ≡ next a (drop to ws)) (behind : Behind ws (p .word) to)
+      (small : Small (item-of a))
+      (few : parts-of a ≤ 100_001) where
+    abbrev behindIt : ℕ → Place
+    behindIt word = record { word = word; number = p .number; parts = parts-of a; paths = paths; lines = lines }
 
-pub record BeginsPath (ws : List ℕ) (n : ℕ) (p : Place) (paths lines : ℕ) : Type 0 where
-  pub walks : (rest : Walk) → walkAt rest ws n p ≡ pathThen documentCaps (walk documentCaps rest 0 paths lines) (leftAt ws n p)
-  pub steps : stepAt ws n p ≡ passedHead n (p .number) (headAt (headStep documentCaps) ws (p .word)) paths lines
+    is-from : passedTo n (p .number) (item-of a) (behindIt to) ≡ stepAt ws n p
+    is-from =
+        let left = length-drop to ws in
+        let first : to ≡ length ws - length (drop to ws) = omega (arith, left, behind .within) in
+        ap (λ (k : ℕ). passedTo n (p .number) (item-of a) (behindIt k)) first ∙ step-said said
 
-module _ (ws : List ℕ) (n : ℕ) (p : Place) (w : Within ws n p) where
-  pub steps-item : (step : List ℕ → Walked (List ℕ) Item) (parts paths lines : ℕ) → parts ≤ 100_001 → Begins ws n p step parts paths lines
-      → (r : ItemAt) → Finds ws (p .word) r step → Steps ws n p (passedFound n (p .number) r parts paths lines)
-  steps-item step parts paths lines few begins r f = go r f (is r f)
-    where
-      is : (r : ItemAt) → Finds ws (p .word) r step → passedFound n (p .number) r parts paths lines ≡ stepAt ws n p
-      is r f = ap (λ (o : ItemAt). passedFound n (p .number) o parts paths lines) (item-is step ws (p .word) r f) ∙ sym (begins .steps)
+    -- its numbers are there, or not
+    same-if : (b : Bool) → leb (itemSize (item-of a)) (n - p .number) ≡ b → (rest : Walk)
+        → walkAt rest ws n p ≡ resumed rest ws n (passIf b (p .number) (item-of a) (behindIt to))
+    same-if true e rest =
+        let m : n - p .number - itemSize (item-of a) ≡ n - (p .number + itemSize (item-of a)) = omega arith in
+        walk-said said rest
+        ∙ ap (λ (t : Bool). andNext (passLeft t a (itemSize (item-of a)) (drop to ws) (n - p .number)) (goesOn rest)) e
+        ∙ ap (λ (k : ℕ). goesOn rest a (leftOf (drop to ws) k)) m
+    same-if false e rest =
+        walk-said said rest ∙ ap (λ (t : Bool). andNext (passLeft t a (itemSize (item-of a)) (drop to ws) (n - p .number)) (goesOn rest)) e
 
-      goes : Walk → Item → Walk
-      goes rest i = walk documentCaps rest parts paths lines
+    onward-if : (b : Bool) → leb (itemSize (item-of a)) (n - p .number) ≡ b → Onward ws n p (passIf b (p .number) (item-of a) (behindIt to))
+    onward-if true e =
+        let h = leb-true (itemSize (item-of a)) (n - p .number) e in
+        let k = w .number in
+        (behind .further, record { word = behind .within; number = omega (arith, h, k); parts = few }, refl, small)
+    onward-if false e = tt
 
-      go : (r : ItemAt) → Finds ws (p .word) r step → passedFound n (p .number) r parts paths lines ≡ stepAt ws n p
-          → Steps ws n p (passedFound n (p .number) r parts paths lines)
-      go (Found i to) f e =
-          passed-steps ws n p w i to (f .1) (f .2) q refl few e same
-        where
-          q : Place
-          q = record { word = to; number = p .number; parts = parts; paths = paths; lines = lines }
+    pub steps-found : Steps ws n p (passedTo n (p .number) (item-of a) (behindIt to))
+    steps-found =
+        let b = leb (itemSize (item-of a)) (n - p .number) in
+        record { is = is-from; same = same-if b refl; onward = onward-if b refl }
 
-          same : (b : Bool) → leb (itemSize i) (n - p .number) ≡ b → (rest : Walk) → walkAt rest ws n p ≡ resumed rest ws n (passIf b (p .number) i q)
-          same true h rest = begins .walks rest ∙ on (λ i. i) step (goes rest) ws n p i to (f .0) true h
-          same false h rest = begins .walks rest ∙ on (λ i. i) step (goes rest) ws n p i to (f .0) false h
-      go NotFound f e =
-          record { is = e; same = λ rest. begins .walks rest ∙ broken-off (λ i. i) step (goes rest) ws n p f; onward = tt }
-
-  pub steps-head : (paths lines : ℕ) → BeginsPath ws n p paths lines → (r : HeadAt) → FindsHead ws (p .word) r (headStep documentCaps)
-      → Steps ws n p (passedHead n (p .number) r paths lines)
-  steps-head paths lines begins r f = go r f (is r f)
-    where
-      is : (r : HeadAt) → FindsHead ws (p .word) r (headStep documentCaps) → passedHead n (p .number) r paths lines ≡ stepAt ws n p
-      is r f = ap (λ (o : HeadAt). passedHead n (p .number) o paths lines) (head-is (headStep documentCaps) ws (p .word) r f) ∙ sym (begins .steps)
-
-      goes : Walk → Head → Walk
-      goes rest h = partsThen documentCaps (h .parts) (walk documentCaps rest 0 paths lines)
-
-      go : (r : HeadAt) → FindsHead ws (p .word) r (headStep documentCaps) → passedHead n (p .number) r paths lines ≡ stepAt ws n p
-          → Steps ws n p (passedHead n (p .number) r paths lines)
-      go (FoundHead i parts to) f e =
-          passed-steps ws n p w i to (f .1) (f .2) q refl (f .3) e same
-        where
-          q : Place
-          q = record { word = to; number = p .number; parts = parts; paths = paths; lines = lines }
-
-          same : (b : Bool) → leb (itemSize i) (n - p .number) ≡ b → (rest : Walk) → walkAt rest ws n p ≡ resumed rest ws n (passIf b (p .number) i q)
-          same true h rest =
-              begins .walks rest ∙ on (λ h. h .item) (headStep documentCaps) (goes rest) ws n p (record { item = i; parts = parts }) to (f .0) true h
-          same false h rest =
-              begins .walks rest ∙ on (λ h. h .item) (headStep documentCaps) (goes rest) ws n p (record { item = i; parts = parts }) to (f .0) false h
-      go NoHead f e =
-          record { is = e; same = λ rest. begins .walks rest ∙ broken-off (λ h. h .item) (headStep documentCaps) (goes rest) ws n p f; onward = tt }
+-- an item that was looked for
+pub steps-item : (step : List ℕ → Walked (List ℕ) Item) (ws : List ℕ) (n : ℕ) (p : Place) (parts paths lines : ℕ) → Within ws n p → parts ≤ 100_001
+    → Begins (λ i. i) (λ i. parts) step ws n p paths lines
+    → (r : ItemAt) → Finds ws (p .word) r step → Steps ws n p (passedFound n (p .number) r parts paths lines)
+steps-item step ws n p parts paths lines w few begins (Found i to) f =
+    steps-found (λ i. i) (λ i. parts) step ws n p paths lines begins w i to (f .0) (f .1) (f .2) few
+steps-item step ws n p parts paths lines w few begins NotFound f = steps-broken (λ i. i) (λ i. parts) step ws n p paths lines begins f
 
 -- ---- which it is, by what is left
 module _ (ws : List ℕ) (n : ℕ) (p : Place) where
@@ -149,23 +102,23 @@ module _ (ws : List ℕ) (n : ℕ) (p : Place) where
         ∙ ap (λ (k : ℕ). stepBy ws n (p .word) (p .number) parts k (p .lines)) f
         ∙ ap (λ (k : ℕ). stepBy ws n (p .word) (p .number) parts paths k) g
 
-  pub begins-handles : p .parts ≡ 1 → Begins ws n p (handlesStep documentCaps) 0 (p .paths) (p .lines)
-  begins-handles e = record { walks = walk-is 1 (p .paths) (p .lines) e refl refl; steps = step-is 1 (p .paths) (p .lines) e refl refl }
-
-  pub begins-edge : 1 < p .parts → Begins ws n p (edgeStep documentCaps) (p .parts - 1) (p .paths) (p .lines)
-  begins-edge h =
-      let k = p .parts - 2 in
-      let e : p .parts ≡ suc (suc k) = omega (arith, h) in
-      let f : suc k ≡ p .parts - 1 = omega (arith, h) in
-      subst (λ (m : ℕ). Begins ws n p (edgeStep documentCaps) m (p .paths) (p .lines)) f
-      (record { walks = walk-is (suc (suc k)) (p .paths) (p .lines) e refl refl; steps = step-is (suc (suc k)) (p .paths) (p .lines) e refl refl })
-
-  pub begins-path : p .parts ≡ 0 → 0 < p .paths → BeginsPath ws n p (p .paths - 1) (p .lines)
+  pub begins-path : p .parts ≡ 0 → 0 < p .paths → Begins (λ h. h .item) (λ h. h .parts) (headStep documentCaps) ws n p (p .paths - 1) (p .lines)
   begins-path e h =
       let f : p .paths ≡ suc (p .paths - 1) = omega (arith, h) in
       record { walks = walk-is 0 (suc (p .paths - 1)) (p .lines) e f refl; steps = step-is 0 (suc (p .paths - 1)) (p .lines) e f refl }
 
-  pub begins-line : p .parts ≡ 0 → p .paths ≡ 0 → 0 < p .lines → Begins ws n p (lineStep documentCaps) 0 0 (p .lines - 1)
+  pub begins-edge : 1 < p .parts → Begins (λ i. i) (λ i. p .parts - 1) (edgeStep documentCaps) ws n p (p .paths) (p .lines)
+  begins-edge h =
+      let k = p .parts - 2 in
+      let e : p .parts ≡ suc (suc k) = omega (arith, h) in
+      let f : suc k ≡ p .parts - 1 = omega (arith, h) in
+      subst (λ (m : ℕ). Begins (λ i. i) (λ i. m) (edgeStep documentCaps) ws n p (p .paths) (p .lines)) f
+      (record { walks = walk-is (suc (suc k)) (p .paths) (p .lines) e refl refl; steps = step-is (suc (suc k)) (p .paths) (p .lines) e refl refl })
+
+  pub begins-handles : p .parts ≡ 1 → Begins (λ i. i) (λ i. 0) (handlesStep documentCaps) ws n p (p .paths) (p .lines)
+  begins-handles e = record { walks = walk-is 1 (p .paths) (p .lines) e refl refl; steps = step-is 1 (p .paths) (p .lines) e refl refl }
+
+  pub begins-line : p .parts ≡ 0 → p .paths ≡ 0 → 0 < p .lines → Begins (λ i. i) (λ i. 0) (lineStep documentCaps) ws n p 0 (p .lines - 1)
   begins-line e f h =
       let g : p .lines ≡ suc (p .lines - 1) = omega (arith, h) in
       record { walks = walk-is 0 0 (suc (p .lines - 1)) e f g; steps = step-is 0 0 (suc (p .lines - 1)) e f g }

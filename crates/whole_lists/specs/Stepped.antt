@@ -8,16 +8,14 @@ use lib.ListN.{length, drop}
 use Rattle.hatch_format.specs.Caps.{documentCaps}
 use Rattle.hatch_lists.specs.declared.Item.{Item}
 use Rattle.hatch_lists.specs.Items.{itemSize, pointsItem}
-use Rattle.hatch_lists.specs.Steps.{Step as Walked, broken, edgeStep, handlesStep, headStep, lineStep}
+use Rattle.hatch_lists.specs.Steps.{Step as Walked, next, broken, edgeStep, handlesStep, headStep, lineStep}
 use Rattle.hatch_lists.specs.Walks.{Left, leftOf, prepend, Walk, walk}
 use Rattle.whole_lists.specs.declared.Place.{Place}
 use Rattle.whole_lists.specs.declared.Step.{Step}
 use Rattle.whole_lists.specs.declared.Step.the-variants.{Next, Broken}
 use Rattle.list_items.specs.declared.ItemAt.{ItemAt}
 use Rattle.list_items.specs.declared.ItemAt.the-variants.{Found, Broken as NotFound}
-use Rattle.list_items.specs.declared.HeadAt.{HeadAt}
-use Rattle.list_items.specs.declared.HeadAt.the-variants.{Found as FoundHead, Broken as NoHead}
-use Rattle.list_items.specs.Found.{Small, itemAt, headAt}
+use Rattle.list_items.specs.Found.{Small}
 
 -- ---- a place in lists of words and of so many numbers
 pub record Within (ws : List ℕ) (numbers : ℕ) (p : Place) : Type 0 where
@@ -56,23 +54,24 @@ passedFound numbers number (Found i to) parts paths lines =
     passedTo numbers number i (record { word = to; number = number; parts = parts; paths = paths; lines = lines })
 passedFound numbers number NotFound parts paths lines = Broken
 
--- and of a path's head, which says how many parts follow
-abbrev pub passedHead : ℕ → ℕ → HeadAt → ℕ → ℕ → Step
-passedHead numbers number (FoundHead i parts to) paths lines =
-    passedTo numbers number i (record { word = to; number = number; parts = parts; paths = paths; lines = lines })
-passedHead numbers number NoHead paths lines = Broken
+-- ---- what the words from a place's on say, with its item's numbers passed: the next word is the first of those left
+module _ (ws : List ℕ) (numbers number : ℕ) where
+  abbrev pub stepOn : {A : Type 0} → (A → Item) → (A → ℕ) → Walked (List ℕ) A → ℕ → ℕ → Step
+  stepOn item-of parts-of (next a left) paths lines =
+      passedTo numbers number (item-of a) (record { word = length ws - length left; number = number; parts = parts-of a; paths = paths; lines = lines })
+  stepOn item-of parts-of broken paths lines = Broken
 
--- ---- the step from a place, by what is left there: an edge or, last, the handle count of the path under way; a path's head; a pattern line.
--- Where all is passed there is none.
+  abbrev pub itemStep : Walked (List ℕ) Item → ℕ → ℕ → ℕ → Step
+  itemStep said parts paths lines = stepOn (λ i. i) (λ i. parts) said paths lines
+
+-- the step from there, by what is left: a path's head, which says how many parts follow; an edge; the handle count, which is the last part; a pattern
+-- line. Where all is passed there is none.
 abbrev pub stepBy : List ℕ → ℕ → ℕ → ℕ → ℕ → ℕ → ℕ → Step
-stepBy ws numbers word number (suc (suc k)) paths lines =
-    passedFound numbers number (itemAt (edgeStep documentCaps) ws word) (suc k) paths lines
-stepBy ws numbers word number (suc zero) paths lines =
-    passedFound numbers number (itemAt (handlesStep documentCaps) ws word) 0 paths lines
-stepBy ws numbers word number zero (suc k) lines =
-    passedHead numbers number (headAt (headStep documentCaps) ws word) k lines
-stepBy ws numbers word number zero zero (suc k) =
-    passedFound numbers number (itemAt (lineStep documentCaps) ws word) 0 0 k
+stepBy ws numbers word number zero (suc paths) lines =
+    stepOn ws numbers number (λ h. h .item) (λ h. h .parts) (headStep documentCaps (drop word ws)) paths lines
+stepBy ws numbers word number (suc (suc parts)) paths lines = itemStep ws numbers number (edgeStep documentCaps (drop word ws)) (suc parts) paths lines
+stepBy ws numbers word number (suc zero) paths lines = itemStep ws numbers number (handlesStep documentCaps (drop word ws)) 0 paths lines
+stepBy ws numbers word number zero zero (suc lines) = itemStep ws numbers number (lineStep documentCaps (drop word ws)) 0 0 lines
 stepBy ws numbers word number zero zero zero = Broken
 
 abbrev pub stepAt : List ℕ → ℕ → Place → Step

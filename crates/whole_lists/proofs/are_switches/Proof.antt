@@ -4,20 +4,17 @@ use borrow.Author.Tests.{le-leb, lt-leb}
 use Rattle.whole_lists.proofs.are_switches.Statement.{statement}
 use Rattle.whole_lists.proofs.are_switches.Tie as tie
 
--- src/lib.rt:214:9
 returns : tie.Need-returns
 returns c =
     let a = c .before .before .args in
     rw (lt-leb (a .c .«solid_fill») 1 (omega arith))
 
--- src/lib.rt:217:9
 returns-2 : tie.Need-returns-2
 returns-2 c =
     let inner = c .before .before .before in
     let a = inner .before .args in
     rw (le-leb (a .c .«solid_fill») 1 (omega arith), lt-leb (a .c .associative) 1 (omega arith))
 
--- src/lib.rt:210:1
 returns-3 : tie.Need-returns-3
 returns-3 c =
     let inner = c .before .before .before in

@@ -7,40 +7,33 @@ use borrow.Author.Needs.{needs}
 use Rattle.whole_lists.proofs.is_end.Statement.{statement}
 use Rattle.whole_lists.proofs.is_end.Tie as tie
 
--- src/lib.rt:260:21
 enum-known-end : tie.Need-enum-known-end
 enum-known-end c = search needs
 
--- src/lib.rt:262:17
 returns : tie.Need-returns
 returns c =
     let found = c .before .before in
     let entry = found .before .before in
     rw (found .end .given .1, lt-leb (entry .args .words) (found .end .given .0 .0) (omega arith))
 
--- src/lib.rt:264:13
 sub-result : tie.Need-sub-result
 sub-result c =
     let found = c .before .before in
     let entry = found .before .before in
     subst (EndWithin (entry .args .numbers)) (found .end .given .1) (entry .pre .0)
 
--- src/lib.rt:264:33
 mul-result : tie.Need-mul-result
 mul-result c = search needs
 
--- src/lib.rt:266:28
 enum-told : tie.Need-enum-told
 enum-told c = search needs
 
--- src/lib.rt:255:1
 returns-2 : tie.Need-returns-2
 returns-2 c =
     let found = c .before .before in
     let entry = found .before .before in
     rw (found .end .given .1, le-leb (entry .args .words) (found .end .given .0 .0) (omega arith))
 
--- src/lib.rt:255:1
 returns-3 : tie.Need-returns-3
 returns-3 c = search needs
 

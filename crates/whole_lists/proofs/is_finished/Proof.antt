@@ -4,20 +4,17 @@ use borrow.Author.Tests.{eq-eqb, ne-eqb}
 use Rattle.whole_lists.proofs.is_finished.Statement.{statement}
 use Rattle.whole_lists.proofs.is_finished.Tie as tie
 
--- src/lib.rt:47:9
 returns : tie.Need-returns
 returns c =
     let a = c .before .before .args in
     rw (ne-eqb (a .at .parts) 0 (omega arith))
 
--- src/lib.rt:50:9
 returns-2 : tie.Need-returns-2
 returns-2 c =
     let inner = c .before .before .before in
     let a = inner .before .args in
     rw (eq-eqb (a .at .parts) 0 (omega arith), ne-eqb (a .at .paths) 0 (omega arith))
 
--- src/lib.rt:43:1
 returns-3 : tie.Need-returns-3
 returns-3 c =
     let inner = c .before .before .before in

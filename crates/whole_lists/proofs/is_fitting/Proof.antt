@@ -8,11 +8,9 @@ use borrow.Author.Needs.{needs}
 use Rattle.whole_lists.proofs.is_fitting.Statement.{statement}
 use Rattle.whole_lists.proofs.is_fitting.Tie as tie
 
--- src/lib.rt:242:9
 are-switches-requires : tie.Need-are-switches-requires
 are-switches-requires c κs = search needs
 
--- src/lib.rt:243:9
 returns : tie.Need-returns
 returns c =
     let s = c .before in
@@ -20,11 +18,9 @@ returns c =
     let no : switches (a .c) ≡ false = sym (s .are-switches .ensures) ∙ not-true (s .are-switches .result) (c .if1 .taken) in
     rw no
 
--- src/lib.rt:245:9
 are-counts-requires : tie.Need-are-counts-requires
 are-counts-requires c κs = search needs
 
--- src/lib.rt:246:9
 returns-2 : tie.Need-returns-2
 returns-2 c =
     let k = c .before in
@@ -34,7 +30,6 @@ returns-2 c =
     let no : counted (a .c) ≡ false = sym (k .are-counts .ensures) ∙ not-true (k .are-counts .result) (c .if2 .taken) in
     rw (yes, no)
 
--- src/lib.rt:249:9
 returns-3 : tie.Need-returns-3
 returns-3 c =
     let k = c .before .before .before in
@@ -44,7 +39,6 @@ returns-3 c =
     let good : counted (a .c) ≡ true = sym (k .are-counts .ensures) ∙ not-false (k .are-counts .result) (c .before .before .if2 .left) in
     rw (yes, good, lt-leb (a .c .«words_used») (a .words) (omega arith))
 
--- src/lib.rt:239:1
 returns-4 : tie.Need-returns-4
 returns-4 c =
     let after-if2 = c .before .before .before in

@@ -30,7 +30,7 @@ returns c =
     let entry = after-line .before .before in
     let a = entry .args in
     subst (Steps (now (a .words)) (a .numbers) (a .at)) (sym (c .pass-found .ensures))
-    (steps-item (now (a .words)) (a .numbers) (a .at) (entry .pre .0) (lineStep documentCaps) 0 0 (a .at .lines - 1) (omega arith)
+    (steps-item (lineStep documentCaps) (now (a .words)) (a .numbers) (a .at) 0 0 (a .at .lines - 1) (entry .pre .0) (omega arith)
     (begins-line (now (a .words)) (a .numbers) (a .at) (entry .pre .1 .0) (entry .pre .1 .1 .0) (entry .pre .1 .1 .1))
     (after-line .line-item .result) (after-line .line-item .ensures))
 

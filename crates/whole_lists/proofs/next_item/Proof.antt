@@ -5,23 +5,18 @@ use borrow.Author.Needs.{needs}
 use Rattle.whole_lists.proofs.next_item.Statement.{statement}
 use Rattle.whole_lists.proofs.next_item.Tie as tie
 
--- src/lib.rt:148:9
 part-step-requires : tie.Need-part-step-requires
 part-step-requires c κs = search needs
 
--- src/lib.rt:148:9
 returns : tie.Need-returns
 returns c = search needs
 
--- src/lib.rt:151:9
 path-step-requires : tie.Need-path-step-requires
 path-step-requires c κs = search needs
 
--- src/lib.rt:151:9
 returns-2 : tie.Need-returns-2
 returns-2 c = search needs
 
--- src/lib.rt:153:5
 line-step-requires : tie.Need-line-step-requires
 line-step-requires c κs =
     let inner = c .before .before .before in
@@ -29,7 +24,6 @@ line-step-requires c κs =
     let a = entry .args in
     (entry .pre .0, (omega arith, (omega arith, left-over (a .at) (entry .pre .1) (omega arith) (omega arith))))
 
--- src/lib.rt:143:1
 returns-3 : tie.Need-returns-3
 returns-3 c = search needs
 

@@ -5,11 +5,9 @@ use borrow.Author.Needs.{needs}
 use Rattle.whole_lists.proofs.next_path.Statement.{statement}
 use Rattle.whole_lists.proofs.next_path.Tie as tie
 
--- src/lib.rt:195:5
 pass-all-requires : tie.Need-pass-all-requires
 pass-all-requires c κs = search needs
 
--- src/lib.rt:191:1
 returns : tie.Need-returns
 returns c =
     let entry = c .before .before in

@@ -28,7 +28,7 @@ returns c =
     let entry = before-if .before in
     let a = entry .args in
     subst (Steps (now (a .words)) (a .numbers) (a .at)) (sym (c .pass-found .ensures))
-    (steps-item (now (a .words)) (a .numbers) (a .at) (entry .pre .0) (handlesStep documentCaps) 0 (a .at .paths) (a .at .lines) (omega arith)
+    (steps-item (handlesStep documentCaps) (now (a .words)) (a .numbers) (a .at) 0 (a .at .paths) (a .at .lines) (entry .pre .0) (omega arith)
     (begins-handles (now (a .words)) (a .numbers) (a .at) (omega arith))
     (after-handles .handles-item .result) (after-handles .handles-item .ensures))
 
@@ -53,7 +53,7 @@ returns-2 c =
     let entry = before-if .before in
     let a = entry .args in
     subst (Steps (now (a .words)) (a .numbers) (a .at)) (sym (c .pass-found2 .ensures))
-    (steps-item (now (a .words)) (a .numbers) (a .at) (entry .pre .0) (edgeStep documentCaps) (a .at .parts - 1) (a .at .paths) (a .at .lines)
+    (steps-item (edgeStep documentCaps) (now (a .words)) (a .numbers) (a .at) (a .at .parts - 1) (a .at .paths) (a .at .lines) (entry .pre .0)
     (omega (arith, entry .pre .0 .parts)) (begins-edge (now (a .words)) (a .numbers) (a .at) (omega (arith, entry .pre .1)))
     (after-edge .edge-item .result) (after-edge .edge-item .ensures))
 

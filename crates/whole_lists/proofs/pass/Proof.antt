@@ -9,25 +9,20 @@ use borrow.Author.Needs.{needs}
 use Rattle.whole_lists.proofs.pass.Statement.{statement}
 use Rattle.whole_lists.proofs.pass.Tie as tie
 
--- src/lib.rt:47:9
 item-size-requires : tie.Need-item-size-requires
 item-size-requires c κs = search needs
 
--- src/lib.rt:48:8
 sub-if1 : tie.Need-sub-if1
 sub-if1 c = search needs
 
--- src/lib.rt:49:9
 returns : tie.Need-returns
 returns c =
     let a = c .before .before .args in
     rw (lt-leb (itemSize (a .i)) (a .numbers - a .number) (omega (arith, c .before .item-size .ensures .0)))
 
--- src/lib.rt:55:21
 add-t6 : tie.Need-add-t6
 add-t6 c = search needs
 
--- src/lib.rt:43:1
 returns-2 : tie.Need-returns-2
 returns-2 c =
     let a = c .before .before .args in

@@ -17,27 +17,22 @@ Inv-loop words numbers at₀ at = Along words numbers at₀ at
 abbrev μ-loop : tie.MeasureT-loop
 μ-loop words numbers at₀ at = length words - at .word
 
--- src/lib.rt:178:5
 loop-holds : tie.Need-loop-holds Inv-loop μ-loop
 loop-holds c =
     let entry = c .before in
     along-start (now (entry .args .words)) (entry .args .numbers) (entry .args .from) (entry .pre)
 
--- src/lib.rt:178:12
 is-finished-requires : tie.Need-is-finished-requires Inv-loop μ-loop
 is-finished-requires c κs = tt
 
--- src/lib.rt:179:15
 next-item-requires : tie.Need-next-item-requires Inv-loop μ-loop
 next-item-requires c κs =
     let tested = c .before in
     (tested .before .loop .inv .within, sym (tested .is-finished .ensures) ∙ not-true (tested .is-finished .result) (c .if1 .taken))
 
--- src/lib.rt:180:27
 enum-known-to : tie.Need-enum-known-to Inv-loop μ-loop
 enum-known-to c = search needs
 
--- src/lib.rt:178:5
 loop-less : tie.Need-loop-less Inv-loop μ-loop
 loop-less c =
     let found = c .before in
@@ -48,7 +43,6 @@ loop-less c =
     let s = subst (Steps (now (a .words)) (a .numbers) (in-loop .loop .at)) (found .to .given .1) (stepped .next-item .ensures) in
     omega (arith, s .onward .0, s .onward .1 .word)
 
--- src/lib.rt:178:5
 loop-again : tie.Need-loop-again Inv-loop μ-loop
 loop-again c =
     let found = c .before in
@@ -59,11 +53,9 @@ loop-again c =
     let s = subst (Steps (now (a .words)) (a .numbers) (in-loop .loop .at)) (found .to .given .1) (stepped .next-item .ensures) in
     along-next (now (a .words)) (a .numbers) (in-loop .loop .inv) s
 
--- src/lib.rt:184:17
 enum-told : tie.Need-enum-told Inv-loop μ-loop
 enum-told c = search needs
 
--- src/lib.rt:184:17
 returns : tie.Need-returns Inv-loop μ-loop
 returns c =
     let stepped = c .before .before in
@@ -73,7 +65,6 @@ returns c =
     let s = subst (Steps (now (a .words)) (a .numbers) (in-loop .loop .at)) (c .enum-told .given .1) (stepped .next-item .ensures) in
     along-broken (now (a .words)) (a .numbers) (in-loop .loop .inv) s
 
--- src/lib.rt:173:1
 returns-2 : tie.Need-returns-2 Inv-loop μ-loop
 returns-2 c =
     let tested = c .before in
