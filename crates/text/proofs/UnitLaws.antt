@@ -8,11 +8,12 @@ use native.Mathlib.Nat.{mul-suc, mul-zero}
 use native.Mathlib.Omega.{arith}
 use lib.Dec.{eqb}
 use lib.ListN.{length, getD, take}
-use borrow.Author.Tests.{eq-eqb, ne-eqb, not-true, not-false}
+use borrow.Author.Tests.{not-true, not-false}
+use Rattle.loads.specs.Bits.{bit}
 use Rattle.loads.specs.Bytes.{lowNumber, bytesAt}
 use Rattle.text.specs.Units.{unitsAt}
 use Rattle.text.specs.Utf16.{high, low, pairedFrom}
-use Rattle.text.specs.Texts.{unclosed}
+use Rattle.text.specs.Texts.{unclosed, endsInZero}
 
 pub length-units : (xs : List ℕ) (p k n : ℕ) → length (unitsAt xs p k n) ≡ n
 unfolding unitsAt
@@ -32,37 +33,42 @@ unit-at xs p k (suc n) (suc i) h =
     let e : p + 8 * (k * suc i) ≡ p + 8 * k + 8 * (k * i) = omega (arith, mul-suc k i) in
     rw e (unit-at xs (p + 8 * k) k n i (omega arith))
 
--- ---- a closing zero
-dropped : (us : List ℕ) (m : ℕ) → length us ≡ suc m → getD us m 0 ≡ 0 → length (unclosed us) ≡ m
-dropped [] m h e = absurd (omega arith)
-dropped (u ∷ []) zero h e = rw (eq-eqb u 0 e, unclosed)
-dropped (u ∷ []) (suc m) h e = absurd (omega arith)
-dropped (u ∷ (v ∷ us)) zero h e = absurd (omega arith)
-dropped (u ∷ (v ∷ us)) (suc m) h e = ap suc (dropped (v ∷ us) m (omega arith) e)
+-- ---- a closing zero: the last unit alone says whether there is one, and how many units are left
+ends-last : (us : List ℕ) (m : ℕ) → length us ≡ suc m → endsInZero us ≡ eqb (getD us m 0) 0
+ends-last [] m h = absurd (omega arith)
+ends-last (u ∷ []) zero h = refl
+ends-last (u ∷ []) (suc m) h = absurd (omega arith)
+ends-last (u ∷ (v ∷ us)) zero h = absurd (omega arith)
+ends-last (u ∷ (v ∷ us)) (suc m) h = ends-last (v ∷ us) m (omega arith)
 
-kept : (us : List ℕ) (m : ℕ) → length us ≡ suc m → (getD us m 0 ≡ 0 → ⊥) → length (unclosed us) ≡ suc m
-kept [] m h e = absurd (omega arith)
-kept (u ∷ []) zero h e = rw (ne-eqb u 0 e, unclosed)
-kept (u ∷ []) (suc m) h e = absurd (omega arith)
-kept (u ∷ (v ∷ us)) zero h e = absurd (omega arith)
-kept (u ∷ (v ∷ us)) (suc m) h e = ap suc (kept (v ∷ us) m (omega arith) e)
-
-module _ (xs : List ℕ) (p k n : ℕ) (some : 0 < n) where
-  last : getD (unitsAt xs p k n) (n - 1) 0 ≡ lowNumber (bytesAt xs (p + 8 * (k * (n - 1))) k)
-  last = unit-at xs p k n (n - 1) (omega arith)
-
-  long : length (unitsAt xs p k n) ≡ suc (n - 1)
-  long = length-units xs p k n ∙ omega arith
-
-  pub count-closed : lowNumber (bytesAt xs (p + 8 * (k * (n - 1))) k) ≡ 0 → n - 1 ≡ length (unclosed (unitsAt xs p k n))
-  count-closed e = sym (dropped (unitsAt xs p k n) (n - 1) long (last ∙ e))
-
-  pub count-open : (lowNumber (bytesAt xs (p + 8 * (k * (n - 1))) k) ≡ 0 → ⊥) → n ≡ length (unclosed (unitsAt xs p k n))
-  count-open e = let m : n ≡ suc (n - 1) = omega arith in m ∙ sym (kept (unitsAt xs p k n) (n - 1) long (λ z. e (sym last ∙ z)))
+pub padded-units : (xs : List ℕ) (p k n : ℕ) → 0 < n → eqb (lowNumber (bytesAt xs (p + 8 * (k * (n - 1))) k)) 0 ≡ endsInZero (unitsAt xs p k n)
+padded-units xs p k n some =
+    let long : length (unitsAt xs p k n) ≡ suc (n - 1) = length-units xs p k n ∙ omega arith in
+    sym (ends-last (unitsAt xs p k n) (n - 1) long ∙ ap (λ (u : ℕ). eqb u 0) (unit-at xs p k n (n - 1) (omega arith)))
 
 -- what is left of one unit
 abbrev pick : ℕ → Bool → List ℕ
 pick u b = elim b [ true ↦ [] | false ↦ u ∷ [] ]
+
+left : (us : List ℕ) → length (unclosed us) + bit (endsInZero us) ≡ length us
+left [] = refl
+left (u ∷ []) = go (eqb u 0)
+  where
+    go : (b : Bool) → length (pick u b) + bit b ≡ 1
+    go true = refl
+    go false = refl
+left (u ∷ (v ∷ us)) = omega (arith, left (v ∷ us))
+
+units-left : (xs : List ℕ) (p k n : ℕ) → length (unclosed (unitsAt xs p k n)) + bit (endsInZero (unitsAt xs p k n)) ≡ n
+units-left xs p k n = left (unitsAt xs p k n) ∙ length-units xs p k n
+
+-- of n units, one fewer is left where they are padded
+module _ (xs : List ℕ) (p k n : ℕ) {padded : Bool} (e : padded ≡ endsInZero (unitsAt xs p k n)) where
+  pub some-padded : bit padded ≤ n
+  some-padded = rw e (omega (arith, units-left xs p k n))
+
+  pub count-left : n - bit padded ≡ length (unclosed (unitsAt xs p k n))
+  count-left = rw e (omega (arith, units-left xs p k n))
 
 -- what is left are the first units
 front : (us : List ℕ) → unclosed us ≡ take (length (unclosed us)) us
@@ -80,17 +86,8 @@ first-units xs p k n zero h = refl
 first-units xs p k zero (suc m) h = absurd (omega arith)
 first-units xs p k (suc n) (suc m) h = ap (λ (l : List ℕ). lowNumber (bytesAt xs p k) ∷ l) (first-units xs (p + 8 * k) k n m (omega arith))
 
-shorter : (us : List ℕ) → length (unclosed us) ≤ length us
-shorter [] = omega arith
-shorter (u ∷ []) = go (eqb u 0)
-  where
-    go : (b : Bool) → length (pick u b) ≤ 1
-    go true = omega arith
-    go false = omega arith
-shorter (u ∷ (v ∷ us)) = omega (arith, shorter (v ∷ us))
-
-pub count-most : (xs : List ℕ) (p k n : ℕ) → length (unclosed (unitsAt xs p k n)) ≤ n
-count-most xs p k n = omega (arith, shorter (unitsAt xs p k n), length-units xs p k n)
+count-most : (xs : List ℕ) (p k n : ℕ) → length (unclosed (unitsAt xs p k n)) ≤ n
+count-most xs p k n = omega (arith, units-left xs p k n)
 
 pub unclosed-units : (xs : List ℕ) (p k n : ℕ) → unclosed (unitsAt xs p k n) ≡ unitsAt xs p k (length (unclosed (unitsAt xs p k n)))
 unclosed-units xs p k n = front (unitsAt xs p k n) ∙ first-units xs p k n (length (unclosed (unitsAt xs p k n))) (count-most xs p k n)

@@ -24,7 +24,7 @@ use Rattle.text.specs.declared.version.Version.{Version}
 use Rattle.text.specs.Releases.{versionOf}
 use Rattle.text.specs.Units.{units}
 use Rattle.text.specs.Texts.{UnitWidth, wide, unitBytes, unclosed, valid, Written, checked-units, TV}
-use Rattle.text.specs.Fields.{textAt, textOf, widthOf}
+use Rattle.text.specs.Fields.{textAt, textOf, laidText, widthOf}
 
 abbrev pub asText : Out ℕ Text → ReadText
 asText (got t p) = Found t p
@@ -38,7 +38,7 @@ placed source w at (refused r p) = refused r p
 -- the text that n units at a place are: the units were read from there
 abbrev pub unitsText : Source → UnitWidth → ℕ → Out ℕ (List ℕ) → Out ℕ Text
 unitsText source w at (got laid p) =
-    elim (valid w (unclosed laid)) [ true ↦ got (textAt source w at (length (unclosed laid))) p | false ↦ refused NotUtf16 p ]
+    elim (valid w (unclosed laid)) [ true ↦ got (laidText source w at laid) p | false ↦ refused NotUtf16 p ]
 unitsText source w at (refused r p) = refused r p
 
 -- inline text of a release
@@ -50,7 +50,7 @@ inlineText v xs p = placed Main (widthOf v) p ((TV (widthOf v)) .read xs p)
 unfoldable pub readerText : ℕ → List ℕ → ℕ → Out ℕ Text
 readerText end xs p =
     elim (leb end p) [
-      | true ↦ got (textAt String wide p 0) p
+      | true ↦ got (textAt String wide p 0 false) p
       | false ↦ andThen ((measured BS) .read xs p) (λ m q.
           elim (eqb (m .1) 0 || leb (q + 16 * m .1) end) [
             | true ↦ andThen ((units 2 (m .1)) .read xs q) (λ laid r. placed String wide p ((checked-units wide (m .0) laid) .read xs r))

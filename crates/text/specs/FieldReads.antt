@@ -82,9 +82,9 @@ module _ (γ : Payloads) (p : Places) where
       go (got m q) = room-reads m q (eqb (m .1) 0 || leb (q + 16 * m .1) (γ .end))
       go (refused r q) = refl
 
-  over-reads : (b : Bool) → (either b (pure (textAt String wide (p .string) 0)) measured-text) .read γ p
+  over-reads : (b : Bool) → (either b (pure (textAt String wide (p .string) 0 false)) measured-text) .read γ p
       ≡ lifted string p (elim b [
-        | true ↦ got (textAt String wide (p .string) 0) (p .string)
+        | true ↦ got (textAt String wide (p .string) 0 false) (p .string)
         | false ↦ andThen ((measured BS) .read (γ .string) (p .string)) (λ m q. after m q (eqb (m .1) 0 || leb (q + 16 * m .1) (γ .end)))
       ])
   unfolding either pure

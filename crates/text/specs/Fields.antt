@@ -18,15 +18,19 @@ use Rattle.text.specs.declared.Text.{Text}
 use Rattle.text.specs.declared.version.Version.{Version}
 use Rattle.text.specs.Releases.{releaseNumber}
 use Rattle.text.specs.Units.{units}
-use Rattle.text.specs.Texts.{UnitWidth, narrow, wide, unitBytes, Written, checked-units, TV}
+use Rattle.text.specs.Texts.{UnitWidth, narrow, wide, unitBytes, unclosed, endsInZero, Written, checked-units, TV}
 
--- document 01's text: payload, unit width, position of the first unit, unit count
-abbrev pub textAt : Source → UnitWidth → ℕ → ℕ → Text
-textAt source w position count = record { source = source; width = 8 * unitBytes w; position = position; count = count }
+-- document 01's text: payload, unit width, position of the first unit, unit count; and document 02's: whether a closing zero was dropped
+abbrev pub textAt : Source → UnitWidth → ℕ → ℕ → Bool → Text
+textAt source w position count padded = record { source = source; width = 8 * unitBytes w; position = position; count = count; padded = padded }
 
 -- the text whose length code begins at `at`
 abbrev pub textOf : Source → UnitWidth → ℕ → Written → Text
-textOf source w at t = textAt source w (at + t .code-bits) (length (t .units))
+textOf source w at t = textAt source w (at + t .code-bits) (length (t .units)) (t .padded)
+
+-- the text whose units are laid out from a position on
+abbrev pub laidText : Source → UnitWidth → ℕ → List ℕ → Text
+laidText source w position laid = textAt source w position (length (unclosed laid)) (endsInZero laid)
 
 -- the place in a payload
 unfoldable pub here : Payload → Format both ℕ
@@ -57,7 +61,7 @@ unfoldable pub from-reader : Format both Text
 from-reader = do
   at ← here string
   over ← past-end
-  either over (pure (textAt String wide at 0)) (do
+  either over (pure (textAt String wide at 0 false)) (do
     m ← field string (measured BS)
     room ← room-for (m .1)
     either room (do

@@ -20,14 +20,14 @@ use Rattle.bitcursor.specs.Fields.{string, Field, field, lifted, movedIn}
 use Rattle.text.specs.declared.Source.the-variants.{String}
 use Rattle.text.specs.declared.Text.{Text}
 use Rattle.text.specs.Units.{units, units-there, units-short}
-use Rattle.text.specs.Texts.{wide, unclosed, valid, Written, written, checked-units, TV, TV-read}
-use Rattle.text.specs.Fields.{textAt, textOf, from-reader}
+use Rattle.text.specs.Texts.{wide, unclosed, valid, Written, writtenOf, checked-units, TV, TV-read}
+use Rattle.text.specs.Fields.{textAt, textOf, laidText, from-reader}
 use Rattle.text.specs.Answers.{placed, unitsText, readerText}
 use Rattle.text.specs.Steps.{reader-over, reader-refused, reader-past, reader-empty, reader-units}
 use Rattle.text.specs.FieldReads.{reader-reads}
 
 pub data ReaderText (γ : Payloads) (t : Text) (p q : Places) : Type 0 where
-  over : γ .end ≤ p .string → t ≡ textAt String wide (p .string) 0 → q ≡ p → ReaderText γ t p q
+  over : γ .end ≤ p .string → t ≡ textAt String wide (p .string) 0 false → q ≡ p → ReaderText γ t p q
   laid : (u : Written) → p .string < γ .end → Field string (TV wide) γ u p q → (q .string ≤ γ .end) ⊎ (q .string ≡ p .string + u .code-bits)
       → t ≡ textOf String wide (p .string) u → ReaderText γ t p q
 
@@ -39,7 +39,7 @@ record Parts (xs : List ℕ) (p : ℕ) (u : Written) (s : ℕ) : Type 0 where
   length-code : BS .read xs p ≡ got n r
   units-read : (units 2 n) .read xs r ≡ got units-laid s
   valid-units : valid wide (unclosed units-laid) ≡ true
-  whole : u ≡ written (r - p) (unclosed units-laid)
+  whole : u ≡ writtenOf (r - p) units-laid
 
 module _ (xs : List ℕ) (p : ℕ) where
   parts : (u : Written) (s : ℕ) → (TV wide) .read xs p ≡ got u s → Parts xs p u s
@@ -47,9 +47,9 @@ module _ (xs : List ℕ) (p : ℕ) where
   parts u s e = from-length (BS .read xs p) refl e
     where
       judge : (n r : ℕ) (l : List ℕ) (t : ℕ) → BS .read xs p ≡ got n r → (units 2 n) .read xs r ≡ got l t → (b : Bool) → valid wide (unclosed l) ≡ b
-          → (checked b (give (written (r - p) (unclosed l))) (refuse NotUtf16 tt)) .read xs t ≡ got u s → Parts xs p u s
+          → (checked b (give (writtenOf (r - p) l)) (refuse NotUtf16 tt)) .read xs t ≡ got u s → Parts xs p u s
       judge n r l t f g true h k =
-          let eu : u ≡ written (r - p) (unclosed l) = cc in
+          let eu : u ≡ writtenOf (r - p) l = cc in
           let es : t ≡ s = cc in
           record { n = n; r = r; units-laid = l; length-code = f; units-read = g ∙ ap (got l) es; valid-units = h; whole = eu }
       judge n r l t f g false h k = never k
@@ -76,11 +76,11 @@ module _ (xs : List ℕ) (p : ℕ) where
       (λ (w : size xs - r < 8 * (2 * n)). never (sym (units-short 2 n xs r w) ∙ e))
       (le-or-lt (8 * (2 * n)) (size xs - r))
 
-  checked-got : (k : ℕ) (l : List ℕ) (t : ℕ) → valid wide (unclosed l) ≡ true → (checked-units wide k l) .read xs t ≡ got (written k (unclosed l)) t
+  checked-got : (k : ℕ) (l : List ℕ) (t : ℕ) → valid wide (unclosed l) ≡ true → (checked-units wide k l) .read xs t ≡ got (writtenOf k l) t
   unfolding checked-units checked give
   checked-got k l t e = go (valid wide (unclosed l)) e
     where
-      go : (b : Bool) → b ≡ true → (checked b (give (written k (unclosed l))) (refuse NotUtf16 tt)) .read xs t ≡ got (written k (unclosed l)) t
+      go : (b : Bool) → b ≡ true → (checked b (give (writtenOf k l)) (refuse NotUtf16 tt)) .read xs t ≡ got (writtenOf k l) t
       go true e = refl
       go false e = let z : _≡_ {A = ℕ} 0 1 = cc in absurd (omega arith)
 
@@ -106,12 +106,12 @@ module _ (xs : List ℕ) (p : ℕ) where
       reader-units end xs p h (t .length-code) on (λ y. omega arith) room ∙ text)
       (le-or-lt (t .n) 0)
     where
-      shown : (r : ℕ) (l : List ℕ) (s : ℕ) (u : Written) → valid wide (unclosed l) ≡ true → u ≡ written (r - p) (unclosed l) → p ≤ r
+      shown : (r : ℕ) (l : List ℕ) (s : ℕ) (u : Written) → valid wide (unclosed l) ≡ true → u ≡ writtenOf (r - p) l → p ≤ r
           → unitsText String wide r (got l s) ≡ got (textOf String wide p u) s
       shown r l s u e f on =
           let m : p + (r - p) ≡ r = omega arith in
           rw (e, unitsText)
-          (ap (λ (k : ℕ). got (textAt String wide k (length (unclosed l))) s) (sym m) ∙ ap (λ (v : Written). got (textOf String wide p v) s) (sym f))
+          (ap (λ (k : ℕ). got (laidText String wide k l) s) (sym m) ∙ ap (λ (v : Written). got (textOf String wide p v) s) (sym f))
 
 -- ---- the rule's readings are these layouts
 module _ (γ : Payloads) (t : Text) (p q : Places) where
@@ -121,11 +121,11 @@ module _ (γ : Payloads) (t : Text) (p q : Places) where
   finish n r f h room e = by-units ((units 2 n) .read (γ .string) r) refl e
     where
       by-law : (l : List ℕ) (s : ℕ) → (units 2 n) .read (γ .string) r ≡ got l s → (b : Bool) → valid wide (unclosed l) ≡ b
-          → lifted string p (elim b [ true ↦ got (textAt String wide r (length (unclosed l))) s | false ↦ refused NotUtf16 s ]) ≡ got t q → ReaderText γ t p q
+          → lifted string p (elim b [ true ↦ got (laidText String wide r l) s | false ↦ refused NotUtf16 s ]) ≡ got t q → ReaderText γ t p q
       by-law l s g false k m = never m
       by-law l s g true k m =
-          let u = written (r - p .string) (unclosed l) in
-          let et : t ≡ textAt String wide r (length (unclosed l)) = cc in
+          let u = writtenOf (r - p .string) l in
+          let et : t ≡ laidText String wide r l = cc in
           let eq : q ≡ movedIn string p s = cc in
           let on = code-on (γ .string) (p .string) f in
           let ends = units-end (γ .string) (p .string) n r g in
@@ -134,7 +134,7 @@ module _ (γ : Payloads) (t : Text) (p q : Places) where
           let read = join (γ .string) (p .string) (record { n = n; r = r; units-laid = l; length-code = f; units-read = g; valid-units = k; whole = refl }) in
           laid u h (record { end = s; laid = (TV wide) .sound (γ .string) u (p .string) s read; moved = eq })
           (⊎-elim (λ (z : n ≡ 0). inr (omega arith)) (λ (z : r + 16 * n ≤ γ .end). inl (omega arith)) room)
-          (et ∙ ap (λ (k : ℕ). textAt String wide k (length (unclosed l))) (sym after))
+          (et ∙ ap (λ (k : ℕ). laidText String wide k l) (sym after))
 
       by-units : (o : Out ℕ (List ℕ)) → (units 2 n) .read (γ .string) r ≡ o → lifted string p (unitsText String wide r o) ≡ got t q → ReaderText γ t p q
       by-units (refused a s) g m = never m
@@ -165,7 +165,7 @@ module _ (γ : Payloads) (t : Text) (p q : Places) where
       let e : lifted string p (readerText (γ .end) (γ .string) (p .string)) ≡ got t q = sym (reader-reads γ p) ∙ from-reader .complete γ t p q l in
       ⊎-elim
       (λ (w : γ .end ≤ p .string).
-      let f : got (textAt String wide (p .string) 0) p ≡ got t q = sym (ap (lifted string p) (reader-over (γ .end) (γ .string) (p .string) w)) ∙ e in
+      let f : got (textAt String wide (p .string) 0 false) p ≡ got t q = sym (ap (lifted string p) (reader-over (γ .end) (γ .string) (p .string) w)) ∙ e in
       over w (cc) (cc))
       (λ (w : p .string < γ .end). by-length (BS .read (γ .string) (p .string)) refl w e)
       (le-or-lt (γ .end) (p .string))

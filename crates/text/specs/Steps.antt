@@ -16,8 +16,8 @@ use Rattle.bitcursor.specs.Handles.{checked}
 use Rattle.text.specs.declared.Source.{Source}
 use Rattle.text.specs.declared.Source.the-variants.{Main, String}
 use Rattle.text.specs.Units.{units}
-use Rattle.text.specs.Texts.{UnitWidth, wide, unitBytes, unclosed, valid, checked-units, written, TV, TV-read}
-use Rattle.text.specs.Fields.{textAt}
+use Rattle.text.specs.Texts.{UnitWidth, wide, unitBytes, unclosed, valid, checked-units, writtenOf, TV, TV-read}
+use Rattle.text.specs.Fields.{textAt, laidText}
 use Rattle.text.specs.Answers.{placed, unitsText, readerText}
 
 -- ---- after a length code that ends at p
@@ -29,9 +29,9 @@ module _ (source : Source) (w : UnitWidth) (xs : List ℕ) (at p : ℕ) (on : at
       e : at + (p - at) ≡ p
       e = omega arith
 
-      go : (b : Bool) → placed source w at ((checked b (give (written (p - at) (unclosed laid))) (refuse NotUtf16 tt)) .read xs q)
-          ≡ elim b [ true ↦ got (textAt source w p (length (unclosed laid))) q | false ↦ refused NotUtf16 q ]
-      go true = ap (λ (m : ℕ). got (textAt source w m (length (unclosed laid))) q) e
+      go : (b : Bool) → placed source w at ((checked b (give (writtenOf (p - at) laid)) (refuse NotUtf16 tt)) .read xs q)
+          ≡ elim b [ true ↦ got (laidText source w p laid) q | false ↦ refused NotUtf16 q ]
+      go true = ap (λ (m : ℕ). got (laidText source w m laid) q) e
       go false = refl
 
   pub inline-rest : (o : Out ℕ (List ℕ)) → placed source w at (andThen o (λ laid q. (checked-units w (p - at) laid) .read xs q)) ≡ unitsText source w p o
@@ -55,7 +55,7 @@ module _ (w : UnitWidth) (xs : List ℕ) (at : ℕ) where
 
 -- ---- text from a reader, step by step
 module _ (end : ℕ) (xs : List ℕ) (at : ℕ) where
-  pub reader-over : end ≤ at → readerText end xs at ≡ got (textAt String wide at 0) at
+  pub reader-over : end ≤ at → readerText end xs at ≡ got (textAt String wide at 0 false) at
   unfolding readerText
   reader-over h = rw (le-leb end at h, readerText)
 

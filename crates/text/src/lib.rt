@@ -1,6 +1,6 @@
 // Text, inline and from a lent string reader: src/version.rs, src/tables/mod.rs, src/tables/modern.rs and src/string_stream.rs of
 // dwg-rs; the specification's text codes (TV) and, for the reader, its string stream.
-// specs/ promises each text's position and unit count, or refusal 1, 6 or 7 at document 01's place, for every payload and place.
+// specs/ promises each text's position, unit count and padding, or refusal 1, 6 or 7 at document 01's place, for every payload and place.
 ghost use mathlib.Core.Path.{_≡_};
 ghost use Rattle.bitcursor.specs.Answers.{limited};
 ghost use Rattle.text.specs.Releases.{versionOf};
@@ -20,12 +20,13 @@ pub enum Source {
 }
 
 // Document 01's text: the payload, the bits of a unit, the bit position of the first unit, and how many units there are once a
-// closing zero is dropped. Characters are left to the host.
+// closing zero is dropped; and document 02's: whether one was dropped. Characters are left to the host.
 pub struct Text {
     pub source: Source,
     pub width: u8,
     pub position: usize,
     pub count: usize,
+    pub padded: bool,
 }
 
 // A text and the place after it, or a refusal and its place.

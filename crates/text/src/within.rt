@@ -26,15 +26,20 @@ fn narrow_units(s: &[u8], at: usize, n: usize) -> ReadText
     ensures { λ r. ⌜ r ≡ asText (unitsText Source.Main narrow at ((units 1 n) .read (now (s .entry)) at)) ⌝ }
 {
     match bitcursor::within::skip_bytes(s, at, n) {
-        Passed::To(p) => ReadText::Found(
-            Text {
-                source: Source::Main,
-                width: 8,
-                position: at,
-                count: units::count_units(s, at, 1, n),
-            },
-            p,
-        ),
+        Passed::To(p) => {
+            let padded = units::is_padded(s, at, 1, n);
+            let count = n - padded as usize;
+            ReadText::Found(
+                Text {
+                    source: Source::Main,
+                    width: 8,
+                    position: at,
+                    count: count,
+                    padded: padded,
+                },
+                p,
+            )
+        }
         Passed::Refused(k, p) => ReadText::Refused(k, p),
     }
 }
@@ -46,7 +51,8 @@ fn wide_units(s: &[u8], at: usize, n: usize, source: Source) -> ReadText
 {
     match bitcursor::within::skip_bytes(s, at, 2 * n) {
         Passed::To(p) => {
-            let count = units::count_units(s, at, 2, n);
+            let padded = units::is_padded(s, at, 2, n);
+            let count = n - padded as usize;
             if units::is_utf16(s, at, count) {
                 return ReadText::Found(
                     Text {
@@ -54,6 +60,7 @@ fn wide_units(s: &[u8], at: usize, n: usize, source: Source) -> ReadText
                         width: 16,
                         position: at,
                         count: count,
+                        padded: padded,
                     },
                     p,
                 );
@@ -100,6 +107,7 @@ pub fn read_string_tv(s: &[u8], at: usize, end: usize) -> ReadText
                 width: 16,
                 position: at,
                 count: 0,
+                padded: false,
             },
             at,
         );

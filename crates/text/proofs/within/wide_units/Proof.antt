@@ -1,11 +1,11 @@
--- The units are passed by one comparison, the last one says how many are left, and one pass over those judges them.
+-- The units are passed by one comparison, the last one says whether the text is padded and how many are left, and one pass over those judges them.
 use mathlib.Core.Path.{sym, _∙_}
 use Prim.Native.Nat.{_*_}
 use native.Mathlib.Omega.{arith}
 use denote.Ref.{now}
 use Rattle.bitcursor.proofs.Steps.{passed-there, passed-short}
 use Rattle.text.specs.Texts.{wide}
-use Rattle.text.proofs.UnitLaws.{count-most}
+use Rattle.text.proofs.UnitLaws.{some-padded}
 use Rattle.text.proofs.TextLaws.{all-valid, units-found, units-bad, units-cut}
 use borrow.Author.Needs.{needs}
 use Rattle.text.proofs.within.wide_units.Statement.{statement}
@@ -20,14 +20,24 @@ skip-bytes-requires c κs = search needs
 enum-known-p : tie.Need-enum-known-p
 enum-known-p c = search needs
 
-count-units-requires : tie.Need-count-units-requires
-count-units-requires c κs =
+is-padded-requires : tie.Need-is-padded-requires
+is-padded-requires c κs =
     let after-p = c .before in
     let after-skip-bytes = after-p .before .before in
     let entry = after-skip-bytes .before .before in
     let a = entry .args in
     let t = passed-there (now (a .s)) (2 * a .n) (a .at) (after-skip-bytes .skip-bytes .ensures) (after-p .p .given .1) in
     omega arith
+
+cast-count : tie.Need-cast-count
+cast-count c = search needs
+
+sub-count : tie.Need-sub-count
+sub-count c =
+    let after-p = c .before .before in
+    let entry = after-p .before .before .before .before in
+    let a = entry .args in
+    some-padded (now (a .s)) (a .at) 2 (a .n) (c .is-padded .ensures)
 
 is-utf16-requires : tie.Need-is-utf16-requires
 is-utf16-requires c κs =
@@ -36,22 +46,20 @@ is-utf16-requires c κs =
     let entry = after-skip-bytes .before .before in
     let a = entry .args in
     let t = passed-there (now (a .s)) (2 * a .n) (a .at) (after-skip-bytes .skip-bytes .ensures) (after-p .p .given .1) in
-    let m = count-most (now (a .s)) (a .at) 2 (a .n) in
-    omega (arith, c .count-units .ensures)
+    omega arith
 
 returns : tie.Need-returns
 returns c =
     let after-is-utf16 = c .before in
-    let after-count-units = after-is-utf16 .before in
-    let after-p = after-count-units .before .before in
+    let after-is-padded = after-is-utf16 .before in
+    let after-p = after-is-padded .before .before in
     let after-skip-bytes = after-p .before .before in
     let entry = after-skip-bytes .before .before in
     let a = entry .args in
     let t = passed-there (now (a .s)) (2 * a .n) (a .at) (after-skip-bytes .skip-bytes .ensures) (after-p .p .given .1) in
-    let counted = after-count-units .count-units in
-    let valid = all-valid (now (a .s)) (a .at) (a .n) (counted .result) (after-is-utf16 .is-utf16 .ensures) (counted .ensures) in
-    units-found (a .source) wide (now (a .s)) (a .at) (a .n) (after-p .p .given .0 .0) (omega arith) (omega arith)
-    (counted .result) (counted .ensures) (sym valid ∙ c .if1 .taken)
+    let padded = after-is-padded .is-padded .ensures in
+    let valid = all-valid (now (a .s)) (a .at) (a .n) padded (after-is-utf16 .is-utf16 .ensures) in
+    units-found (a .source) wide (now (a .s)) (a .at) (a .n) (after-p .p .given .0 .0) (omega arith) (omega arith) padded (sym valid ∙ c .if1 .taken)
 
 enum-known-k : tie.Need-enum-known-k
 enum-known-k c = search needs
@@ -59,14 +67,13 @@ enum-known-k c = search needs
 returns-2 : tie.Need-returns-2
 returns-2 c =
     let after-is-utf16 = c .before in
-    let after-count-units = after-is-utf16 .before in
-    let after-p = after-count-units .before .before in
+    let after-is-padded = after-is-utf16 .before in
+    let after-p = after-is-padded .before .before in
     let after-skip-bytes = after-p .before .before in
     let entry = after-skip-bytes .before .before in
     let a = entry .args in
     let t = passed-there (now (a .s)) (2 * a .n) (a .at) (after-skip-bytes .skip-bytes .ensures) (after-p .p .given .1) in
-    let counted = after-count-units .count-units in
-    let valid = all-valid (now (a .s)) (a .at) (a .n) (counted .result) (after-is-utf16 .is-utf16 .ensures) (counted .ensures) in
+    let valid = all-valid (now (a .s)) (a .at) (a .n) (after-is-padded .is-padded .ensures) (after-is-utf16 .is-utf16 .ensures) in
     units-bad (a .source) wide (now (a .s)) (a .at) (a .n) (after-p .p .given .0 .0) (omega arith) (omega arith) (sym valid ∙ c .if1 .left)
 
 returns-3 : tie.Need-returns-3
@@ -85,7 +92,9 @@ wide-units-spec =
     mul-skip-bytes
     skip-bytes-requires
     enum-known-p
-    count-units-requires
+    is-padded-requires
+    cast-count
+    sub-count
     is-utf16-requires
     returns
     enum-known-k

@@ -1,14 +1,15 @@
--- The last unit alone decides: where it is a zero one unit less is left.
+-- The last unit alone decides.
 use mathlib.Core.Path.{_≡_, refl, sym, ap, _∙_}
 use Prim.Native.Nat.{ℕ, _*_, _-_}
 use native.Mathlib.Omega.{arith}
+use lib.Dec.{eqb}
 use denote.Ref.{now}
 use Rattle.text.specs.Units.{unitsAt}
-use Rattle.text.specs.Texts.{unclosed}
-use Rattle.text.proofs.UnitLaws.{one-less, count-closed, count-open}
+use Rattle.text.specs.Texts.{endsInZero}
+use Rattle.text.proofs.UnitLaws.{one-less, padded-units}
 use borrow.Author.Needs.{needs}
-use Rattle.text.proofs.units.count_units.Statement.{statement}
-use Rattle.text.proofs.units.count_units.Tie as tie
+use Rattle.text.proofs.units.is_padded.Statement.{statement}
+use Rattle.text.proofs.units.is_padded.Tie as tie
 
 returns : tie.Need-returns
 unfolding unitsAt
@@ -41,25 +42,14 @@ low-at-requires c κs =
     let e = one-less (a .k) (a .n) (omega arith) in
     omega arith
 
-sub-result : tie.Need-sub-result
-sub-result c = search needs
-
 returns-2 : tie.Need-returns-2
 returns-2 c =
-    let after-low-at = c .before in
-    let entry = after-low-at .before .before .before in
+    let entry = c .before .before .before in
     let a = entry .args in
-    count-closed (now (a .s)) (a .at) (a .k) (a .n) (omega arith) (sym (after-low-at .low-at .ensures) ∙ c .if2 .taken)
+    ap (λ (u : ℕ). eqb u 0) (c .low-at .ensures) ∙ padded-units (now (a .s)) (a .at) (a .k) (a .n) (omega arith)
 
-returns-3 : tie.Need-returns-3
-returns-3 c =
-    let after-low-at = c .before in
-    let entry = after-low-at .before .before .before in
-    let a = entry .args in
-    count-open (now (a .s)) (a .at) (a .k) (a .n) (omega arith) (λ z. c .if2 .left (after-low-at .low-at .ensures ∙ z))
-
-pub count-units-spec : {M : Type 1} → statement M
-count-units-spec =
+pub is-padded-spec : {M : Type 1} → statement M
+is-padded-spec =
     tie.close
     (tie.spec
     returns
@@ -68,6 +58,4 @@ count-units-spec =
     mul-low-at
     add-low-at
     low-at-requires
-    sub-result
-    returns-2
-    returns-3)
+    returns-2)
