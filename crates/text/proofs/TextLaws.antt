@@ -22,9 +22,10 @@ use Rattle.text.specs.declared.ReadText.the-variants.{Found, Refused}
 use Rattle.text.specs.Units.{units, unitsAt, units-there, units-short}
 use Rattle.text.specs.Utf16.{pairedFrom}
 use Rattle.text.specs.Texts.{UnitWidth, wide, unitBytes, unclosed, endsInZero, valid}
+use Rattle.text.specs.UnitsLeft.{unclosed-units}
 use Rattle.text.specs.Fields.{textAt}
 use Rattle.text.specs.Answers.{asText, unitsText}
-use Rattle.text.proofs.UnitLaws.{count-left, unclosed-units}
+use Rattle.text.proofs.UnitLaws.{count-left}
 
 -- a length code that was read: x is what `read_bs_u` answered
 pub record LengthCode (xs : List ℕ) (at n p : ℕ) : Type 0 where

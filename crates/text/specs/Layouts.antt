@@ -24,6 +24,7 @@ use Rattle.text.specs.Texts.{wide, unclosed, valid, Written, writtenOf, 
 use Rattle.text.specs.Fields.{textAt, textOf, laidText, from-reader}
 use Rattle.text.specs.Answers.{placed, unitsText, readerText}
 use Rattle.text.specs.Steps.{reader-over, reader-refused, reader-past, reader-empty, reader-units}
+use Rattle.text.specs.Parts.{Parts, parts, code-on, units-end, join}
 use Rattle.text.specs.FieldReads.{reader-reads}
 
 pub data ReaderText (γ : Payloads) (t : Text) (p q : Places) : Type 0 where
@@ -31,69 +32,12 @@ pub data ReaderText (γ : Payloads) (t : Text) (p q : Places) : Type 0 where
   laid : (u : Written) → p .string < γ .end → Field string (TV wide) γ u p q → (q .string ≤ γ .end) ⊎ (q .string ≡ p .string + u .code-bits)
       → t ≡ textOf String wide (p .string) u → ReaderText γ t p q
 
--- ---- the parts of a text of 16-bit units
-record Parts (xs : List ℕ) (p : ℕ) (u : Written) (s : ℕ) : Type 0 where
-  n : ℕ
-  r : ℕ
-  units-laid : List ℕ
-  length-code : BS .read xs p ≡ got n r
-  units-read : (units 2 n) .read xs r ≡ got units-laid s
-  valid-units : valid wide (unclosed units-laid) ≡ true
-  whole : u ≡ writtenOf (r - p) units-laid
-
+-- ---- what the reader's rule makes of the parts
 module _ (xs : List ℕ) (p : ℕ) where
-  parts : (u : Written) (s : ℕ) → (TV wide) .read xs p ≡ got u s → Parts xs p u s
-  unfolding TV tabled TV-read _>>=_ measured checked-units checked give refuse
-  parts u s e = from-length (BS .read xs p) refl e
-    where
-      judge : (n r : ℕ) (l : List ℕ) (t : ℕ) → BS .read xs p ≡ got n r → (units 2 n) .read xs r ≡ got l t → (b : Bool) → valid wide (unclosed l) ≡ b
-          → (checked b (give (writtenOf (r - p) l)) (refuse NotUtf16 tt)) .read xs t ≡ got u s → Parts xs p u s
-      judge n r l t f g true h k =
-          let eu : u ≡ writtenOf (r - p) l = cc in
-          let es : t ≡ s = cc in
-          record { n = n; r = r; units-laid = l; length-code = f; units-read = g ∙ ap (got l) es; valid-units = h; whole = eu }
-      judge n r l t f g false h k = never k
-
-      from-units : (n r : ℕ) → BS .read xs p ≡ got n r → (o : Out ℕ (List ℕ)) → (units 2 n) .read xs r ≡ o
-          → andThen o (λ l t. (checked-units wide (r - p) l) .read xs t) ≡ got u s → Parts xs p u s
-      from-units n r f (got l t) g k = judge n r l t f g (valid wide (unclosed l)) refl k
-      from-units n r f (refused a t) g k = never k
-
-      from-length : (o : Out ℕ ℕ) → BS .read xs p ≡ o
-          → andThen (measured-out BS p o) (λ m r. andThen ((units 2 (m .1)) .read xs r) (λ l t. (checked-units wide (m .0) l) .read xs t)) ≡ got u s
-          → Parts xs p u s
-      from-length (got n r) f k = from-units n r f ((units 2 n) .read xs r) refl k
-      from-length (refused a r) f k = never k
-
-  -- where the length code and the units end
-  code-on : {n r : ℕ} → BS .read xs p ≡ got n r → p ≤ r
-  code-on e = subst (λ (o : Out ℕ ℕ). Moves xs p (place o)) e (BS .grows xs p) .onward
-
-  units-end : (n r : ℕ) {l : List ℕ} {s : ℕ} → (units 2 n) .read xs r ≡ got l s → s ≡ r + 16 * n
-  units-end n r {l} {s} e =
-      ⊎-elim
-      (λ (w : 8 * (2 * n) ≤ size xs - r). let h = sym e ∙ units-there 2 n xs r w in let f : s ≡ r + 8 * (2 * n) = cc in f ∙ omega arith)
-      (λ (w : size xs - r < 8 * (2 * n)). never (sym (units-short 2 n xs r w) ∙ e))
-      (le-or-lt (8 * (2 * n)) (size xs - r))
-
-  checked-got : (k : ℕ) (l : List ℕ) (t : ℕ) → valid wide (unclosed l) ≡ true → (checked-units wide k l) .read xs t ≡ got (writtenOf k l) t
-  unfolding checked-units checked give
-  checked-got k l t e = go (valid wide (unclosed l)) e
-    where
-      go : (b : Bool) → b ≡ true → (checked b (give (writtenOf k l)) (refuse NotUtf16 tt)) .read xs t ≡ got (writtenOf k l) t
-      go true e = refl
-      go false e = let z : _≡_ {A = ℕ} 0 1 = cc in absurd (omega arith)
-
-  -- the text from its parts, and what the reader's rule makes of them
-  join : {u : Written} {s : ℕ} → Parts xs p u s → (TV wide) .read xs p ≡ got u s
-  unfolding TV tabled TV-read _>>=_ measured
-  join {u} {s} t =
-      rw (t .length-code, t .units-read) (checked-got (t .r - p) (t .units-laid) s (t .valid-units) ∙ ap (λ (v : Written). got v s) (sym (t .whole)))
-
-  ruled : (end : ℕ) {u : Written} {s : ℕ} → Parts xs p u s → p < end → (s ≤ end) ⊎ (s ≡ p + u .code-bits) → readerText end xs p ≡ got (textOf String wide p u) s
+  ruled : (end : ℕ) {u : Written} {s : ℕ} → Parts wide xs p u s → p < end → (s ≤ end) ⊎ (s ≡ p + u .code-bits) → readerText end xs p ≡ got (textOf String wide p u) s
   ruled end {u} {s} t h f =
-      let on = code-on (t .length-code) in
-      let e = units-end (t .n) (t .r) (t .units-read) in
+      let on = code-on xs p (t .length-code) in
+      let e = units-end wide xs (t .n) (t .r) (t .units-read) in
       let bits : u .code-bits ≡ t .r - p = ap (λ (v : Written). v .code-bits) (t .whole) in
       let text : unitsText String wide (t .r) ((units 2 (t .n)) .read xs (t .r)) ≡ got (textOf String wide p u) s =
       ap (unitsText String wide (t .r)) (t .units-read) ∙ shown (t .r) (t .units-laid) s u (t .valid-units) (t .whole) on in
@@ -128,10 +72,10 @@ module _ (γ : Payloads) (t : Text) (p q : Places) where
           let et : t ≡ laidText String wide r l = cc in
           let eq : q ≡ movedIn string p s = cc in
           let on = code-on (γ .string) (p .string) f in
-          let ends = units-end (γ .string) (p .string) n r g in
+          let ends = units-end wide (γ .string) n r g in
           let after : p .string + (r - p .string) ≡ r = omega arith in
           let es : q .string ≡ s = ap (λ (w : Places). w .string) eq in
-          let read = join (γ .string) (p .string) (record { n = n; r = r; units-laid = l; length-code = f; units-read = g; valid-units = k; whole = refl }) in
+          let read = join wide (γ .string) (p .string) (record { n = n; r = r; units-laid = l; length-code = f; units-read = g; valid-units = k; whole = refl }) in
           laid u h (record { end = s; laid = (TV wide) .sound (γ .string) u (p .string) s read; moved = eq })
           (⊎-elim (λ (z : n ≡ 0). inr (omega arith)) (λ (z : r + 16 * n ≤ γ .end). inl (omega arith)) room)
           (et ∙ ap (λ (k : ℕ). laidText String wide k l) (sym after))
@@ -179,7 +123,7 @@ module _ (γ : Payloads) (t : Text) (p q : Places) where
       let m : q .string ≡ l .end = ap (λ (s : Places). s .string) (l .moved) in
       let ends : (l .end ≤ γ .end) ⊎ (l .end ≡ p .string + u .code-bits) =
       ⊎-elim (λ (w : q .string ≤ γ .end). inl (omega arith)) (λ (w : q .string ≡ p .string + u .code-bits). inr (omega arith)) f in
-      let read = ruled (γ .string) (p .string) (γ .end) (parts (γ .string) (p .string) u (l .end) r) h ends in
+      let read = ruled (γ .string) (p .string) (γ .end) (parts wide (γ .string) (p .string) u (l .end) r) h ends in
       from-reader .sound γ t p q (reader-reads γ p ∙ ap (lifted string p) read ∙ ap₂ got (sym e) (sym (l .moved)))
 
 -- text from the lent reader, with its layouts said so

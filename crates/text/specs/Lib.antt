@@ -2,9 +2,12 @@ pub mod Releases
 pub mod Units
 pub mod Utf16
 pub mod Texts
+pub mod UnitsLeft
+pub mod Parts
 pub mod Fields
 pub mod Answers
 pub mod Steps
 pub mod FieldReads
 pub mod Layouts
 pub mod TextField
+pub mod Padding

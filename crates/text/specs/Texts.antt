@@ -149,10 +149,10 @@ TV-to w t cs l = go (valid w (unclosed laid)) refl (l .4 .4)
         let g : t ≡ writtenOf (length (l .1)) laid = m .0 ∙ ap (λ (n : ℕ). writtenOf n laid) (l .3 .1) in
         let k = ap (λ (ls : List ℕ). l .1 ++ unitBits (unitBytes w) ls) again in
         subst₂ (TV-codes w) (sym g) (k ∙ sym f) (TV-of
-          (subst⁻¹ (λ (ls : List ℕ). BS-codes (length ls) (l .1)) again h)
-          (subst⁻¹ (AllBelow (256 ^ unitBytes w)) again (l .4 .3 .1))
-          (unpadded-back laid)
-          (valid-to w (unclosed laid) e))
+        (subst⁻¹ (λ (ls : List ℕ). BS-codes (length ls) (l .1)) again h)
+        (subst⁻¹ (AllBelow (256 ^ unitBytes w)) again (l .4 .3 .1))
+        (unpadded-back laid)
+        (valid-to w (unclosed laid) e))
     go false e m = absurd m
 
 pub TV-from : (w : UnitWidth) (t : Written) (cs : List Bool) → TV-codes w t cs → (TV-read w) .codes t cs
