@@ -62,8 +62,16 @@ sourceNumber String = 2
 
 abbrev pub textAnswer : Out ℕ Text → TextAnswer
 textAnswer (got t p) =
-    record { refusal = 0; place = p; source = sourceNumber (t .source); width = t .width; position = t .position; count = t .count }
-textAnswer (refused r p) = record { refusal = refusalNumber r; place = p; source = 0; width = 0; position = 0; count = 0 }
+    record {
+      refusal = 0;
+      place = p;
+      source = sourceNumber (t .source);
+      width = t .width;
+      padded = t .padded;
+      position = t .position;
+      count = t .count;
+    }
+textAnswer (refused r p) = record { refusal = refusalNumber r; place = p; source = 0; width = 0; padded = false; position = 0; count = 0 }
 
 -- ---- the same from the calls' enums
 abbrev pub readNumbers : Read → CodeAnswer

@@ -26,7 +26,8 @@ outcomeNumber Read = 0
 outcomeNumber (Refused r) = refusalNumber r
 
 abbrev pub textFields : Text → TextFields
-textFields t = record { source = sourceNumber (t .source); width = t .width; position = t .position; count = t .count }
+textFields t =
+    record { source = sourceNumber (t .source); width = t .width; padded = t .padded; position = t .position; count = t .count }
 
 abbrev pub gradientFields : GradientFill → GradientFields
 gradientFields a =

@@ -152,6 +152,7 @@ pub fn of_text(r: ReadText) -> TextAnswer
                 place: p,
                 source: source_number(source),
                 width: t.width,
+                padded: t.padded,
                 position: t.position,
                 count: t.count,
             }
@@ -161,6 +162,7 @@ pub fn of_text(r: ReadText) -> TextAnswer
             place: p,
             source: 0,
             width: 0,
+            padded: false,
             position: 0,
             count: 0,
         },

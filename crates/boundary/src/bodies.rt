@@ -7,6 +7,7 @@ use hatch_format::GradientColorBits;
 pub struct TextFields {
     pub source: u8,
     pub width: u8,
+    pub padded: bool,
     pub position: usize,
     pub count: usize,
 }

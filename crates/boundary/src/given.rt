@@ -1,10 +1,18 @@
 // A hatch's record as a caller gives it: as an answer has it, with each switch as a byte, since any byte may stand there.
 ghost use mathlib.Core.Path.{_≡_};
 ghost use Rattle.boundary.specs.MoveBoundary.{givenCounts};
-use crate::bodies::TextFields;
 use hatch_format::GradientColor;
 use hatch_format::GradientColorBits;
 use hatch_lists::HatchCounts;
+
+#[repr(C)]
+pub struct TextGiven {
+    pub source: u8,
+    pub width: u8,
+    pub padded: u8,
+    pub position: usize,
+    pub count: usize,
+}
 
 #[repr(C)]
 pub struct GradientGiven {
@@ -15,7 +23,7 @@ pub struct GradientGiven {
     pub tint: f64,
     pub num_colors: usize,
     pub colors: [GradientColor; 16],
-    pub name: TextFields,
+    pub name: TextGiven,
 }
 
 #[repr(C)]
@@ -27,12 +35,12 @@ pub struct GradientBitsGiven {
     pub tint: u64,
     pub num_colors: usize,
     pub colors: [GradientColorBits; 16],
-    pub name: TextFields,
+    pub name: TextGiven,
 }
 
 #[repr(C)]
 pub struct FieldsGiven {
-    pub pattern_name: TextFields,
+    pub pattern_name: TextGiven,
     pub solid_fill: u8,
     pub associative: u8,
     pub pattern_double: u8,

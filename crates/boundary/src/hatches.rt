@@ -44,6 +44,7 @@ fn of_name(t: Text) -> TextFields
     TextFields {
         source: answers::source_number(source),
         width: t.width,
+        padded: t.padded,
         position: t.position,
         count: t.count,
     }

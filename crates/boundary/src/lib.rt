@@ -40,13 +40,15 @@ pub struct HandleAnswer {
 }
 
 // What a text gives: the refusal's number or 0, the final place, and document 01's text: the payload (1 main, 2 string, 0 none),
-// the bits of a unit, the bit position of the first unit and the unit count, or 0 for each.
+// the bits of a unit, the bit position of the first unit and the unit count, or 0 for each; and whether a closing zero was dropped.
+// That stands behind the width, where nothing stood, so that every other field stands where it did.
 #[repr(C)]
 pub struct TextAnswer {
     pub refusal: u64,
     pub place: usize,
     pub source: u8,
     pub width: u8,
+    pub padded: bool,
     pub position: usize,
     pub count: usize,
 }

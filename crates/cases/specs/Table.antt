@@ -48,9 +48,9 @@ number-of v = pos v ∷ []
 abbrev integer-of : ℤ → List ℤ
 integer-of z = z ∷ []
 
--- a text's unit width, position and unit count
+-- a text's unit width, position and unit count, and 1 where it is padded
 abbrev numbers-of : Text → List ℤ
-numbers-of t = pos (t .width) ∷ (pos (t .position) ∷ (pos (t .count) ∷ []))
+numbers-of t = pos (t .width) ∷ (pos (t .position) ∷ (pos (t .count) ∷ (pos (bit (t .padded)) ∷ [])))
 
 -- a prefix's colour, the bits of its linetype scale, and its lineweight
 abbrev fields-of : CommonEntityBits → List ℤ

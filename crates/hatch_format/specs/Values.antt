@@ -109,7 +109,7 @@ pub record Gradient : Type 0 where
   pub name : Text
 
 abbrev pub no-text : Text
-no-text = record { source = Absent; width = 0; position = 0; count = 0 }
+no-text = record { source = Absent; width = 0; position = 0; count = 0; padded = false }
 
 abbrev pub no-gradient : Gradient
 no-gradient = record { present = false; angle = 0; shift = 0; single-color = 0; tint = 0; colors = []; name = no-text }

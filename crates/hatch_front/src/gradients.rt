@@ -117,6 +117,7 @@ fn no_gradient() -> Gradient
             width: 0,
             position: 0,
             count: 0,
+            padded: false,
         },
     }
 }

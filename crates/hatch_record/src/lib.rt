@@ -56,6 +56,7 @@ fn zero_front() -> Front
         width: 0,
         position: 0,
         count: 0,
+        padded: false,
     };
     Front {
         gradient: Gradient {

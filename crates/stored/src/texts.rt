@@ -7,8 +7,8 @@ use crate::record::ROOM;
 use text::Source;
 use text::Text;
 
-// How many numbers come before a text's units: its source, its width, its position, its count.
-const HEAD: usize = 4;
+// How many numbers come before a text's units: its source, its width, its position, its count, and 1 where it is padded.
+const HEAD: usize = 5;
 
 // Stands for a unit that cannot be read; no unit is so large.
 const NO_UNIT: u64 = 0x1_0000;
@@ -64,6 +64,7 @@ fn put_head(found: &mut [u64; ROOM], at: usize, t: Text)
     found[at + 1] = t.width as u64;
     found[at + 2] = t.position as u64;
     found[at + 3] = t.count as u64;
+    found[at + 4] = t.padded as u64;
 }
 
 pub fn least(a: usize, b: usize) -> usize

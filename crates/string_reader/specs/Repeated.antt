@@ -26,6 +26,6 @@ module _ (xs : List ℕ) (p : ℕ) (w : length xs ≤ limit) where
   start-past h = limit-within starts xs p w ∙ rw (lt-leb _ _ h, starts)
 
   -- at the end bit and past it a text is empty, and the reader stays
-  pub exhausted-empty : (end : ℕ) → end ≤ p → textAt xs p end ≡ got (emptyText String wide p 0) p
+  pub exhausted-empty : (end : ℕ) → end ≤ p → textAt xs p end ≡ got (emptyText String wide p 0 false) p
   unfolding readerText
   exhausted-empty end h = limit-within (readerText end) xs p w ∙ rw (le-leb _ _ h, readerText)

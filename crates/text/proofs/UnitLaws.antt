@@ -4,7 +4,7 @@ use mathlib.Core.Path.{_≡_, refl, sym, ap, _∙_}
 use mathlib.Core.Bool.{Bool, true, false, not, _&&_, Bool·beq}
 use mathlib.Core.List.{List, [], _∷_}
 use Prim.Native.Nat.{ℕ, zero, suc, _+_, _-_, _*_, _≤_, _<_}
-use native.Mathlib.Nat.{mul-suc, mul-zero}
+use native.Mathlib.Nat.{mul-suc, mul-zero, mul-le-mul-left}
 use native.Mathlib.Omega.{arith}
 use lib.Dec.{eqb}
 use lib.ListN.{length, getD}
@@ -16,10 +16,11 @@ use Rattle.text.specs.Utf16.{high, low, pairedFrom}
 use Rattle.text.specs.Texts.{unclosed, endsInZero}
 use Rattle.text.specs.UnitsLeft.{length-units, units-left}
 
--- k units fewer
-pub one-less : (k n : ℕ) → 0 < n → k * n ≡ k * (n - 1) + k
-one-less k zero h = absurd (omega arith)
-one-less k (suc n) h = let e : suc n - 1 ≡ n = omega arith in rw e (mul-suc k n)
+-- each of n units lies within what they have
+pub unit-within : (k n : ℕ) {i room : ℕ} → i < n → 8 * (k * n) ≤ room → 8 * (k * (i + 1)) ≤ room
+unit-within k n {i} h f =
+    let most : i + 1 ≤ n = omega arith in
+    omega (arith, mul-le-mul-left k most)
 
 unit-at : (xs : List ℕ) (p k n i : ℕ) → i < n → getD (unitsAt xs p k n) i 0 ≡ lowNumber (bytesAt xs (p + 8 * (k * i)) k)
 unfolding unitsAt

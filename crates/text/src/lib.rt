@@ -8,7 +8,8 @@ ghost use Rattle.text.specs.Answers.{asText, inlineText, readerText, rel
 use bitcursor::Refusal;
 use version::MaybeVersion;
 
-mod units;
+mod padding;
+mod utf16;
 pub mod version;
 pub mod within;
 

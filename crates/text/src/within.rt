@@ -13,7 +13,8 @@ use crate::ReadField;
 use crate::ReadText;
 use crate::Source;
 use crate::Text;
-use crate::units;
+use crate::padding;
+use crate::utf16;
 use crate::version;
 use crate::version::Version;
 use bitcursor::Passed;
@@ -27,7 +28,7 @@ fn narrow_units(s: &[u8], at: usize, n: usize) -> ReadText
 {
     match bitcursor::within::skip_bytes(s, at, n) {
         Passed::To(p) => {
-            let padded = units::is_padded(s, at, 1, n);
+            let padded = padding::is_padded(s, at, 1, n);
             let count = n - padded as usize;
             ReadText::Found(
                 Text {
@@ -51,21 +52,19 @@ fn wide_units(s: &[u8], at: usize, n: usize, source: Source) -> ReadText
 {
     match bitcursor::within::skip_bytes(s, at, 2 * n) {
         Passed::To(p) => {
-            let padded = units::is_padded(s, at, 2, n);
+            let padded = padding::is_padded(s, at, 2, n);
             let count = n - padded as usize;
-            if units::is_utf16(s, at, count) {
-                return ReadText::Found(
-                    Text {
-                        source: source,
-                        width: 16,
-                        position: at,
-                        count: count,
-                        padded: padded,
-                    },
-                    p,
-                );
+            if !utf16::is_utf16(s, at, count) {
+                return ReadText::Refused(Refusal::NotUtf16, p);
             }
-            ReadText::Refused(Refusal::NotUtf16, p)
+            let text = Text {
+                source: source,
+                width: 16,
+                position: at,
+                count: count,
+                padded: padded,
+            };
+            ReadText::Found(text, p)
         }
         Passed::Refused(k, p) => ReadText::Refused(k, p),
     }

@@ -8,6 +8,7 @@ use Rattle.text.specs.Texts.{wide}
 use Rattle.text.proofs.UnitLaws.{some-padded}
 use Rattle.text.proofs.TextLaws.{all-valid, units-found, units-bad, units-cut}
 use borrow.Author.Needs.{needs}
+use borrow.Author.Tests.{not-true, not-false}
 use Rattle.text.proofs.within.wide_units.Statement.{statement}
 use Rattle.text.proofs.within.wide_units.Tie as tie
 
@@ -57,9 +58,8 @@ returns c =
     let entry = after-skip-bytes .before .before in
     let a = entry .args in
     let t = passed-there (now (a .s)) (2 * a .n) (a .at) (after-skip-bytes .skip-bytes .ensures) (after-p .p .given .1) in
-    let padded = after-is-padded .is-padded .ensures in
-    let valid = all-valid (now (a .s)) (a .at) (a .n) padded (after-is-utf16 .is-utf16 .ensures) in
-    units-found (a .source) wide (now (a .s)) (a .at) (a .n) (after-p .p .given .0 .0) (omega arith) (omega arith) padded (sym valid ∙ c .if1 .taken)
+    let valid = all-valid (now (a .s)) (a .at) (a .n) (after-is-padded .is-padded .ensures) (after-is-utf16 .is-utf16 .ensures) in
+    units-bad (a .source) wide (now (a .s)) (a .at) (a .n) (after-p .p .given .0 .0) (omega arith) (omega arith) (sym valid ∙ not-true _ (c .if1 .taken))
 
 enum-known-k : tie.Need-enum-known-k
 enum-known-k c = search needs
@@ -73,8 +73,9 @@ returns-2 c =
     let entry = after-skip-bytes .before .before in
     let a = entry .args in
     let t = passed-there (now (a .s)) (2 * a .n) (a .at) (after-skip-bytes .skip-bytes .ensures) (after-p .p .given .1) in
-    let valid = all-valid (now (a .s)) (a .at) (a .n) (after-is-padded .is-padded .ensures) (after-is-utf16 .is-utf16 .ensures) in
-    units-bad (a .source) wide (now (a .s)) (a .at) (a .n) (after-p .p .given .0 .0) (omega arith) (omega arith) (sym valid ∙ c .if1 .left)
+    let padded = after-is-padded .is-padded .ensures in
+    let valid = all-valid (now (a .s)) (a .at) (a .n) padded (after-is-utf16 .is-utf16 .ensures) in
+    units-found (a .source) wide (now (a .s)) (a .at) (a .n) (after-p .p .given .0 .0) (omega arith) (omega arith) padded (sym valid ∙ not-false _ (c .if1 .left))
 
 returns-3 : tie.Need-returns-3
 returns-3 c =

@@ -1,8 +1,8 @@
 -- The two bounds are the definition's.
 use mathlib.Core.Path.{_≡_, refl, sym, ap, ap₂, _∙_}
 use borrow.Author.Tests.{le-leb, lt-leb}
-use Rattle.text.proofs.units.is_low.Statement.{statement}
-use Rattle.text.proofs.units.is_low.Tie as tie
+use Rattle.text.proofs.utf16.is_low.Statement.{statement}
+use Rattle.text.proofs.utf16.is_low.Tie as tie
 
 returns : tie.Need-returns
 returns c = rw (le-leb 0xdc00 (c .before .args .u) (c .if1 .taken))

@@ -10,8 +10,8 @@ use denote.Ref.{now}
 use Rattle.text.specs.Units.{unitsAt}
 use Rattle.text.specs.Utf16.{high, low, pairedFrom}
 use Rattle.text.proofs.UnitLaws.{pass-stop, pass-on}
-use Rattle.text.proofs.units.is_utf16.Statement.{statement}
-use Rattle.text.proofs.units.is_utf16.Tie as tie
+use Rattle.text.proofs.utf16.is_utf16.Statement.{statement}
+use Rattle.text.proofs.utf16.is_utf16.Tie as tie
 
 abbrev Inv-loop : tie.InvT-loop
 Inv-loop s at n half₀ i₀ half i = (i ≤ n) × (pairedFrom false (unitsAt s at 2 n) ≡ pairedFrom half (unitsAt s (at + 16 * i) 2 (n - i)))

@@ -1,24 +1,11 @@
-// The units of a text that are all there: whether the last is a zero, which is dropped, and whether the others are valid UTF-16.
+// Whether the units of a text that are all there are valid UTF-16.
 ghost use mathlib.Core.Path.{_≡_};
-ghost use mathlib.Core.Bool.{true, false};
+ghost use mathlib.Core.Bool.{false};
 ghost use Prim.Native.Nat.{_-_, _*_, _≤_};
 ghost use lib.ListN.{length};
 ghost use Rattle.loads.specs.Bits.{limit};
 ghost use Rattle.text.specs.Units.{unitsAt};
 ghost use Rattle.text.specs.Utf16.{high, low, pairedFrom};
-ghost use Rattle.text.specs.Texts.{endsInZero};
-
-// Whether the last of the n units of k bytes at `at` is a zero.
-pub fn is_padded(s: &[u8], at: usize, k: usize, n: usize) -> bool
-    requires { ⌜ (length (now s) ≤ limit) × ((1 ≤ k) × ((k ≤ 2) × (8 * (k * n) ≤ 8 * length (now s) - at))) ⌝ }
-    ensures { λ r. ⌜ r ≡ endsInZero (unitsAt (now (s .entry)) at k n) ⌝ }
-{
-    if n == 0 {
-        return false;
-    }
-    let before = k * (n - 1);
-    loads::low_at(s, at + 8 * before, k) == 0
-}
 
 // D800 to DBFF.
 fn is_high(u: u64) -> bool
