@@ -10,6 +10,8 @@ use Rattle.moved_hatch.specs.declared.MoveOutcome.{MoveOutcome}
 use Rattle.moved_hatch.specs.declared.MoveOutcome.the-variants.{Moved, Refused}
 use Rattle.moved_hatch.specs.Moving.{moveRefusalNumber}
 use Rattle.boundary.specs.declared.bodies.BodyFields.{BodyFields}
+use Rattle.boundary.specs.declared.bodies.TextFields.{TextFields}
+use Rattle.boundary.specs.declared.given.TextGiven.{TextGiven}
 use Rattle.boundary.specs.declared.given.FieldsGiven.{FieldsGiven}
 use Rattle.boundary.specs.declared.moves.MoveAnswer.{MoveAnswer}
 use Rattle.boundary.specs.HatchBoundary.{bodyFields, bodyBitsFields}
@@ -35,10 +37,13 @@ moveAnswer Moved = record { refusal = 0; place = 0; «string_place» = 0 }
 moveAnswer (Refused k) = record { refusal = moveRefusalNumber k; place = 0; «string_place» = 0 }
 
 -- ---- a record goes in as it came out: a switch's byte is 0 or 1
+abbrev pub textGiven : TextFields → TextGiven
+textGiven t = record { source = t .source; width = t .width; padded = bit (t .padded); position = t .position; count = t .count }
+
 abbrev pub asGiven : BodyFields → FieldsGiven
 asGiven a =
     record {
-      «pattern_name» = a .«pattern_name»;
+      «pattern_name» = textGiven (a .«pattern_name»);
       «solid_fill» = bit (a .«solid_fill»);
       associative = bit (a .associative);
       «pattern_double» = bit (a .«pattern_double»);

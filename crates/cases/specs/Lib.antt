@@ -1,2 +1,4 @@
 pub mod Shown
+pub mod Calls
+pub mod Padded
 pub mod Table

@@ -1,4 +1,4 @@
--- Document 01's cases marked †, and the proof that each holds. Assumes nothing.
+-- Document 01's cases marked †, document 02's, and the proof that each holds. Assumes nothing.
 use mathlib.Core.Bool.{Bool}
 use mathlib.Core.List.{List, [], _∷_}
 use Prim.Native.Nat.{ℕ}
@@ -15,19 +15,16 @@ use Rattle.bitcursor.specs.Held.{held}
 use Rattle.bitcursor.specs.Answers.{limited}
 use Rattle.bitcursor.specs.Format.{pure, refuse as refuse-format, _>>=_ as bind-format, peek, relay, either}
 use Rattle.bitcursor.specs.Fields.{at-least, partIn}
-use Rattle.text.specs.declared.Text.{Text}
 use Rattle.text.specs.Units.{units, units-read}
 use Rattle.text.specs.Texts.{checked-units, TV, TV-read}
 use Rattle.text.specs.Fields.{here, inline, past-end, room-for, from-reader}
 use Rattle.text.specs.Layouts.{reader-text}
 use Rattle.text.specs.TextField.{has-reader, TV-field, TV-read as TV-field-read}
-use Rattle.text.specs.Answers.{released, readerText}
+use Rattle.text.specs.Answers.{released, inlineText, readerText}
 use Rattle.prefix_format.specs.declared.CommonEntityBits.{CommonEntityBits}
 use Rattle.prefix_format.specs.Prefix.{chain, extended, graphicsBlock, graphics, name, prefixBy}
 use Rattle.prefix_format.specs.Format.{prefix}
 use Rattle.prefix_format.specs.Call.{prefixCall}
-use Rattle.hatch_format.specs.Caps.{documentCaps}
-use Rattle.hatch_format.specs.HandleRule.{in-payload}
 use Rattle.hatch_format.specs.Values.{Body}
 use Rattle.hatch_format.specs.Counts.{summed, times-read, times, capped-read, capped, bounded-read, bounded, counted}
 use Rattle.hatch_format.specs.Counts.{listed-by-read, listed-by, listed-read, listed}
@@ -39,18 +36,16 @@ use Rattle.hatch_format.specs.Patterns.{pattern-line-read, pattern-line, patter
 use Rattle.hatch_format.specs.Gradients.{color-read, color, block-read, block, gradient-read, gradient}
 use Rattle.hatch_format.specs.Hatch.{plane-read, plane, hatch-read, hatch}
 use Rattle.hatch_format.specs.Entries.{words, numbers}
-use Rattle.hatch_format.specs.Call.{Strings, none, lent, callOn, hatchCall}
-use Rattle.cases.specs.Shown.{Shown, reading, refusal, shown, shown-both, Case, of-each-release, Holds, holds, allSame}
+use Rattle.hatch_format.specs.Call.{Strings, none, lent, callOn}
+use Rattle.cases.specs.Shown.{Shown, reading, refusal, shown, Case, of-each-release, Holds, holds, allSame}
+use Rattle.cases.specs.Calls.{numbers-of, hatch-call}
+use Rattle.cases.specs.Padded.{padded-cases}
 
 abbrev number-of : ℕ → List ℤ
 number-of v = pos v ∷ []
 
 abbrev integer-of : ℤ → List ℤ
 integer-of z = z ∷ []
-
--- a text's unit width, position and unit count, and 1 where it is padded
-abbrev numbers-of : Text → List ℤ
-numbers-of t = pos (t .width) ∷ (pos (t .position) ∷ (pos (t .count) ∷ (pos (bit (t .padded)) ∷ [])))
 
 -- a prefix's colour, the bits of its linetype scale, and its lineweight
 abbrev fields-of : CommonEntityBits → List ℤ
@@ -64,27 +59,15 @@ prefix-call release xs = shown fields-of (prefixCall release xs 0)
 abbrev lengths-of : Body → List ℤ
 lengths-of a = pos (length (words (a .rest))) ∷ (pos (length (numbers (a .rest))) ∷ [])
 
--- a hatch call from bit 0, its caps document 01's and its handles in the payload: release, payload, strings, lengths of the lent words and numbers
-abbrev hatch-call : ℕ → List ℕ → Strings → ℕ → ℕ → Shown
-hatch-call release xs strings nw nn =
-    shown-both lengths-of
-    (hatchCall
-    (record {
-      release = release;
-      main = xs;
-      start = 0;
-      strings = strings;
-      caps = documentCaps;
-      handles = in-payload;
-      words = nw;
-      numbers = nn;
-    }))
+-- a hatch call, shown by these lengths
+abbrev lengths-call : ℕ → List ℕ → Strings → ℕ → ℕ → Shown
+lengths-call = hatch-call lengths-of
 
 -- the codes: 3F FF C0 is −1 signed and 65,535 unsigned as BS, ends at 18; C0 as BD is refusal 2 at 2; 31 80 as BLL is 140, ends at 11.
 -- Reader's text, "Why a reading stops" 6 and 7: 40 40, bits 0 to 16, is refusal 6 at 10; 40 40 36 00, bits 0 to 32, is refusal 7 at 26.
 -- The prefix: 85 D0 87 40 of release 2 has colour 256, scale 1.0 and lineweight 29, ends at 26; 40 42 40, of no named release, is refusal 5 at 18.
 -- The hatch: A9 AA A0 of release 2 ends at 20, both lists empty, and of release 3 is refusal 1 at 22; no bytes, of no named release, are refusal 1
--- at 0; then the rows 2, 3, 4, 6, 7 and 11 of "Why a reading stops"
+-- at 0; then the rows 2, 3, 4, 6, 7 and 11 of "Why a reading stops". Last, document 02's
 unfoldable pub cases : List Case
 cases =
     record { computed = shown integer-of (signed-BS .read (0x3f ∷ 0xff ∷ 0xc0 ∷ []) 0); stated = reading (negsuc 0 ∷ []) 18 0 }
@@ -95,23 +78,23 @@ cases =
     ∷ record { computed = shown numbers-of (readerText 32 (0x40 ∷ 0x40 ∷ 0x36 ∷ 0x00 ∷ []) 0); stated = refusal 7 26 0 }
     ∷ record { computed = prefix-call 2 (0x85 ∷ 0xd0 ∷ 0x87 ∷ 0x40 ∷ []); stated = reading (pos 256 ∷ (pos one-pattern ∷ (pos 29 ∷ []))) 26 0 }
     ∷ of-each-release (λ release. record { computed = prefix-call release (0x40 ∷ 0x42 ∷ 0x40 ∷ []); stated = refusal 5 18 0 }) (
-    record { computed = hatch-call 2 (0xa9 ∷ 0xaa ∷ 0xa0 ∷ []) none 0 0; stated = reading (pos 0 ∷ (pos 0 ∷ [])) 20 0 }
-    ∷ record { computed = hatch-call 3 (0xa9 ∷ 0xaa ∷ 0xa0 ∷ []) none 0 0; stated = refusal 1 22 0 }
-    ∷ of-each-release (λ release. record { computed = hatch-call release [] none 0 0; stated = refusal 1 0 0 }) (
-    record { computed = hatch-call 3 (0xc0 ∷ []) none 0 0; stated = refusal 2 2 0 }
-    ∷ record { computed = hatch-call 2 (0xa9 ∷ 0xa7 ∷ 0xfc ∷ []) none 0 0; stated = refusal 3 22 0 }
-    ∷ record { computed = hatch-call 2 (0xa9 ∷ 0xa4 ∷ 0x06 ∷ 0x40 ∷ 0x41 ∷ 0x40 ∷ []) none 0 0; stated = refusal 4 42 0 }
-    ∷ record { computed = hatch-call 2 (0xa9 ∷ []) (lent (0x40 ∷ 0x40 ∷ []) 0 16) 0 0; stated = refusal 6 8 10 }
-    ∷ record { computed = hatch-call 2 (0xa9 ∷ []) (lent (0x40 ∷ 0x40 ∷ 0x36 ∷ 0x00 ∷ []) 0 32) 0 0; stated = refusal 7 8 26 }
-    ∷ record { computed = hatch-call 2 (0xa9 ∷ 0xaa ∷ 0x90 ∷ 0x10 ∷ replicate 16 0) none 0 1; stated = refusal 11 156 0 }
-    ∷ []))
+    record { computed = lengths-call 2 (0xa9 ∷ 0xaa ∷ 0xa0 ∷ []) none 0 0; stated = reading (pos 0 ∷ (pos 0 ∷ [])) 20 0 }
+    ∷ record { computed = lengths-call 3 (0xa9 ∷ 0xaa ∷ 0xa0 ∷ []) none 0 0; stated = refusal 1 22 0 }
+    ∷ of-each-release (λ release. record { computed = lengths-call release [] none 0 0; stated = refusal 1 0 0 }) (
+    record { computed = lengths-call 3 (0xc0 ∷ []) none 0 0; stated = refusal 2 2 0 }
+    ∷ record { computed = lengths-call 2 (0xa9 ∷ 0xa7 ∷ 0xfc ∷ []) none 0 0; stated = refusal 3 22 0 }
+    ∷ record { computed = lengths-call 2 (0xa9 ∷ 0xa4 ∷ 0x06 ∷ 0x40 ∷ 0x41 ∷ 0x40 ∷ []) none 0 0; stated = refusal 4 42 0 }
+    ∷ record { computed = lengths-call 2 (0xa9 ∷ []) (lent (0x40 ∷ 0x40 ∷ []) 0 16) 0 0; stated = refusal 6 8 10 }
+    ∷ record { computed = lengths-call 2 (0xa9 ∷ []) (lent (0x40 ∷ 0x40 ∷ 0x36 ∷ 0x00 ∷ []) 0 32) 0 0; stated = refusal 7 8 26 }
+    ∷ record { computed = lengths-call 2 (0xa9 ∷ 0xaa ∷ 0x90 ∷ 0x10 ∷ replicate 16 0) none 0 1; stated = refusal 11 156 0 }
+    ∷ padded-cases))
 
 pub all-hold : Holds cases
-unfolding cases allSame
+unfolding cases padded-cases allSame
     signed-BS BS BS-read BD BD-read BLL BLL-read B B-read BB RC RD RL BL BL-read HANDLE HANDLE-read HANDLE-value tagged byTag checked
     raw _>>=_ tabled mapped measured give refuse held lowFirst highFirst bytes bytes-read lowNumber skip window bitsOf digits number limited
     pure refuse-format bind-format peek relay either partIn at-least
-    readerText units units-read checked-units released TV TV-read TV-field TV-field-read has-reader reader-text from-reader past-end room-for here inline
+    readerText inlineText units units-read checked-units released TV TV-read TV-field TV-field-read has-reader reader-text from-reader past-end room-for here inline
     prefixCall prefix prefixBy extended chain graphics graphicsBlock name
     callOn hatch hatch-read plane plane-read gradient gradient-read block block-read color color-read rest rest-read tail tail-read ending ending-read
     pattern pattern-read pattern-line pattern-line-read paths path path-read segments segments-read handle-count handle-count-read edge edge-read
