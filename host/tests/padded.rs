@@ -40,8 +40,8 @@ fn both_names_say_whether_they_are_padded() {
                 let padded = typed.hatch.gradient.as_ref().map(|fill| fill.name.padded);
                 assert_eq!(typed.gradient_name.zip(padded), present.then(|| wanted(gradient, wide)));
                 // The other kind of doubles gives the same texts.
-                let doubles = body.read().expect("a hatch").hatch;
-                assert_eq!((doubles.pattern_name, doubles.gradient.map(|fill| fill.name)), (typed.hatch.pattern_name, typed.hatch.gradient.map(|fill| fill.name)));
+                let (bits, doubles) = (typed.hatch, body.read().expect("a hatch").hatch);
+                assert_eq!((bits.pattern_name, bits.gradient.map(|fill| fill.name)), (doubles.pattern_name, doubles.gradient.map(|fill| fill.name)));
             }
         }
     }

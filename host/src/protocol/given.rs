@@ -206,7 +206,8 @@ mod tests {
             |npaths=18446744073709551616|nw=18446744073709551616|nn=-|words=|words=1,|words=4294967296|words=1,,2|words=-,1|nums=|nums=0|nums=000000000000000g\
             |nums=00000000000000001|elev=0|ext=0000000000000000,0000000000000000|ext=0000000000000000|name=|name=m:8:0:0:0|name=x:8:0:0:-:0|name=m:256:0:0:-:0\
             |name=m:8:0:0:4:0|name=m:16:0:0:41:0|name=m:8:0:0::0|name=m:7:0:0:41:0|name=m:8:0:0:-|gname=m:8:0:0:4142|name=m:8:0:0:-:0:0|gname=-:0:0:0:-\
-            |name=m:8:0:0:-:2|name=m:8:0:0:-:-1|name=m:8:0:0:-:|name=m:8:0:0:-:-|name=m:8:0:0:-:x|name=m:8:0:0:-:18446744073709551616|gcols=|gcols=0000000000000000/0/0|nothing=1|Solid=1|=1\
+            |name=m:8:0:0:-:2|name=m:8:0:0:-:-1|name=m:8:0:0:-:|name=m:8:0:0:-:-|name=m:8:0:0:-:x|name=m:8:0:0:-:18446744073709551616\
+            |nothing=1|Solid=1|=1|gcols=|gcols=0000000000000000/0/0\
             |gcols=0000000000000000/32768/0/0|gcols=0000000000000000/0/4294967296/0|gcols=0000000000000000/0/0/256|gcols=0000000000000000/+1/0/0\
             |solid=1 solid=1|nums=- nums=-";
         for line in lines.split('|').chain([format!("gcols={seventeen}").as_str()]) {
