@@ -40,9 +40,9 @@ usage: dwg-hatch read [--json] [--names] [--quiet] [--jobs N] [--origin X,Y|auto
   --json               print one JSON object a line for each request, with every field; docs/JSON.md has their names.
                        Finite doubles are the shortest numbers that give the same double back, NaNs and infinities
                        strings with their 64 bits, as \"0x7ff8000000000001\"
-  --names              behind all else, list the names that stand in FILE both padded with a closing zero and not, so that
-                       one pattern may have been filed as two: in how many hatches each way, pattern names first, then
-                       those of gradients. Hatches that are refused do not count
+  --names              behind all else, list the names that stand in FILE both padded with a closing zero and not, and so
+                       may have been filed as two: in how many hatches each way, names of patterns first, then those of
+                       gradients. Hatches that are refused do not count
   --quiet              do not warn of hatches that may have been read wrongly
   --jobs N             work by so many jobs side by side, 1 to 256; as many as the machine has cores if not given. What is
                        written is the same for any number, in the order of the lines

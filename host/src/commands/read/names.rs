@@ -1,4 +1,4 @@
-//! The names of all hatches of an input: which of them stand there both padded and not, so that one pattern may have been filed as two.
+//! The names of all hatches of an input: which of them stand there both padded and not, and so may have been filed as two.
 
 use std::collections::HashMap;
 
