@@ -79,11 +79,12 @@ static void path(Lists *lists, size_t index) {
     printf("\n");
 }
 
-/* A text of the main payload, its characters as far as they fit. */
+/* A text of the main payload, its characters as far as they fit, and whether a closing zero was dropped. */
 static void text(const char *what, const uint8_t *payload, size_t length, DwgTextFields at) {
     char characters[256];
     size_t bytes = dwg_text_utf8(payload, length, at.width, at.position, at.count, characters, sizeof characters);
-    printf("%s \"%s\"%s: %zu units of %u bits at bit %zu\n", what, characters, bytes < sizeof characters ? "" : "...", at.count, at.width, at.position);
+    printf("%s \"%s\"%s: %zu units of %u bits at bit %zu%s\n", what, characters, bytes < sizeof characters ? "" : "...", at.count, at.width, at.position,
+           at.padded ? ", padded" : "");
 }
 
 static void print(const DwgBodyAnswer *a, Lists lists, const uint8_t *payload, size_t length) {

@@ -35,12 +35,18 @@ static uint16_t remembered(uint16_t style, uint64_t refusal, size_t place, size_
     return again ? style + 1 : style;
 }
 
+/* 10: a padded name is told as one that is not, in both entries alike. */
+static bool told(bool padded) {
+    return MISTAKE != 10 && padded;
+}
+
 DwgBodyAnswer __wrap_dwg_hatch_decode(const uint8_t *main, size_t length, size_t start, uint64_t release, double *numbers, size_t nn,
                                       uint32_t *words, size_t nw) {
     static size_t before;
     DwgBodyAnswer a = __real_dwg_hatch_decode(main, length, start, release, numbers, nn, words, nw);
     a.place = late(a.refusal, a.place);
     a.fields.pattern_style = remembered(a.fields.pattern_style, a.refusal, a.place, &before);
+    a.fields.pattern_name.padded = told(a.fields.pattern_name.padded);
     if (spoiled(a.refusal, a.fields.numbers_used)) {
         *(uint64_t *)(void *)&numbers[5] &= ~(uint64_t)1;
     }
@@ -54,6 +60,7 @@ DwgBodyBitsAnswer __wrap_dwg_hatch_decode_bits(const uint8_t *main, size_t lengt
     DwgBodyBitsAnswer a = __real_dwg_hatch_decode_bits(main, length, start, release, bits, nn, words, nw);
     a.place = late(a.refusal, a.place);
     a.fields.pattern_style = remembered(a.fields.pattern_style, a.refusal, a.place, &before);
+    a.fields.pattern_name.padded = told(a.fields.pattern_name.padded);
     if (spoiled(a.refusal, a.fields.numbers_used)) {
         bits[5] &= ~(uint64_t)1;
     }

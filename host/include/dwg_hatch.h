@@ -13,7 +13,8 @@
  *     DwgTextFields at = body.fields.pattern_name;
  *     dwg_text_utf8(payload, payload_length, at.width, at.position, at.count, name, sizeof name);
  *
- * with the string payload in place of `payload` where at.source is DWG_SOURCE_STRING.
+ * with the string payload in place of `payload` where at.source is DWG_SOURCE_STRING. Some offices pad a name with a closing zero unit: at.padded says
+ * so, and the characters are the same with it and without.
  *
  * What goes to the lists, in reading order; a point is its x and y, an angle is in radians, a switch is 0 or 1:
  *
@@ -87,10 +88,11 @@ typedef struct DwgGradientColorBits {
     uint8_t ignored_color_byte;
 } DwgGradientColorBits;
 
-/* Where a text lies, as DwgTextAnswer has it. */
+/* Where a text lies and whether it is padded, as DwgTextAnswer has it; an absent gradient's name is not padded. */
 typedef struct DwgTextFields {
     uint8_t source; /* a number of DwgSource */
     uint8_t width;
+    bool padded; /* whether a closing zero unit was dropped; it is not counted */
     size_t position;
     size_t count;
 } DwgTextFields;

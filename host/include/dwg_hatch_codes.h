@@ -125,15 +125,18 @@ typedef enum DwgSource {
 } DwgSource;
 
 /* What a text gives: where it lies. dwg_text_utf8 below makes characters of it. Unit number i starts at bit `position` + i * `width` of its
- * payload; a unit of 16 bits has its low byte first. One closing zero unit is not counted. Empty text has the position after its length
- * code, or the unmoved position. */
+ * payload; a unit of 16 bits has its low byte first. Empty text has the position after its length code, or the unmoved position.
+ *
+ * If the last unit is zero, that one unit is dropped: it is not counted, and `padded` is true. So one zero unit alone has count 0 and is padded, and of
+ * two closing zeros one is counted. Not padded are a length of 0 and text from a string reader at or past its end bit. */
 typedef struct DwgTextAnswer {
     uint64_t refusal;
     size_t place;
     uint8_t source;  /* a number of DwgSource */
     uint8_t width;   /* the bits of a unit, 8 or 16 */
+    bool padded;     /* whether a closing zero unit was dropped */
     size_t position; /* the bit position of the first unit */
-    size_t count;    /* the unit count */
+    size_t count;    /* the unit count, without a unit that was dropped */
 } DwgTextAnswer;
 
 /* ---- codes of `length` bytes at `s`, from bit `at` on. Each may be refused for DWG_PAYLOAD_TOO_LONG (place: `at`) and then for
@@ -198,12 +201,12 @@ DwgHandleAnswer dwg_read_handle(const uint8_t *s, size_t length, size_t at);
 /* ---- texts */
 
 /* TV: inline text of a release, in 8-bit units before DWG_R2007 and 16-bit ones from then on. Refused, in this order: DWG_UNKNOWN_RELEASE and
- * DWG_PAYLOAD_TOO_LONG (place: `at`), DWG_TOO_FEW_BITS, DWG_NOT_UTF16; then source, width, position and count are 0. */
+ * DWG_PAYLOAD_TOO_LONG (place: `at`), DWG_TOO_FEW_BITS, DWG_NOT_UTF16; then source, width, padded, position and count are 0. */
 DwgTextAnswer dwg_read_tv(const uint8_t *s, size_t length, size_t at, uint64_t release);
 
 /* Text from a string reader that stands at bit `at` of a string payload and has the end bit `end`, which may be any number. At or past its
  * end bit the text is empty and `place` is `at`. Refused, in this order: DWG_PAYLOAD_TOO_LONG (place: `at`), DWG_TOO_FEW_BITS,
- * DWG_TEXT_PAST_END, DWG_NOT_UTF16; then source, width, position and count are 0. */
+ * DWG_TEXT_PAST_END, DWG_NOT_UTF16; then source, width, padded, position and count are 0. */
 DwgTextAnswer dwg_read_string_tv(const uint8_t *s, size_t length, size_t at, size_t end);
 
 /* The unit of a text at a bit; the caller has seen that the payload has it. */
@@ -254,7 +257,10 @@ static inline size_t dwg_put_utf8(uint32_t character, char bytes[4]) {
  * do not all lie in the payload, which then is another one.
  *
  * U+FFFD stands for an 8-bit unit above 7F, whose character hangs on the drawing's code page, and for a 16-bit unit that is half of a pair;
- * in a text that was read there is no such half. A zero among the units is a zero byte. */
+ * in a text that was read there is no such half. A zero among the units is a zero byte.
+ *
+ * A padded name and the same name without its zero give the same bytes, since the zero that was dropped is not counted; the text's `padded` says which
+ * of the two it was. A name with a second closing zero is another one: it has a zero byte more. */
 static inline size_t dwg_text_utf8(const uint8_t *s, size_t length, uint8_t width, size_t position, size_t count, char *buffer, size_t size) {
     size_t bits = length > SIZE_MAX / 8 ? SIZE_MAX : 8 * length, needed = 0, taken, i;
     bool fits = size > 0;

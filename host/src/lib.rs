@@ -25,6 +25,9 @@
 //! # Ok::<(), dwg_hatch::Refusal>(())
 //! ```
 //!
+//! Some offices pad names with a closing zero. It is dropped, [`Text::padded`] says so, and [`Name::is_same_name`] takes names that differ in padding alone
+//! for one.
+//!
 //! Below them are inline text and text from a string reader ([`read_tv`], [`read_string_tv`]), and the codes of document 01's section on bitcursor.rs,
 //! each by its name.
 

@@ -78,7 +78,7 @@ fn functions_are_declared_as_they_are_exported() {
 #[test]
 fn structs_have_the_fields_of_the_source() {
     let source = structs(&rattle());
-    for name in ["CodeAnswer", "TextAnswer", "PrefixFields", "GradientColorBits", "BodyGiven"] {
+    for name in ["CodeAnswer", "TextAnswer", "PrefixFields", "GradientColorBits", "TextGiven", "BodyGiven"] {
         let start = format!("pub struct {name} {{");
         assert!(source.contains(&start), "{start}");
     }
@@ -95,6 +95,7 @@ fn a_given_hatch_has_the_fields_of_an_answer() {
         all[at + 1..].iter().take_while(|line| !line.starts_with("pub struct ")).cloned().collect::<Vec<String>>()
     };
     let pairs = [
+        ("TextFields", "TextGiven"),
         ("GradientFields", "GradientGiven"),
         ("GradientBits", "GradientBitsGiven"),
         ("BodyFields", "FieldsGiven"),
@@ -133,6 +134,10 @@ fn edits_of_the_declarations_are_seen() {
         (" start: usize,\n        release: u64,\n        numbers: *mut f64,\n        numbers_length: usize,\n", " start: usize,\n        release: u64,\n        numbers: *mut f64,\n"),
         ("pub fn dwg_hatch_decode_bits(\n        main: *const u8", "pub fn dwg_hatch_decode_bits(\n        main: *mut u8"),
         ("pub solid_fill: u8,\n", "pub solid_fill: bool,\n"),
+        ("    pub padded: bool,\n    pub position: usize,\n", "    pub position: usize,\n    pub padded: bool,\n"),
+        ("    pub padded: bool,\n", ""),
+        ("    pub padded: u8,\n", "    pub padded: bool,\n"),
+        ("    pub name: TextGiven,\n", "    pub name: TextFields,\n"),
         ("words_length: usize,\n        numbers: *mut f64,", "words_length: usize,\n        numbers: *const f64,"),
         ("        x: u64,\n        y: u64,\n", "        y: u64,\n        x: u64,\n"),
         ("dwg_hatch_measure(main: *const u8, main_length: usize, start: usize, release: u64)", "dwg_hatch_measure(main: *const u8, main_length: usize, release: u64, start: usize)"),

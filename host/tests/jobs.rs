@@ -34,7 +34,7 @@ fn requests(count: usize) -> String {
 #[test]
 fn any_number_of_jobs_writes_the_same() {
     let input = requests(400);
-    for words in [&["read"][..], &["read", "--json"], &["prefix"], &["answer"]] {
+    for words in [&["read"][..], &["read", "--json"], &["read", "--names"], &["read", "--names", "--json"], &["prefix"], &["answer"]] {
         let by = |jobs: &str| call(&[words, &["--jobs", jobs]].concat(), input.as_bytes());
         let one = by("1");
         assert!(one.stdout.len() > 5_000 && one.status.code() == Some(if words == ["answer"] { 0 } else { 2 }), "{words:?}");

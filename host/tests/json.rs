@@ -116,6 +116,7 @@ fn same_text(value: &Value, text: &Text, payload: &[u8], name: &Name) {
     assert_eq!(value.at("source").text(), source);
     assert_eq!(value.at("width").whole(), u64::from(text.width));
     assert_eq!((value.at("position").whole(), value.at("count").whole()), (text.position as u64, text.count as u64));
+    assert_eq!(value.at("padded").bool(), text.padded);
     let digits = usize::from(text.width / 4);
     let units: String = text.units(payload).expect("units").iter().map(|unit| format!("{unit:0digits$x}")).collect();
     assert_eq!(value.at("units").text(), units);

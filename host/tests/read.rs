@@ -281,7 +281,8 @@ fn bad_usage_is_one_line_and_status_2() {
     let lines = "read a b|read --release|read --release x a|read --release -1 a|read --release 18446744073709551616 a|read --release 2 --start 1.5 a\
         |read --release 2 --string-start 0 a|read --release 2 --string-end 0 a|read --start 0 a|read --strings a b|read --string-end 1\
         |read --release 2 --strings - -|read --release 2 --strings -|read --json --json|read --json=yes|read --release 2 --release 2 a|read --jason a\
-        |read -x|read --release= a|prefix --strings a b|prefix --release 2 --string-end 1 a|prefix a b|prefix --f64|read -- a -- b";
+        |read -x|read --release= a|prefix --strings a b|prefix --release 2 --string-end 1 a|prefix a b|prefix --f64|read -- a -- b\
+        |prefix --names a|read --names --names|read --names=all a";
     for line in lines.split('|') {
         let told = refuses(&call(&words(line), b"hatch 2 0 A9AAA0\n"), 2);
         let command = line.split(' ').next().expect("a command");

@@ -98,10 +98,30 @@ fn bad_lines_are_refused_by_their_numbers() {
     }
 }
 
+/// The hatches of a file, as doubles.
+fn hatches(name: &str) -> Vec<TypedHatch> {
+    let hatch = |line: &str| Request::of(line).body().read().expect("a hatch");
+    stored(name).lines().filter(|line| line.starts_with("hatch")).map(hatch).collect()
+}
+
 /// The campus's hatches, as doubles.
 fn campus() -> Vec<TypedHatch> {
-    let hatch = |line: &str| Request::of(line).body().read().expect("a hatch");
-    stored("campus.txt").lines().filter(|line| line.starts_with("hatch")).map(hatch).collect()
+    hatches("campus.txt")
+}
+
+/// One name padded and not, in units of 8 bits and of 16, and a zero unit alone; README shows what `read --names` says of it.
+#[test]
+fn padded_names_are_the_same_names() {
+    let hatches = hatches("padded.txt");
+    let texts = hatches.iter().map(|hatch| hatch.hatch.pattern_name);
+    assert_eq!(texts.map(|text| (text.width, text.count, text.padded)).collect::<Vec<_>>(), [(8, 10, false), (8, 10, true), (16, 10, true), (8, 0, true)]);
+    assert!(hatches[..3].iter().all(|hatch| hatch.pattern_name.is_same_name(&hatches[0].pattern_name)));
+    assert!(!hatches[3].pattern_name.is_same_name(&hatches[0].pattern_name));
+    let output = calls::tool().args(["read", "--names", "samples/padded.txt"]).current_dir(root()).output().expect("the tool starts");
+    assert!(output.status.success() && output.stderr.is_empty(), "{output:?}");
+    let list = "names that stand both padded and not: 1\n  pattern   \"DUCT-INSUL\": padded in 2 hatches, not padded in 1\n";
+    assert!(String::from_utf8(output.stdout).expect("UTF-8").ends_with(list));
+    assert!(text("README.md").contains(&list.replace("names", "    names").replace("  pattern", "      pattern")), "README has no such list");
 }
 
 /// The ends of an edge in doubles, or computed from its numbers in single precision.

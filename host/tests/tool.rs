@@ -30,10 +30,10 @@ fn long_texts_are_answered() {
         format!("tv 7 6 00FFFF{}", "41FF".repeat(65_535)),
     ];
     let expected = [
-        format!("ok 2050 m:8:2:255:{}", zeros(255)),
-        format!("ok 4098 m:16:2:255:{}", zeros(510)),
+        format!("ok 2050 m:8:2:255:{}:1", zeros(255)),
+        format!("ok 4098 m:16:2:255:{}:1", zeros(510)),
         "err 1 4090 0".to_string(),
-        format!("ok 1048584 m:16:24:65535:{}", "ff41".repeat(65_535)),
+        format!("ok 1048584 m:16:24:65535:{}:0", "ff41".repeat(65_535)),
     ];
     let given = answers(&["answer"], format!("{}\n", requests.join("\n")).as_bytes());
     assert!(given.lines().eq(expected.iter()), "{}", given.lines().map(|line| format!("{line:.60}\n")).collect::<String>());

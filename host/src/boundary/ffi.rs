@@ -41,13 +41,14 @@ pub struct HandleAnswer {
 }
 
 /// What a text gives: the refusal's number or 0, the final place, and the text's numbers or 0 for each: its payload (1 main, 2 string, 0
-/// none), the bits of a unit, the bit position of the first unit and the unit count.
+/// none), the bits of a unit, whether a closing zero unit was dropped, the bit position of the first unit and the unit count.
 #[repr(C)]
 pub struct TextAnswer {
     pub refusal: u64,
     pub place: usize,
     pub source: u8,
     pub width: u8,
+    pub padded: bool,
     pub position: usize,
     pub count: usize,
 }
@@ -125,6 +126,7 @@ pub struct GradientColorBits {
 pub struct TextFields {
     pub source: u8,
     pub width: u8,
+    pub padded: bool,
     pub position: usize,
     pub count: usize,
 }
@@ -222,7 +224,17 @@ pub struct SeedPart {
     pub count: usize,
 }
 
-/// A gradient as a call takes it: [`GradientFields`] with its switch as a byte, since a caller's may be any.
+/// A text as a call takes it: [`TextFields`] with its switch as a byte, since a caller's may be any.
+#[repr(C)]
+pub struct TextGiven {
+    pub source: u8,
+    pub width: u8,
+    pub padded: u8,
+    pub position: usize,
+    pub count: usize,
+}
+
+/// A gradient as a call takes it: [`GradientFields`] with its switches as bytes.
 #[repr(C)]
 pub struct GradientGiven {
     pub present: u8,
@@ -232,7 +244,7 @@ pub struct GradientGiven {
     pub tint: f64,
     pub num_colors: usize,
     pub colors: [GradientColor; 16],
-    pub name: TextFields,
+    pub name: TextGiven,
 }
 
 /// The same with each double as its 64 bits.
@@ -245,13 +257,13 @@ pub struct GradientBitsGiven {
     pub tint: u64,
     pub num_colors: usize,
     pub colors: [GradientColorBits; 16],
-    pub name: TextFields,
+    pub name: TextGiven,
 }
 
 /// [`BodyFields`] with its switches as bytes.
 #[repr(C)]
 pub struct FieldsGiven {
-    pub pattern_name: TextFields,
+    pub pattern_name: TextGiven,
     pub solid_fill: u8,
     pub associative: u8,
     pub pattern_double: u8,

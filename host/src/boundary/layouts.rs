@@ -23,8 +23,10 @@ fn answers_lie_as_c_lays_them() {
 fn a_text_lies_as_c_lays_it() {
     assert_eq!(size_of::<TextAnswer>(), 40);
     assert_eq!([offset_of!(TextAnswer, refusal), offset_of!(TextAnswer, place)], [0, 8]);
-    assert_eq!([offset_of!(TextAnswer, source), offset_of!(TextAnswer, width)], [16, 17]);
+    assert_eq!([offset_of!(TextAnswer, source), offset_of!(TextAnswer, width), offset_of!(TextAnswer, padded)], [16, 17, 18]);
     assert_eq!([offset_of!(TextAnswer, position), offset_of!(TextAnswer, count)], [24, 32]);
+    assert_eq!([offset_of!(TextFields, source), offset_of!(TextFields, width), offset_of!(TextFields, padded)], [0, 1, 2]);
+    assert_eq!([offset_of!(TextFields, position), offset_of!(TextFields, count)], [8, 16]);
 }
 
 #[test]
@@ -71,6 +73,8 @@ fn a_hatch_lies_as_c_lays_it() {
 // What a call takes lies as what a call gave: a caller in C hands over the very struct.
 #[test]
 fn a_given_hatch_lies_as_an_answer_does() {
+    assert_eq!([size_of::<TextGiven>(), offset_of!(TextGiven, padded), offset_of!(TextGiven, position)], [size_of::<TextFields>(), 2, 8]);
+    assert_eq!([offset_of!(TextGiven, source), offset_of!(TextGiven, width), offset_of!(TextGiven, count)], [0, 1, 16]);
     assert_eq!([size_of::<GradientGiven>(), size_of::<GradientBitsGiven>()], [size_of::<GradientFields>(), size_of::<GradientBits>()]);
     assert_eq!([offset_of!(GradientGiven, angle), offset_of!(GradientGiven, colors)], [8, 48]);
     assert_eq!([offset_of!(GradientBitsGiven, num_colors), offset_of!(GradientBitsGiven, name)], [40, 432]);

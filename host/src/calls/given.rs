@@ -1,7 +1,7 @@
 //! A hatch's record as a call takes it: all numbers, whatever they are.
 
 use super::hatch_record::{color, GradientColor, Hatch, Places};
-use super::texts::{Source, Text};
+use super::texts::Text;
 
 /// The most colours that a record holds.
 const COLORS: usize = 16;
@@ -73,9 +73,8 @@ impl<Double: Copy + Default> Default for GivenGradient<Double> {
     /// An absent one.
     fn default() -> GivenGradient<Double> {
         let zero = Double::default();
-        let name = Text { source: Source::None, width: 0, position: 0, count: 0 };
         let colors = [color(zero, 0, 0, 0); COLORS];
-        GivenGradient { present: false, angle: zero, shift: zero, is_single_color: 0, tint: zero, num_colors: 0, colors, name }
+        GivenGradient { present: false, angle: zero, shift: zero, is_single_color: 0, tint: zero, num_colors: 0, colors, name: Text::NONE }
     }
 }
 

@@ -2,7 +2,7 @@
 
 use crate::boundary::ffi::{self, BodyFields, TextFields};
 use super::codes::OUTSIDE;
-use super::texts::{self, Source, Text};
+use super::texts::{self, Text};
 use std::ops::Range;
 
 /// A place in each payload, in bits; without a string reader the second is 0.
@@ -153,8 +153,7 @@ pub(crate) fn fill<Double: Copy + Default + PartialEq>(
     let (here, past) = colors.split_at_checked(count).unwrap_or_else(|| panic!("{OUTSIDE}"));
     assert!(past.iter().all(|other| *other == color(zero, 0, 0, 0)), "{OUTSIDE}");
     let fill = GradientFill { angle, shift, is_single_color, tint, colors: here.to_vec(), name: text(name) };
-    let name = Text { source: Source::None, width: 0, position: 0, count: 0 };
-    let none = GradientFill { angle: zero, shift: zero, is_single_color: 0, tint: zero, colors: Vec::new(), name };
+    let none = GradientFill { angle: zero, shift: zero, is_single_color: 0, tint: zero, colors: Vec::new(), name: Text::NONE };
     assert!(present || fill == none, "{OUTSIDE}");
     present.then_some(fill)
 }
@@ -189,5 +188,6 @@ pub(crate) fn hatch<Double>(
 }
 
 fn text(fields: &TextFields) -> Text {
-    Text { source: texts::source(fields.source, fields.width), width: fields.width, position: fields.position, count: fields.count }
+    let TextFields { width, padded, position, count, .. } = *fields;
+    Text { source: texts::source(fields.source, width), width, position, count, padded }
 }

@@ -9,7 +9,7 @@ use super::outline_lists::{Counts, Rest};
 use super::refusal::{Reason, Refusal};
 use super::texts::{Source, Text};
 use super::typed::TypedHatch;
-use crate::boundary::ffi::{self, FieldsGiven, MoveAnswer, TextFields};
+use crate::boundary::ffi::{self, FieldsGiven, MoveAnswer, TextGiven};
 
 /// Calls an entry with a record's numbers. It is a macro because the structs with f64 and those with bits are two types with the same fields.
 macro_rules! call {
@@ -130,13 +130,13 @@ macro_rules! move_with_lists {
 move_with_lists!(f64);
 move_with_lists!(u64);
 
-fn text(text: &Text) -> TextFields {
+fn text(text: &Text) -> TextGiven {
     let source = match text.source {
         Source::None => 0,
         Source::Main => 1,
         Source::String => 2,
     };
-    TextFields { source, width: text.width, position: text.position, count: text.count }
+    TextGiven { source, width: text.width, padded: u8::from(text.padded), position: text.position, count: text.count }
 }
 
 fn fields<Double>(hatch: &GivenHatch<Double>) -> FieldsGiven {

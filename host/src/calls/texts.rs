@@ -1,8 +1,8 @@
 //! One text at a time: the payload's bytes and a place in, where the text lies and the place after it out.
 //!
 //! A text is handed over as document 01 has it, without characters: which payload, the bits of a unit, the bit position of the first unit
-//! and the unit count. [`Text::units`] takes the units out of the payload, [`Text::characters`] makes a `String` of 16-bit ones. What
-//! character an 8-bit unit stands for hangs on the drawing's code page, and is left to the caller.
+//! and the unit count; and whether a closing zero unit was dropped. [`Text::units`] takes the units out of the payload, [`Text::characters`]
+//! makes a `String` of 16-bit ones. What character an 8-bit unit stands for hangs on the drawing's code page, and is left to the caller.
 
 use crate::boundary::ffi::{self, TextAnswer};
 use super::codes::{reading, Reading, OUTSIDE};
@@ -19,7 +19,7 @@ pub enum Source {
     String,
 }
 
-/// Where a text lies. A closing zero unit that was dropped is not counted.
+/// Where a text lies, and whether it is padded.
 #[derive(Clone, Copy, Debug, PartialEq, Eq)]
 pub struct Text {
     /// The payload.
@@ -28,11 +28,17 @@ pub struct Text {
     pub width: u8,
     /// The bit position of the first unit. Of an empty text it is the place after the length code, or the string reader's unmoved place.
     pub position: usize,
-    /// How many units there are.
+    /// How many units there are, without a closing zero unit that was dropped.
     pub count: usize,
+    /// Whether a closing zero unit was dropped: some offices pad names with one. It is not counted, so one zero unit alone has the count 0 and is padded,
+    /// and of two closing zeros one is counted. Not padded are a length of 0, a string reader at or past its end bit, and an absent gradient's name.
+    pub padded: bool,
 }
 
 impl Text {
+    /// The text that lies in no payload: an absent gradient's name.
+    pub(crate) const NONE: Text = Text { source: Source::None, width: 0, position: 0, count: 0, padded: false };
+
     /// The text's units, as numbers, low byte first, from any bit of the payload that the text was read from.
     ///
     /// `None` if the units do not all lie in `payload`, which then is another one, or if there are units that are not 8 or 16 bits wide.
@@ -91,7 +97,12 @@ impl Text {
 /// ```
 /// use dwg_hatch::{Reason, Release, Source, Text};
 /// let payload = [0x40, 0x90, 0x50, 0x80];
-/// assert_eq!(dwg_hatch::read_tv(&payload, 0, Release::R2000), Ok((Text { source: Source::Main, width: 8, position: 10, count: 2 }, 26)));
+/// let text = Text { source: Source::Main, width: 8, position: 10, count: 2, padded: false };
+/// assert_eq!(dwg_hatch::read_tv(&payload, 0, Release::R2000), Ok((text, 26)));
+///
+/// // The same with a zero unit behind it: the zero is dropped, and the text says so.
+/// let padded = [0x40, 0xd0, 0x50, 0x80, 0x00];
+/// assert_eq!(dwg_hatch::read_tv(&padded, 0, Release::R2000), Ok((Text { padded: true, ..text }, 34)));
 ///
 /// let refusal = dwg_hatch::read_tv(&payload[..3], 0, Release::R2000).unwrap_err();
 /// assert_eq!((refusal.reason, refusal.place), (Reason::TooFewBits, 18));
@@ -116,7 +127,7 @@ fn tv(payload: &[u8], place: usize, release_number: u64) -> Reading<Text> {
 /// use dwg_hatch::{Reason, Source, Text};
 /// let payload = [0x40, 0x50, 0x40, 0x00];
 /// let (text, place) = dwg_hatch::read_string_tv(&payload, 0, 26)?;
-/// assert_eq!((text, place), (Text { source: Source::String, width: 16, position: 10, count: 1 }, 26));
+/// assert_eq!((text, place), (Text { source: Source::String, width: 16, position: 10, count: 1, padded: false }, 26));
 /// assert_eq!(text.characters(&payload).as_deref(), Some("A"));
 ///
 /// let refusal = dwg_hatch::read_string_tv(&payload, 0, 25).unwrap_err();
@@ -131,7 +142,7 @@ pub fn read_string_tv(payload: &[u8], place: usize, end_bit: usize) -> Reading<T
 /// The text of an answer.
 fn text(answer: TextAnswer) -> Reading<Text> {
     let source = source(answer.source, answer.width);
-    let text = Text { source, width: answer.width, position: answer.position, count: answer.count };
+    let text = Text { source, width: answer.width, position: answer.position, count: answer.count, padded: answer.padded };
     reading(answer.refusal, answer.place, text)
 }
 
@@ -212,6 +223,59 @@ mod tests {
         assert_eq!(numbers(read_string_tv(&[0x40, 0x40, 0x36, 0x00], 0, 32)), Err((7, 26)));
     }
 
+    /// Inline text of 8-bit and of 16-bit units and text from a string reader, each of these units: its count, whether it is padded, and that its place
+    /// is behind all units that were laid out, the one that was dropped too.
+    fn counted(units: &[u16]) -> [(usize, bool); 3] {
+        let laid = |width: usize| {
+            let bits: String = units.iter().map(|unit| format!("{:016b}", unit.swap_bytes())[..width].to_string()).collect();
+            packed(&format!("01 {:08b} {bits} 11111111", units.len()))
+        };
+        let (narrow, wide, end) = (laid(8), laid(16), |width: u8| 10 + usize::from(width) * units.len());
+        let read = [(8, tv(&narrow, 0, 3)), (16, tv(&wide, 0, 4)), (16, read_string_tv(&wide, 0, end(16)))];
+        read.map(|(width, reading)| {
+            let (text, place) = reading.expect("a text");
+            assert_eq!((text.width, text.position, place), (width, 10, end(width)), "{units:x?}");
+            (text.count, text.padded)
+        })
+    }
+
+    #[test]
+    fn a_closing_zero_unit_is_dropped_and_told() {
+        assert_eq!(counted(&[0]), [(0, true); 3]);
+        assert_eq!(counted(&[0x41, 0]), [(1, true); 3]);
+        assert_eq!(counted(&[0x41]), [(1, false); 3]);
+        // Of two closing zeros one is dropped, and a zero that does not close the text is none.
+        assert_eq!(counted(&[0, 0]), [(1, true); 3]);
+        assert_eq!(counted(&[0x41, 0, 0]), [(2, true); 3]);
+        assert_eq!(counted(&[0, 0x41]), [(2, false); 3]);
+        // A unit of 16 bits is zero where both its bytes are.
+        assert_eq!(counted(&[0x4100])[1..], [(1, false); 2]);
+    }
+
+    /// A length of 0 in each of its codes, zeros behind it: nothing was dropped, also where the code crosses the string reader's end bit.
+    #[test]
+    fn a_length_of_0_is_not_padded() {
+        for (code, place) in [("10", 2), ("01 00000000", 10), ("00 00000000 00000000", 18)] {
+            let payload = packed(&format!("{code} {}", "0".repeat(64)));
+            let readings = [tv(&payload, 0, 3), tv(&payload, 0, 4), read_string_tv(&payload, 0, 82), read_string_tv(&payload, 0, 1)];
+            for reading in readings {
+                let (text, end) = reading.expect("a text");
+                assert_eq!((text.count, text.padded, text.position, end), (0, false, place, place), "{code}");
+            }
+        }
+    }
+
+    #[test]
+    fn a_string_reader_at_its_end_gives_no_padded_text() {
+        // One zero unit, which a reader with bits left would drop.
+        let payload = packed(&format!("01 00000001 {}", "0".repeat(16)));
+        assert!(read_string_tv(&payload, 0, 26).expect("a text").0.padded);
+        for (place, end) in [(0, 0), (3, 3), (9, 3), (32, 32), (usize::MAX, 5)] {
+            let (text, after) = read_string_tv(&payload, place, end).expect("a text");
+            assert_eq!((text.count, text.padded, text.position, after), (0, false, place, place), "{place}");
+        }
+    }
+
     #[test]
     fn an_end_bit_past_the_payload_gives_no_bits() {
         assert_eq!(numbers(read_string_tv(&[0x40, 0x40], 0, 1000)), Err((1, 10)));
@@ -224,7 +288,7 @@ mod tests {
 
     #[test]
     fn texts_made_by_hand_are_looked_for_within_the_payload() {
-        let text = |width, position, count| Text { source: Source::Main, width, position, count };
+        let text = |width, position, count| Text { source: Source::Main, width, position, count, padded: false };
         let bytes = [0x00, 0xd8];
         assert_eq!(text(16, 0, 1).units(&bytes), Some(vec![0xd800]));
         assert_eq!(text(16, 0, 1).characters(&bytes), None);

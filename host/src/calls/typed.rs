@@ -11,8 +11,8 @@ use super::refusal::Refusal;
 use super::release::Release;
 use super::texts::{Source, Text};
 
-/// A text taken out of its payload. Where it lies is in the record.
-#[derive(Clone, Debug, PartialEq, Eq)]
+/// A text taken out of its payload. Where it lies, and whether it is padded, is in the record.
+#[derive(Clone, Debug, PartialEq, Eq, Hash)]
 pub enum Name {
     /// 8-bit units: inline text before release 4. What characters they are hangs on the drawing's code page.
     Bytes(Vec<u8>),
@@ -34,6 +34,37 @@ impl Name {
             Name::Bytes(bytes) if bytes.is_ascii() => std::str::from_utf8(bytes).ok(),
             Name::Bytes(_) => None,
             Name::Characters(characters) => Some(characters),
+        }
+    }
+
+    /// Whether two names are the same, so that a pattern which some offices pad with a zero is not filed twice. A closing zero unit that was dropped is no
+    /// part of a `Name`: whether there was one stands in the record, as [`Text::padded`]. So two names that differ in padding alone are the same.
+    ///
+    /// Names are compared by their characters, whatever the bits of a unit: 8-bit units that are all below 80 (hexadecimal) are ASCII, and the same name as
+    /// the 16-bit units of these characters. Other 8-bit units are characters of a code page that is not in the body: such a name is the same as another of
+    /// the very same units alone.
+    ///
+    /// ```
+    /// use dwg_hatch::{read_hatch, Release};
+    /// // Three hatches of R2000, whose pattern names are laid out as NET, as NET with a zero behind it, and as NET with two.
+    /// let plain = read_hatch(&[0xa9, 0x40, 0xd3, 0x91, 0x55, 0x2a, 0xa0], 0, Release::R2000)?;
+    /// let padded = read_hatch(&[0xa9, 0x41, 0x13, 0x91, 0x55, 0x00, 0x2a, 0xa0], 0, Release::R2000)?;
+    /// let twice = read_hatch(&[0xa9, 0x41, 0x53, 0x91, 0x55, 0x00, 0x00, 0x2a, 0xa0], 0, Release::R2000)?;
+    ///
+    /// assert_eq!((plain.hatch.pattern_name.padded, padded.hatch.pattern_name.padded), (false, true));
+    /// assert!(plain.pattern_name.is_same_name(&padded.pattern_name));
+    ///
+    /// // Only one zero is dropped, so a name with a second closing zero is another one.
+    /// assert_eq!((twice.pattern_name.as_str(), twice.hatch.pattern_name.padded), (Some("NET\0"), true));
+    /// assert!(!plain.pattern_name.is_same_name(&twice.pattern_name));
+    /// # Ok::<(), dwg_hatch::Refusal>(())
+    /// ```
+    pub fn is_same_name(&self, other: &Name) -> bool {
+        match (self.as_str(), other.as_str()) {
+            (Some(one), Some(other)) => one == other,
+            // Of two without known characters both are 8-bit units, and equal where these are.
+            (None, None) => self == other,
+            _ => false,
         }
     }
 }

@@ -38,12 +38,14 @@ impl From<io::Error> for Problem {
     }
 }
 
-/// What came of an item: what is written of it, and why it is not done or may be done wrongly.
-pub struct Done {
+/// What came of an item: what is written of it, why it is not done or may be done wrongly, and what else is kept of it.
+pub struct Done<More> {
     /// The text for standard output, with its line ends.
     pub text: String,
     /// The problem, if there is one.
     pub problem: Option<Problem>,
+    /// What is kept for the end, if anything is.
+    pub more: Option<More>,
 }
 
 /// A line on standard error and the status that it gives.
@@ -54,13 +56,15 @@ const BATCH: usize = 1 << 16;
 
 impl Input {
     /// [`Items::each`] with the work done side by side by so many jobs, each with a worker of its own. Its texts are written to `output` in order,
-    /// and written out before the line about a problem, so that both streams are in order on a terminal, and before more input is waited for.
-    pub fn each_by_jobs<Worker: FnMut(&Item) -> Done>(
+    /// and written out before the line about a problem, so that both streams are in order on a terminal, and before more input is waited for. What
+    /// else is kept of an item is handed to `keep`, in order too.
+    pub fn each_by_jobs<More: Send + 'static, Worker: FnMut(&Item) -> Done<More>>(
         &self,
         jobs: usize,
         mut output: impl Write,
         mut errors: impl Write,
         worker: impl Fn() -> Worker + Send + Sync + 'static,
+        mut keep: impl FnMut(More),
     ) -> Result<u8, Failure> {
         let mut items = self.items()?;
         let worker = move || {
@@ -69,27 +73,29 @@ impl Input {
         };
         let mut status = 0;
         jobs::in_order(jobs, move || items.batch(BATCH), worker, |batch| {
-            let number = batch.into_iter().try_fold(0, |status: u8, done| write(done, &mut output, &mut errors).map(|number| status.max(number)))?;
-            status = status.max(number);
+            for (text, said, more) in batch {
+                more.into_iter().for_each(&mut keep);
+                status = status.max(write(&text, said, &mut output, &mut errors)?);
+            }
             output.flush().map_err(Failure::Io)
         })?;
         Ok(status)
     }
 }
 
-/// The text of an item, and the line about its problem; a failure that ends the work is for the one who writes.
-fn done(item: Result<Item, Failure>, work: &mut impl FnMut(&Item) -> Done) -> (String, Result<Option<Said>, Failure>) {
+/// The text of an item, the line about its problem, and what is kept of it; a failure that ends the work is for the one who writes.
+fn done<More>(item: Result<Item, Failure>, work: &mut impl FnMut(&Item) -> Done<More>) -> (String, Result<Option<Said>, Failure>, Option<More>) {
     match item {
-        Err(failure) => (String::new(), told(failure).map(Some)),
+        Err(failure) => (String::new(), told(failure).map(Some), None),
         Ok(item) => {
-            let Done { text, problem } = work(&item);
-            (text, problem.map(|problem| said(&item, problem)).transpose())
+            let Done { text, problem, more } = work(&item);
+            (text, problem.map(|problem| said(&item, problem)).transpose(), more)
         }
     }
 }
 
 /// Writes what came of an item. Gives its status.
-fn write((text, said): (String, Result<Option<Said>, Failure>), output: &mut impl Write, errors: &mut impl Write) -> Result<u8, Failure> {
+fn write(text: &str, said: Result<Option<Said>, Failure>, output: &mut impl Write, errors: &mut impl Write) -> Result<u8, Failure> {
     output.write_all(text.as_bytes())?;
     let Some((status, line)) = said? else { return Ok(0) };
     output.flush()?;

@@ -34,12 +34,15 @@ command or a line is wrong.
 pub const READ_HELP: &str = "\
 Reads hatch bodies and entity prefixes, and prints a summary of each, or everything as JSON.
 
-usage: dwg-hatch read [--json] [--quiet] [--jobs N] [--origin X,Y|auto] [FILE]
+usage: dwg-hatch read [--json] [--names] [--quiet] [--jobs N] [--origin X,Y|auto] [FILE]
        dwg-hatch read [OPTION]... --release N [--start BIT] [--strings FILE [--string-start BIT] [--string-end BIT]] [FILE]
 
   --json               print one JSON object a line for each request, with every field; docs/JSON.md has their names.
                        Finite doubles are the shortest numbers that give the same double back, NaNs and infinities
                        strings with their 64 bits, as \"0x7ff8000000000001\"
+  --names              behind all else, list the names that stand in FILE both padded with a closing zero and not, and so
+                       may have been filed as two: in how many hatches each way, names of patterns first, then those of
+                       gradients. Hatches that are refused do not count
   --quiet              do not warn of hatches that may have been read wrongly
   --jobs N             work by so many jobs side by side, 1 to 256; as many as the machine has cores if not given. What is
                        written is the same for any number, in the order of the lines
@@ -164,8 +167,9 @@ usage: dwg-hatch answer [--f64] [--jobs N]
 
 REL is the release, 1 to 7 (of a prefix or a hatch any number), START the start bit. HEX is bytes in hexadecimal, - for
 no bytes, zN for N zero bytes. L gives the lengths of the lent lists; without it they are long enough.
-A text's value is SOURCE:WIDTH:POSITION:COUNT:UNITS: m (main payload), s (string payload) or - (none), the bits of a
-unit, the bit position of the first unit, how many there are, and the units in hexadecimal, - for none.
+A text's value is SOURCE:WIDTH:POSITION:COUNT:UNITS:PADDED: m (main payload), s (string payload) or - (none), the bits of a
+unit, the bit position of the first unit, how many there are, the units in hexadecimal, - for none, and 1 if a closing zero
+unit was dropped, else 0; that unit is not counted.
 A prefix's value is 0 and its fields, each NAME=VALUE; rgb, alpha and dataend are 0:0 if absent, else 1:NUMBER.
 A hatch's value is the string payload's place, 0 without a reader, and its fields, each NAME=VALUE; a list is - if it
 is empty, and a colour is DOUBLE/SHORT/RGB/BYTE.

@@ -108,7 +108,7 @@ impl Answerer {
     }
 }
 
-/// Adds the protocol's T, SOURCE:WIDTH:POSITION:COUNT:UNITS, of a text in its payload. A text that a reading gave lies in that reading's
+/// Adds the protocol's T, SOURCE:WIDTH:POSITION:COUNT:UNITS:PADDED, of a text in its payload. A text that a reading gave lies in that reading's
 /// payload; if it does not, no answer is better than a wrong one.
 pub fn put_text(line: &mut String, text: &Text, payload: &[u8]) {
     let source = match text.source {
@@ -122,6 +122,7 @@ pub fn put_text(line: &mut String, text: &Text, payload: &[u8]) {
         line.push('-');
     }
     units.iter().for_each(|unit| put_digits(line, u64::from(*unit), usize::from(text.width / 4)));
+    line.push_str(if text.padded { ":1" } else { ":0" });
 }
 
 /// The fields of a prefix's answer after its first place, the second place among them: there is no reader, so it is 0.
@@ -256,7 +257,8 @@ mod tests {
         let mut answerer = Answerer::new(false);
         assert_eq!(answerer.line(b"bs 2 0 3FFFC0"), "ok 18 -1");
         assert_eq!(answerer.line(b"bd 2 0 C0"), "err 2 2 0");
-        assert_eq!(answerer.line(b"tv 2 0 40905080"), "ok 26 m:8:10:2:4142");
+        assert_eq!(answerer.line(b"tv 2 0 40905080"), "ok 26 m:8:10:2:4142:0");
+        assert_eq!(answerer.line(b"tv 2 0 40D0508000"), "ok 34 m:8:10:2:4142:1");
         assert_eq!(answerer.line(b"prefix 2 0 404240"), "err 5 18 0");
         assert_eq!(answerer.line(b"hatch 3 0 A9AAA0"), "err 1 22 0");
         assert_eq!(answerer.line(b"bd 2 0"), "bad request");

@@ -97,7 +97,7 @@ impl<'a> Fields<'a> {
     }
 
     fn text(&self, name: &str) -> Option<Text> {
-        self.value(name).map_or(Some(Text { source: Source::None, width: 0, position: 0, count: 0 }), text)
+        self.value(name).map_or(Some(Text { source: Source::None, width: 0, position: 0, count: 0, padded: false }), text)
     }
 
     fn gradient(&self) -> Option<GivenGradient<u64>> {
@@ -136,21 +136,27 @@ fn signed(field: &[u8]) -> Option<i16> {
     i16::try_from(sign * value).ok()
 }
 
-/// A text: SOURCE:WIDTH:POSITION:COUNT:UNITS. Where it lies is the record's; its units are looked at as digits alone, since no call here takes them.
+/// A text: SOURCE:WIDTH:POSITION:COUNT:UNITS:PADDED. Where it lies and whether it is padded is the record's; its units are looked at as digits alone,
+/// since no call here takes them.
 fn text(field: &[u8]) -> Option<Text> {
     let parts: Vec<&[u8]> = field.split(|byte| *byte == b':').collect();
-    let [source, width, position, count, units] = parts[..] else { return None };
+    let [source, width, position, count, units, padded] = parts[..] else { return None };
     let source = match source {
         b"-" => Source::None,
         b"m" => Source::Main,
         b"s" => Source::String,
         _ => return None,
     };
+    let padded = match number(padded)? {
+        0 => false,
+        1 => true,
+        _ => return None,
+    };
     let width: u8 = number(width)?.try_into().ok()?;
     let digits = usize::from(width / 4);
     let are_units = matches!(width, 8 | 16) && !units.is_empty() && units.len() % digits == 0 && units.iter().all(u8::is_ascii_hexdigit);
     let (position, count) = (number(position)?.try_into().ok()?, number(count)?.try_into().ok()?);
-    (units == b"-" || are_units).then_some(Text { source, width, position, count })
+    (units == b"-" || are_units).then_some(Text { source, width, position, count, padded })
 }
 
 #[cfg(test)]
@@ -176,7 +182,7 @@ mod tests {
     #[test]
     fn each_field_has_its_place() {
         let line = "gcols=0000000000000002/-32768/7/255;0000000000000003/5/4294967295/0 gn=18446744073709551615 grad=1 gangle=0000000000000004 \
-            gshift=0000000000000005 gsingle=6 gtint=0000000000000007 gname=s:16:8:1:0041 elev=0000000000000009 name=m:8:10:2:4142 gflag=1 \
+            gshift=0000000000000005 gsingle=6 gtint=0000000000000007 gname=s:16:8:1:0041:1 elev=0000000000000009 name=m:8:10:2:4142:0 gflag=1 \
             ext=000000000000000a,000000000000000b,000000000000000c solid=255 assoc=2 style=65535 type=13 pangle=000000000000000e pscale=000000000000000f \
             pdouble=3 pixel=0000000000000010 npaths=17 nlines=18 nseeds=19";
         let Given { hatch, .. } = given(line).expect("a record");
@@ -184,8 +190,10 @@ mod tests {
         assert_eq!((gradient.present, gradient.angle, gradient.shift, gradient.is_single_color, gradient.tint), (true, 4, 5, 6, 7));
         let color = |at: usize| (gradient.colors[at].unknown_double, gradient.colors[at].unknown_short, gradient.colors[at].rgb);
         assert_eq!((gradient.num_colors, color(0), color(1), color(2)), (usize::MAX, (2, i16::MIN, 7), (3, 5, u32::MAX), (0, 0, 0)));
-        assert_eq!((gradient.name, gradient.colors[0].ignored_color_byte), (Text { source: Source::String, width: 16, position: 8, count: 1 }, 255));
-        assert_eq!((hatch.elevation, hatch.extrusion, hatch.pattern_name.position), (9, [10, 11, 12], 10));
+        let name = Text { source: Source::String, width: 16, position: 8, count: 1, padded: true };
+        assert_eq!((gradient.name, gradient.colors[0].ignored_color_byte), (name, 255));
+        assert_eq!((hatch.elevation, hatch.extrusion), (9, [10, 11, 12]));
+        assert_eq!((hatch.pattern_name.position, hatch.pattern_name.padded), (10, false));
         assert_eq!((hatch.solid_fill, hatch.associative, hatch.pattern_double), (255, 2, 3));
         assert_eq!((hatch.pattern_style, hatch.pattern_type, hatch.pattern_angle, hatch.pattern_scale, hatch.pixel_size), (65535, 13, 14, 15, 16));
         assert_eq!((hatch.num_paths, hatch.num_pattern_lines, hatch.num_seed_points), (17, 18, 19));
@@ -196,13 +204,24 @@ mod tests {
         let seventeen = vec!["0000000000000000/0/0/0"; 17].join(";");
         let lines = "solid|solid=|solid=256|solid=-1|assoc=256|pdouble=1.0|grad=2|gflag=4294967296|style=65536|type=65536|gsingle=4294967296|npaths=x\
             |npaths=18446744073709551616|nw=18446744073709551616|nn=-|words=|words=1,|words=4294967296|words=1,,2|words=-,1|nums=|nums=0|nums=000000000000000g\
-            |nums=00000000000000001|elev=0|ext=0000000000000000,0000000000000000|ext=0000000000000000|name=|name=m:8:0:0|name=x:8:0:0:-|name=m:256:0:0:-\
-            |name=m:8:0:0:4|name=m:16:0:0:41|name=m:8:0:0:|name=m:7:0:0:41|name=m:8:0:0:-:0|gcols=|gcols=0000000000000000/0/0|nothing=1|Solid=1|=1\
+            |nums=00000000000000001|elev=0|ext=0000000000000000,0000000000000000|ext=0000000000000000|name=|name=m:8:0:0:0|name=x:8:0:0:-:0|name=m:256:0:0:-:0\
+            |name=m:8:0:0:4:0|name=m:16:0:0:41:0|name=m:8:0:0::0|name=m:7:0:0:41:0|name=m:8:0:0:-|gname=m:8:0:0:4142|name=m:8:0:0:-:0:0|gname=-:0:0:0:-\
+            |name=m:8:0:0:-:2|name=m:8:0:0:-:-1|name=m:8:0:0:-:|name=m:8:0:0:-:-|name=m:8:0:0:-:x|name=m:8:0:0:-:18446744073709551616\
+            |nothing=1|Solid=1|=1|gcols=|gcols=0000000000000000/0/0\
             |gcols=0000000000000000/32768/0/0|gcols=0000000000000000/0/4294967296/0|gcols=0000000000000000/0/0/256|gcols=0000000000000000/+1/0/0\
             |solid=1 solid=1|nums=- nums=-";
         for line in lines.split('|').chain([format!("gcols={seventeen}").as_str()]) {
             assert_eq!(given(line), None, "{line}");
         }
-        assert!(given("name=m:8:0:0:4a name= ").is_none() && given("name=m:7:0:0:- gname=-:0:0:0:-").is_some());
+        assert!(given("name=m:8:0:0:4a:0 name= ").is_none() && given("name=m:7:0:0:-:0 gname=-:0:0:0:-:0").is_some());
+    }
+
+    /// Whatever else the text says, since a move does not look at names.
+    #[test]
+    fn padded_is_0_or_1() {
+        let padded = |line: &str| given(line).map(|given| (given.hatch.pattern_name.padded, given.hatch.gradient.name.padded));
+        assert_eq!(padded("name=m:8:10:0:-:1"), Some((true, false)));
+        assert_eq!(padded("name=m:8:10:2:4142:0 gname=s:16:0:1:0041:1"), Some((false, true)));
+        assert_eq!(padded("name=-:0:0:0:-:1 gname=-:0:0:0:-:0"), Some((true, false)));
     }
 }

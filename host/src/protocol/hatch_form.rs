@@ -160,7 +160,7 @@ impl<Double: Copy> Line<Double> {
     fn gradient(&mut self, body: &HatchBody, fill: Option<&GradientFill<Double>>) {
         let Some(fill) = fill else {
             let zero = "0000000000000000";
-            return self.put(format_args!(" grad=0 gangle={zero} gshift={zero} gsingle=0 gtint={zero} gn=0 gcols=- gname=-:0:0:0:-"));
+            return self.put(format_args!(" grad=0 gangle={zero} gshift={zero} gsingle=0 gtint={zero} gn=0 gcols=- gname=-:0:0:0:-:0"));
         };
         self.double(" grad=1 gangle=", fill.angle);
         self.double(" gshift=", fill.shift);

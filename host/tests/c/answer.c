@@ -43,12 +43,13 @@ static void put_handle(Line *line, DwgHandleAnswer a) {
 }
 
 static void put_text_answer(Line *line, DwgTextAnswer a, const Request *request) {
-    DwgTextFields text = {a.source, a.width, a.position, a.count};
+    DwgTextFields text = {a.source, a.width, a.padded, a.position, a.count};
     if (a.refusal != 0) {
-        claim(a.source == 0 && a.width == 0 && a.position == 0 && a.count == 0, "a refused text is 0");
+        claim(a.source == 0 && a.width == 0 && !a.padded && a.position == 0 && a.count == 0, "a refused text is 0");
         put_refusal(line, a.refusal, a.place, 0);
         return;
     }
+    claim(a.place == a.position + (a.count + a.padded) * a.width, "a text ends behind its units, and behind the one that was dropped");
     put(line, "ok %zu ", a.place);
     put_text(line, &text, request);
 }

@@ -104,7 +104,7 @@ void check_seeds(const DwgBodyFields *fields, size_t length) {
 }
 
 static bool same_text(const DwgTextFields *a, const DwgTextFields *b) {
-    return a->source == b->source && a->width == b->width && a->position == b->position && a->count == b->count;
+    return a->source == b->source && a->width == b->width && a->padded == b->padded && a->position == b->position && a->count == b->count;
 }
 
 static bool same_gradient(const DwgGradientFields *a, const DwgGradientBits *b) {

@@ -7,6 +7,7 @@ function all(list,    parts, n, i, line) {
     return line
 }
 $1 == "err" { printf "refusal %s at bits %s and %s\n", $2, $3, $4; next }
+function padded(part) { return part[6] == 1 ? ", padded" : "" }
 {
     for (i = 4; i <= NF; i++) { name = $i; sub(/=.*/, "", name); field[name] = substr($i, length(name) + 2) }
     split(field["ext"], ext, ",")
@@ -14,9 +15,9 @@ $1 == "err" { printf "refusal %s at bits %s and %s\n", $2, $3, $4; next }
     split(field["gname"], other, ":")
     printf "read to bit %s: %s words, %s numbers\n", $2, field["nw"], field["nn"]
     printf "gradient: present %s, angle %s, %s colours\n", field["grad"], double("gangle"), field["gn"]
-    printf "gradient's name: %s units of %s bits at bit %s\n", other[4], other[2], other[3]
+    printf "gradient's name: %s units of %s bits at bit %s%s\n", other[4], other[2], other[3], padded(other)
     printf "elevation %s, extrusion {%s} {%s} {%s}\n", double("elev"), ext[1], ext[2], ext[3]
-    printf "name: %s units of %s bits at bit %s\n", text[4], text[2], text[3]
+    printf "name: %s units of %s bits at bit %s%s\n", text[4], text[2], text[3], padded(text)
     printf "solid %s, associative %s, style %s, type %s\n", field["solid"], field["assoc"], field["style"], field["type"]
     printf "pattern: angle %s, scale %s, double %s\n", double("pangle"), double("pscale"), field["pdouble"]
     printf "pixel size %s\n", double("pixel")

@@ -40,11 +40,16 @@ static const Case cases[] = {
     {KIND_TV, 2, "40905080", 26, "", 0},
     {KIND_TV, 4, "40504000", 26, "", 0},
     {KIND_STRING_TV, 1, "40504000", 26, "", 0},
+    {KIND_TV, 2, "404000", 18, "", 0}, /* a zero unit alone, which is dropped */
+    {KIND_TV, 2, "40904000", 26, "", 0},
+    {KIND_TV, 4, "40400000", 26, "", 0},
+    {KIND_STRING_TV, 1, "40400000", 26, "", 0},
     {KIND_PREFIX, 2, "85D08740", 26, "", 0},
     {KIND_HATCH, 2, "A9AAA0", 20, "", 0},
     {KIND_HATCH, 2, "A9AA901555555555555554055555555555555C00", 156, "", 0},
     {KIND_HATCH, 3, "A9AAA0", 22, "", 0},
     {KIND_HATCHS, 2, "A9AAA0", 20, "40504000", 26},
+    {KIND_HATCHS, 2, "A9AAA0", 20, "409040000000", 42}, /* a padded name */
     {KIND_HATCHS, 2, "A9", 8, "4040", 16},
 };
 

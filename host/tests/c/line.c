@@ -76,6 +76,19 @@ static unsigned byte_at(Payload payload, size_t bit) {
     return two >> (8 - bit % 8) & 255;
 }
 
+/* A unit of a text, by its place among them; the one that was dropped stands behind the last that is counted. */
+static unsigned unit_at(Payload payload, const DwgTextFields *text, size_t unit) {
+    size_t at = text->position + unit * text->width;
+    return text->width == 16 ? byte_at(payload, at + 8) << 8 | byte_at(payload, at) : byte_at(payload, at);
+}
+
+/* A padded text has a zero unit behind those that are counted; one that is not padded does not end with a zero. */
+static void check_padded(const DwgTextFields *text, Payload payload) {
+    claim(!text->padded || text->source != DWG_SOURCE_NONE, "what lies in no payload is not padded");
+    claim(!text->padded || unit_at(payload, text, text->count) == 0, "the unit that was dropped is zero");
+    claim(text->padded || text->count == 0 || unit_at(payload, text, text->count - 1) != 0, "a closing zero unit is dropped");
+}
+
 void put_text(Line *line, const DwgTextFields *text, const Request *request) {
     static const char sources[] = "-ms";
     claim(text->source <= 2, "a text's source is 0, 1 or 2");
@@ -85,11 +98,9 @@ void put_text(Line *line, const DwgTextFields *text, const Request *request) {
         put(line, "-");
     }
     Payload payload = text->source == DWG_SOURCE_STRING && request->kind != KIND_STRING_TV ? request->string : request->main;
+    check_padded(text, payload);
     for (size_t unit = 0; unit < text->count; unit++) {
-        size_t at = text->position + unit * text->width;
-        if (text->width == 16) {
-            put(line, "%02x", byte_at(payload, at + 8));
-        }
-        put(line, "%02x", byte_at(payload, at));
+        put(line, text->width == 16 ? "%04x" : "%02x", unit_at(payload, text, unit));
     }
+    put(line, ":%d", text->padded);
 }

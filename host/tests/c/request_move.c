@@ -73,18 +73,22 @@ static bool colors(char *text, DwgGradientBits *gradient) {
     return good;
 }
 
-/* SOURCE:WIDTH:POSITION:COUNT:UNITS. */
+/* SOURCE:WIDTH:POSITION:COUNT:UNITS:PADDED. */
 static bool text_fields(char *text, DwgTextFields *out) {
     const char *source = part(&text, ':');
-    uint64_t width, position, count;
+    uint64_t width, position, count, padded;
     if (strlen(source) != 1 || strchr("-ms", source[0]) == NULL || !number(part(&text, ':'), 255, &width) || !number(part(&text, ':'), UINT64_MAX, &position)
-        || !number(part(&text, ':'), UINT64_MAX, &count) || text == NULL) {
+        || !number(part(&text, ':'), UINT64_MAX, &count)) {
+        return false;
+    }
+    const char *units = part(&text, ':');
+    if (units == NULL || !number(part(&text, ':'), 1, &padded) || text != NULL) {
         return false;
     }
     DwgSource from = source[0] == 'm' ? DWG_SOURCE_MAIN : source[0] == 's' ? DWG_SOURCE_STRING : DWG_SOURCE_NONE;
-    *out = (DwgTextFields){(uint8_t)from, (uint8_t)width, position, count};
-    bool units = (width == 8 || width == 16) && text[0] != 0 && strlen(text) % (width / 4) == 0;
-    return strcmp(text, "-") == 0 || (units && text[strspn(text, "0123456789abcdefABCDEF")] == 0);
+    *out = (DwgTextFields){(uint8_t)from, (uint8_t)width, padded == 1, position, count};
+    bool whole = (width == 8 || width == 16) && units[0] != 0 && strlen(units) % (width / 4) == 0;
+    return strcmp(units, "-") == 0 || (whole && units[strspn(units, "0123456789abcdefABCDEF")] == 0);
 }
 
 /* A list, `-` for an empty one; each entry is a double's bits or, of words, a number. The list grows by whole blocks. */

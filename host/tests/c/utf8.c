@@ -1,5 +1,5 @@
-/* dwg_text_utf8 of dwg_hatch_codes.h: every character, units at every bit offset, halves of pairs, buffers of every size, and texts that do not lie
- * in the payload. Payloads are of exactly the bytes that they need, so that a read past them is seen by gcc's sanitizers. */
+/* dwg_text_utf8 of dwg_hatch_codes.h: every character, units at every bit offset, halves of pairs, buffers of every size, texts that do not lie
+ * in the payload, and padded names. Payloads are of exactly the bytes that they need, so that a read past them is seen by gcc's sanitizers. */
 #include "calls.h"
 
 #include <stdio.h>
@@ -97,6 +97,26 @@ static void elsewhere(void) {
     claim(dwg_text_utf8(payload, SIZE_MAX, 8, 0, 1, NULL, 0) == 1, "a length above a size_t's bits is no trouble");
 }
 
+/* The characters of the text at bit 0 of a payload, and how many bytes they have; whether the text is padded is looked at. */
+static size_t characters_of(const uint8_t *payload, size_t length, uint64_t release, bool padded, char bytes[8]) {
+    DwgTextAnswer text = dwg_read_tv(payload, length, 0, release);
+    claim(text.refusal == DWG_READ && text.padded == padded, "a text says whether a closing zero was dropped");
+    return dwg_text_utf8(payload, length, text.width, text.position, text.count, bytes, 8);
+}
+
+/* A padded name and the same name without its zero give the same bytes, in units of 8 and of 16 bits; a second closing zero makes another name. */
+static void padded_names(void) {
+    static const uint8_t plain[] = {0x40, 0xd3, 0x91, 0x55, 0x00}, padded[] = {0x41, 0x13, 0x91, 0x55, 0x00, 0x00};
+    static const uint8_t twice[] = {0x41, 0x53, 0x91, 0x55, 0x00, 0x00, 0x00}, zero[] = {0x40, 0x40, 0x00};
+    static const uint8_t wide[] = {0x41, 0x13, 0x80, 0x11, 0x40, 0x15, 0x00, 0x00, 0x00, 0x00};
+    char bytes[8];
+    claim(characters_of(plain, sizeof plain, DWG_R2000, false, bytes) == 3 && memcmp(bytes, "NET", 4) == 0, "NET is NET");
+    claim(characters_of(padded, sizeof padded, DWG_R2000, true, bytes) == 3 && memcmp(bytes, "NET", 4) == 0, "NET with a closing zero is NET");
+    claim(characters_of(wide, sizeof wide, DWG_R2007, true, bytes) == 3 && memcmp(bytes, "NET", 4) == 0, "so it is in units of 16 bits");
+    claim(characters_of(twice, sizeof twice, DWG_R2000, true, bytes) == 4 && memcmp(bytes, "NET\0", 5) == 0, "NET with two closing zeros has one");
+    claim(characters_of(zero, sizeof zero, DWG_R2000, true, bytes) == 0 && bytes[0] == 0, "a zero alone is an empty name");
+}
+
 int main(void) {
     gives((uint32_t[]){'S', 'O', 'L', 'I', 'D'}, 5, 8, "SOLID", 5);
     gives((uint32_t[]){0x7f, 0x80, 0xff, 'a'}, 4, 8, "\x7f\xef\xbf\xbd\xef\xbf\xbd" "a", 8);
@@ -109,6 +129,7 @@ int main(void) {
     gives(NULL, 0, 16, "", 0);
     every_character();
     elsewhere();
-    puts("utf8: every character, units at every bit offset, halves of pairs and buffers of every size are as the header says");
+    padded_names();
+    puts("utf8: every character, units at every bit offset, halves of pairs, buffers of every size and padded names are as the header says");
     return 0;
 }

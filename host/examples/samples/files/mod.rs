@@ -6,6 +6,7 @@ mod campus;
 mod fills;
 mod objects;
 mod outlines;
+mod padded;
 mod plan;
 mod prefixes;
 
@@ -23,6 +24,7 @@ pub fn all() -> Vec<(&'static str, Vec<u8>)> {
         ("strings.txt", outlines::strings()),
         ("patterns.txt", fills::patterns()),
         ("gradients.txt", fills::gradients()),
+        ("padded.txt", padded::text()),
         ("campus.txt", campus::text()),
         ("prefix.txt", prefixes::text()),
         ("bad.txt", bad::text()),

@@ -122,7 +122,7 @@ mod tests {
 
     fn fill(angle: f64, colours: &[(f64, u32)]) -> GradientFill {
         let colors = colours.iter().map(|(part, rgb)| GradientColor { unknown_double: *part, unknown_short: 0, rgb: *rgb, ignored_color_byte: 0 });
-        let name = dwg_hatch::Text { source: dwg_hatch::Source::Main, width: 8, position: 0, count: 0 };
+        let name = dwg_hatch::Text { source: dwg_hatch::Source::Main, width: 8, position: 0, count: 0, padded: false };
         GradientFill { angle, shift: 0.0, is_single_color: 0, tint: 1.0, colors: colors.collect(), name }
     }
 

@@ -135,25 +135,31 @@ fn color(color: &GradientColor<u64>) -> String {
     ])
 }
 
-/// Where a text lies, its units in hexadecimal, and its characters if it is known which they are.
+/// Where a text lies, whether it is padded, its units in hexadecimal, and its characters if it is known which they are.
 fn text(text: &Text, name: &Name) -> String {
     let source = match text.source {
         Source::None => "none",
         Source::Main => "main",
         Source::String => "string",
     };
-    let units: String = match name {
-        Name::Bytes(bytes) => bytes.iter().map(|unit| format!("{unit:02x}")).collect(),
-        Name::Characters(characters) => characters.encode_utf16().map(|unit| format!("{unit:04x}")).collect(),
-    };
     object([
         ("source", string(source)),
         ("width", text.width.to_string()),
         ("position", text.position.to_string()),
         ("count", text.count.to_string()),
-        ("units", string(&units)),
+        ("padded", text.padded.to_string()),
+        ("units", units(name)),
         ("string", or_null(name.as_str().map(string))),
     ])
+}
+
+/// The units of a name in hexadecimal: two digits each, or four.
+pub fn units(name: &Name) -> String {
+    let digits: String = match name {
+        Name::Bytes(bytes) => bytes.iter().map(|unit| format!("{unit:02x}")).collect(),
+        Name::Characters(characters) => characters.encode_utf16().map(|unit| format!("{unit:04x}")).collect(),
+    };
+    string(&digits)
 }
 
 fn path(path: &HatchPath<u64>) -> String {

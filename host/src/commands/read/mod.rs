@@ -3,6 +3,7 @@
 mod json;
 mod json_forms;
 mod measures;
+mod names;
 mod page;
 mod summary;
 
@@ -20,9 +21,13 @@ use crate::protocol::lists::lists;
 use crate::protocol::payload::Zeros;
 use crate::protocol::request::{HatchRequest, PrefixRequest};
 use crate::protocol::OUTSIDE;
+use names::{Named, Names};
 
 /// The command that reads hatches and prefixes.
-pub const READ: Command = Command { name: "read", kind: Kind::Hatch, switches: &["--json", "--quiet"], values: &[JOBS, ORIGIN] };
+pub const READ: Command = Command { name: "read", kind: Kind::Hatch, switches: &["--json", "--quiet", NAMES], values: &[JOBS, ORIGIN] };
+
+/// The option that lists the names which stand in the input both padded and not.
+const NAMES: &str = "--names";
 
 /// The command that reads prefixes alone.
 pub const PREFIX: Command = Command { name: "prefix", kind: Kind::Prefix, switches: &["--json"], values: &[JOBS], ..READ };
@@ -30,32 +35,45 @@ pub const PREFIX: Command = Command { name: "prefix", kind: Kind::Prefix, switch
 /// Reads each item of the input and writes it to `output`: a summary, or with `--json` one object a line. What is refused, each line that is no
 /// request and, without `--quiet`, each hatch that may have been read wrongly is a line on `errors`. Gives the tool's status: 0 if all was read, 1 if
 /// something was refused or a file could not be read, 2 if a line was no request. The work is done by as many jobs as `--jobs` says, and what is written
-/// is the same for any number. Hatches are moved to the origin that `--origin` asks for.
+/// is the same for any number. Hatches are moved to the origin that `--origin` asks for. With `--names` the list of the names that stand in the input both
+/// padded and not comes last.
 pub fn run(command: &Command, options: &Options, input: &Input, output: impl Write, mut errors: impl Write) -> Result<u8, Failure> {
     let (jobs, command) = (command.jobs(options)?, *command);
     let origin = origin(&command, options, input, None, &mut errors)?;
-    let (json, quiet) = (options.has("--json"), options.has("--quiet"));
-    input.each_by_jobs(jobs, BufWriter::with_capacity(1 << 16, output), errors, move || {
+    let wanted = Wanted { command, json: options.has("--json"), quiet: options.has("--quiet"), names: options.has(NAMES), origin };
+    let (mut output, mut names) = (BufWriter::with_capacity(1 << 16, output), Names::default());
+    let worker = move || {
         let mut zeros = Zeros::default();
-        move |item| read(&command, json, quiet, item, &mut Reader { origin, zeros: &mut zeros })
-    })
-}
-
-/// What is lent to each reading, and where its hatch is moved to.
-struct Reader<'a> {
-    origin: Option<Point2D>,
-    zeros: &'a mut Zeros,
-}
-
-fn read(command: &Command, json: bool, quiet: bool, item: &Item, reader: &mut Reader) -> Done {
-    if let Err(failure) = taken(command, item) {
-        return Done { text: String::new(), problem: Some(failure.into()) };
+        move |item: &Item| read(&wanted, item, &mut zeros)
+    };
+    let status = input.each_by_jobs(jobs, &mut output, errors, worker, |named| names.add(named))?;
+    if wanted.names {
+        output.write_all(if wanted.json { names.json() } else { names.summary() }.as_bytes())?;
+        output.flush()?;
     }
-    match if json { json_text(item, reader) } else { summary_text(item, reader) } {
-        Ok(Read { text, warning }) => Done { text, problem: warning.filter(|_| !quiet).map(Problem::Doubted) },
+    Ok(status)
+}
+
+/// What is asked for of each item.
+#[derive(Clone, Copy)]
+struct Wanted {
+    command: Command,
+    json: bool,
+    quiet: bool,
+    names: bool,
+    /// Where a hatch is moved to.
+    origin: Option<Point2D>,
+}
+
+fn read(wanted: &Wanted, item: &Item, zeros: &mut Zeros) -> Done<Named> {
+    if let Err(failure) = taken(&wanted.command, item) {
+        return Done { text: String::new(), problem: Some(failure.into()), more: None };
+    }
+    match written(wanted, item, zeros) {
+        Ok(Read { text, warning, named }) => Done { text, problem: warning.filter(|_| !wanted.quiet).map(Problem::Doubted), more: named },
         Err(refusal) => {
-            let text = if json { json_forms::refusal(item, &refusal) + "\n" } else { String::new() };
-            Done { text, problem: Some(refusal.into()) }
+            let text = if wanted.json { json_forms::refusal(item, &refusal) + "\n" } else { String::new() };
+            Done { text, problem: Some(refusal.into()), more: None }
         }
     }
 }
@@ -68,40 +86,32 @@ fn taken(command: &Command, item: &Item) -> Result<(), Failure> {
     }
 }
 
-/// What is written of an item that was read, with its line ends.
+/// What is written of an item that was read, with its line ends, and its names if they are asked for.
 struct Read {
     text: String,
     warning: Option<String>,
+    named: Option<Named>,
 }
 
-impl Read {
-    /// A prefix has no warning: what follows it is the entity's.
-    fn of_prefix(text: String) -> Read {
-        Read { text, warning: None }
-    }
-
-    fn of_hatch(request: &HatchRequest, typed: &TypedHatch<u64>, text: String) -> Read {
-        Read { text, warning: warning(request, typed.hatch.places.main) }
-    }
-}
-
-fn json_text(item: &Item, reader: &mut Reader) -> Result<Read, Refusal> {
+fn written(wanted: &Wanted, item: &Item, zeros: &mut Zeros) -> Result<Read, Refusal> {
     match &item.entry {
         Entry::Hatch(request) => {
-            let typed = typed(request, reader)?;
-            Ok(Read::of_hatch(request, &typed, json_forms::hatch(item, &typed, reader.origin) + "\n"))
+            let typed = typed(request, wanted.origin, zeros)?;
+            let text = match wanted.json {
+                true => json_forms::hatch(item, &typed, wanted.origin) + "\n",
+                false => summary::hatch(item, request, &typed, wanted.origin),
+            };
+            Ok(Read { text, warning: warning(request, typed.hatch.places.main), named: wanted.names.then(|| Named::of(typed)) })
         }
-        Entry::Prefix(request) => prefix(request, reader.zeros).map(|(data, place)| Read::of_prefix(json_forms::prefix(item, &data, place) + "\n")),
-    }
-}
-
-fn summary_text(item: &Item, reader: &mut Reader) -> Result<Read, Refusal> {
-    match &item.entry {
-        Entry::Hatch(request) => {
-            let typed = typed(request, reader)?;
-            Ok(Read::of_hatch(request, &typed, summary::hatch(item, request, &typed, reader.origin)))
+        Entry::Prefix(request) => {
+            let (data, place) = prefix(request, zeros)?;
+            let text = match wanted.json {
+                true => json_forms::prefix(item, &data, place) + "\n",
+                false => summary::prefix(item, request, &data, place),
+            };
+            // A prefix has no warning: what follows it is the entity's. Nor has it a name.
+            Ok(Read { text, warning: None, named: None })
         }
-        Entry::Prefix(request) => prefix(request, reader.zeros).map(|(data, place)| Read::of_prefix(summary::prefix(item, request, &data, place))),
     }
 }
 
@@ -111,16 +121,16 @@ fn prefix(request: &PrefixRequest, zeros: &mut Zeros) -> Reading<CommonEntityBit
 }
 
 /// The body with each double as its 64 bits, moved if an origin is asked for.
-fn typed(request: &HatchRequest, reader: &mut Reader) -> Result<TypedHatch<u64>, Refusal> {
-    let body = request.body(reader.zeros);
-    if request.lent.is_none() && reader.origin.is_none() {
+fn typed(request: &HatchRequest, origin: Option<Point2D>, zeros: &mut Zeros) -> Result<TypedHatch<u64>, Refusal> {
+    let body = request.body(zeros);
+    if request.lent.is_none() && origin.is_none() {
         return body.read_bits();
     }
     let read = match request.lent {
         None => body.decode_bits()?,
         lent => lists(&body, lent, |numbers, words| body.decode_bits_into(numbers, words))?,
     };
-    match reader.origin {
+    match origin {
         Some(origin) => typed_bits(&body, read, origin),
         None => Ok(body.typed(read).expect(OUTSIDE)),
     }

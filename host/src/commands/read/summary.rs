@@ -116,16 +116,22 @@ fn named<'a>(number: u16, meanings: &'a [&str]) -> impl Display + 'a {
     })
 }
 
-/// A text and where it lies.
+/// A text, where it lies, and whether it is padded.
 fn text<'a>(text: &'a Text, name: &'a Name) -> impl Display + 'a {
     let payload = if text.source == Source::String { " of the string payload" } else { "" };
+    let padded = if text.padded { ", padded" } else { "" };
     written(move |f| {
-        match (name.as_str(), name) {
-            (Some(characters), _) => Debug::fmt(characters, f),
-            (None, Name::Bytes(bytes)) => write!(f, "bytes {bytes:02x?}"),
-            (None, Name::Characters(characters)) => Debug::fmt(characters, f),
-        }?;
-        write!(f, " ({} of {} bits at bit {}{payload})", counted(text.count, "unit"), text.width, text.position)
+        let (name, units) = (shown(name), counted(text.count, "unit"));
+        write!(f, "{name} ({units} of {} bits at bit {}{payload}{padded})", text.width, text.position)
+    })
+}
+
+/// A name's characters, or its units where it is not known which these are.
+pub fn shown(name: &Name) -> impl Display + '_ {
+    written(move |f| match (name.as_str(), name) {
+        (Some(characters), _) => Debug::fmt(characters, f),
+        (None, Name::Bytes(bytes)) => write!(f, "bytes {bytes:02x?}"),
+        (None, Name::Characters(characters)) => Debug::fmt(characters, f),
     })
 }
 
