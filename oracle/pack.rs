@@ -171,14 +171,17 @@ fn fields(names: &[&str], one: fn(&str, &str) -> Result<Vec<u64>, String>, words
 /// Where a text lies, each numbered by its place here.
 const SOURCES: [&str; 3] = ["-", "m", "s"];
 
-/// A text's numbers: source, width, position, count, and its units.
+/// A text's numbers: source, width, position, count, whether it is padded, and its units.
 fn text(answer: &str) -> Result<Vec<u64>, String> {
     let words: Vec<&str> = answer.split(':').collect();
-    let [source, width, position, count, units] = words[..] else {
+    let [source, width, position, count, units, padded] = words[..] else {
         return Err(format!("no text: {answer}"));
     };
     let source = SOURCES.iter().position(|known| *known == source).ok_or(format!("no source: {source}"))?;
-    let mut numbers = vec![source as u64, decimal(width)?, decimal(position)?, decimal(count)?];
+    if !["0", "1"].contains(&padded) {
+        return Err(format!("neither padded nor not: {answer}"));
+    }
+    let mut numbers = vec![source as u64, decimal(width)?, decimal(position)?, decimal(count)?, decimal(padded)?];
     let units = if units == "-" { "" } else { units };
     let digits = if numbers[1] == 16 { 4 } else { 2 };
     if !units.is_ascii() || units.len() as u64 != digits * numbers[3] {

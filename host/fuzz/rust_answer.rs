@@ -100,7 +100,7 @@ impl Asked {
     fn reader_text(&self) -> String {
         let (start, end) = (self.start as u64, self.string_end);
         let Some(mut again) = refusal::cursor_at(self.main(), start) else {
-            let empty = format!("ok {start} s:16:{start}:0:-");
+            let empty = format!("ok {start} s:16:{start}:0:-:0");
             return if self.start >= end { empty } else { Refusal::new(1, start, 0).line() };
         };
         let stream = StringStream { start_bit: self.start, end_bit: end };

@@ -154,7 +154,7 @@ fn reading(reading: &Reading, show: Show) -> String {
     fields.join(" ")
 }
 
-/// Absent (releases 1 and 2, or flag 0): all zero, and no name.
+/// Absent (releases 1 and 2, or flag 0): all zero, and no name, which is not padded either.
 fn gradient(hatch: &Hatch, texts: &HatchTexts, show: Show) -> String {
     let zero = GradientFill {
         angle: 0.0,
@@ -167,7 +167,7 @@ fn gradient(hatch: &Hatch, texts: &HatchTexts, show: Show) -> String {
     let fill = hatch.gradient.as_ref().unwrap_or(&zero);
     let name = match (&hatch.gradient, &texts.gradient) {
         (Some(_), Some(text)) => show::text(text),
-        _ => "-:0:0:0:-".to_string(),
+        _ => "-:0:0:0:-:0".to_string(),
     };
     let colours = show::list(&fill.colors, ";", |colour| {
         let double = show.double(colour.unknown_double);

@@ -17,7 +17,13 @@ struct Run {
     requests: usize,
     differ: usize,
     missing: usize,
+    /// Texts of the judge's answers that are padded, and those that are not.
+    padded: usize,
+    unpadded: usize,
 }
+
+/// Of fewer inline texts than these it may be that none is padded.
+const ENOUGH: usize = 2_000;
 
 fn read(path: &str) -> Result<Vec<String>, String> {
     let text = fs::read_to_string(path).map_err(|e| format!("oracle compare-lines: {path}: {e}"))?;
@@ -30,11 +36,22 @@ fn outcome(answer: &str) -> String {
     answer.split(' ').take(words).collect::<Vec<&str>>().join(" ")
 }
 
+/// The texts of an answer, each behind its field's name: a hatch's two names, and an inline text, which has no name. No other value has six parts.
+pub fn texts(answer: &str) -> Vec<(&str, &str)> {
+    let named = answer.split(' ').map(|word| word.split_once('=').unwrap_or(("", word)));
+    named.filter(|(_, value)| value.split(':').count() == 6).collect()
+}
+
 impl Run {
     fn add(&mut self, request: &str, ours: &str, theirs: Option<&String>) {
         let differ = theirs.is_none_or(|line| line != ours);
         let kind = request.split(' ').next().unwrap_or_default().to_string();
         let known = outcome(ours);
+        for (_, text) in texts(ours) {
+            let padded = text.ends_with(":1");
+            self.padded += usize::from(padded);
+            self.unpadded += usize::from(!padded);
+        }
         for tally in [self.kinds.entry(kind).or_default(), self.outcomes.entry(known).or_default()] {
             tally.requests += 1;
             tally.differ += usize::from(differ);
@@ -52,6 +69,10 @@ impl Run {
     fn print(&self, extra: usize) {
         table("kind", &self.kinds);
         table("the judge's answer", &self.outcomes);
+        println!("texts: {} padded, {} not", self.padded, self.unpadded);
+        if self.says_less() {
+            println!("of so many inline texts some must be padded and some not");
+        }
         if let Some(first) = &self.first {
             println!("the first difference: {first}");
         }
@@ -64,6 +85,12 @@ impl Run {
         let differ = self.differ + extra;
         println!("compare: {} requests, {differ} differences", self.requests);
     }
+
+    /// Whether the run shows less than it says: many inline texts, and no text is padded, or all are.
+    fn says_less(&self) -> bool {
+        let inline = self.kinds.get("tv").map_or(0, |tally| tally.requests);
+        inline >= ENOUGH && (self.padded == 0 || self.unpadded == 0)
+    }
 }
 
 fn table(head: &str, rows: &BTreeMap<String, Tally>) {
@@ -73,7 +100,7 @@ fn table(head: &str, rows: &BTreeMap<String, Tally>) {
     }
 }
 
-/// True if there is no difference and every request has one answer line.
+/// True if there is no difference, every request has one answer line, and of many texts some are padded and some not.
 pub fn run(requests: &str, ours: &str, theirs: &str) -> Result<bool, String> {
     let (requests, ours, theirs) = (read(requests)?, read(ours)?, read(theirs)?);
     if requests.len() != ours.len() {
@@ -85,5 +112,5 @@ pub fn run(requests: &str, ours: &str, theirs: &str) -> Result<bool, String> {
     }
     let extra = theirs.len().saturating_sub(requests.len());
     run.print(extra);
-    Ok(run.differ == 0 && extra == 0)
+    Ok(!run.says_less() && run.differ == 0 && extra == 0)
 }

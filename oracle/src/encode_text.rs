@@ -7,19 +7,17 @@ pub fn width(release: u64) -> usize {
     if release >= 4 { 16 } else { 8 }
 }
 
-/// A text of either width; now and then one that is no UTF-16.
+/// A text of either width; now and then one that is no UTF-16. What its units are and whether it is padded is settled before it is written.
 pub fn text(pen: &mut Pen, width: usize) -> LaidText {
     let mut units = if width == 8 { narrow(pen) } else { wide(pen) };
-    pen.size_bs(units.len() as u64);
+    let padded = padding(pen, &mut units);
+    pen.size_bs(units.len() as u64 + u64::from(padded));
     let place = pen.out.place();
-    for unit in &units {
+    for unit in units.iter().chain(padded.then_some(&0)) {
         pen.out.put_low_first(u64::from(*unit), width / 8);
     }
     pen.out.end_field();
-    if units.last() == Some(&0) {
-        units.pop();
-    }
-    LaidText { width, place, units }
+    LaidText { width, place, units, padded }
 }
 
 fn length(pen: &mut Pen) -> usize {
@@ -32,9 +30,12 @@ fn length(pen: &mut Pen) -> usize {
     }
 }
 
-fn closing_zeros(pen: &mut Pen, units: &mut Vec<u16>) {
-    let zeros = pen.rng.pick(&[0, 0, 0, 1, 1, 2, 3]);
-    units.extend(std::iter::repeat_n(0, zeros));
+/// Whether a zero is to stand behind the units; sometimes they get zeros of their own first. Units that end in a zero need one more behind them,
+/// or their own would be dropped.
+fn padding(pen: &mut Pen, units: &mut Vec<u16>) -> bool {
+    let (padded, own) = pen.rng.pick(&[(false, 0), (false, 0), (false, 0), (true, 0), (true, 0), (true, 1), (true, 2)]);
+    units.extend(std::iter::repeat_n(0, own));
+    padded || units.last() == Some(&0)
 }
 
 fn narrow(pen: &mut Pen) -> Vec<u16> {
@@ -45,7 +46,6 @@ fn narrow(pen: &mut Pen) -> Vec<u16> {
         let any = pen.rng.below(256) as u16;
         units.push(if high { any } else { letter });
     }
-    closing_zeros(pen, &mut units);
     units
 }
 
@@ -62,7 +62,6 @@ fn wide(pen: &mut Pen) -> Vec<u16> {
     if pen.seldom_bad(9) {
         break_pairs(pen, &mut units);
     }
-    closing_zeros(pen, &mut units);
     units
 }
 

@@ -3,6 +3,7 @@
 use crate::doubles;
 use crate::encode::Pen;
 use crate::encode_hatch::{self, Texts};
+use crate::gen_move_caps::PADDINGS;
 use crate::move_model::{self, Number, Word};
 use crate::move_request;
 use crate::rng::Rng;
@@ -132,7 +133,7 @@ pub fn any(rng: &mut Rng) -> String {
 
 /// One thing altered; some of them change nothing of the outcome.
 fn spoil(rng: &mut Rng, hatch: &mut Hatch) {
-    match rng.below(20) {
+    match rng.below(21) {
         0..=3 => word(rng, hatch),
         4 | 5 => record_count(rng, hatch),
         6 => lengths(rng, hatch),
@@ -150,6 +151,10 @@ fn spoil(rng: &mut Rng, hatch: &mut Hatch) {
         12 => hatch.set("solid", 1), // with pattern lines at times
         13 | 14 => extrusion(rng, hatch),
         15 => hatch.origin[rng.index(2)] = far(rng),
+        16 => {
+            let padding = rng.pick(&[":0", ":1"]); // whatever the units are: a move looks at no name
+            name(rng, hatch, padding);
+        }
         _ => coordinate(rng, hatch),
     }
 }
@@ -228,17 +233,30 @@ fn coordinate(rng: &mut Rng, hatch: &mut Hatch) {
     hatch.numbers[at] = if rng.one_in(5) { near(rng) } else { far(rng) };
 }
 
+/// A name of the record with another end behind its units.
+fn name(rng: &mut Rng, hatch: &mut Hatch, padding: &str) {
+    let text = hatch.field(rng.pick(&["gname", "name"]));
+    text.truncate(text.rfind(':').expect("a text has parts"));
+    text.push_str(padding);
+}
+
 /// What is no request, or just is one.
 fn bad(rng: &mut Rng) -> String {
-    let line = laid(rng).line(rng);
+    let mut hatch = laid(rng);
+    if rng.one_in(3) {
+        let padding = rng.pick(&PADDINGS);
+        name(rng, &mut hatch, padding);
+    }
+    let line = hatch.line(rng);
     let more = [
         "solid=1", "words=-", "gflag=1", "gflag=4294967296", "nothing=1", "L 1 1", "solid", "=", "grad=2", "style=65536", "solid=256", "solid=+1", "nums=0",
-        "name=m:8:0:0:-:0", "gn=18446744073709551616", "ext=0000000000000000",
+        "name=m:8:0:0:-", "name=m:8:0:0:-:1", "gn=18446744073709551616", "ext=0000000000000000",
     ];
-    match rng.below(4) {
+    match rng.below(5) {
         0 => format!("{line} {}", rng.pick(&more)),
         1 => line.replacen("move ", "move 0", 1),
         2 => line.replacen('=', "", 1),
+        3 => line,
         _ => format!("move {:016x} {:016x} {}", near(rng), near(rng), rng.pick(&more)),
     }
 }

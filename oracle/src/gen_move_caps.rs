@@ -1,5 +1,5 @@
-//! The first requests of a run of moves: every cap reached and passed by one, with all entries there, kinds that there are none of, and the bounds of
-//! coordinates and origins.
+//! The first requests of a run of moves: every cap reached and passed by one, with all entries there, kinds that there are none of, the bounds of
+//! coordinates and origins, and names by how they end.
 
 use crate::doubles::ONE;
 
@@ -19,7 +19,17 @@ pub fn all() -> Vec<String> {
         lines.push(format!("move {bits:016x} {:016x} ext={}", 0, extrusion_up()));
         lines.push(format!("move {:016x} {bits:016x} ext={}", 0, extrusion_up()));
     }
+    lines.extend(PADDINGS.into_iter().flat_map(padded));
     lines
+}
+
+/// What stands behind a name's units: `:0` and `:1`, and what no name ends in, since PADDED is 0 or 1 and the last of six parts.
+pub const PADDINGS: [&str; 12] = [":0", ":1", "", ":", ":2", ":00", ":01", ":10", ":256", ":+1", ":-", ":0:0"];
+
+/// Names that end so: an absent one, an empty one, one with a unit.
+fn padded(padding: &str) -> Vec<String> {
+    let texts = ["gname=-:0:0:0:-", "gname=s:16:9:1:0041", "name=m:8:9:0:-", "name=m:8:9:1:41"];
+    texts.map(|text| whole(&[format!("{text}{padding}")], &[], &[])).to_vec()
 }
 
 fn extrusion_up() -> String {

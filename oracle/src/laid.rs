@@ -2,11 +2,12 @@
 
 use std::collections::BTreeMap;
 
-/// A text: its first unit's place in the bits it was written to, and its units after one closing zero is dropped.
+/// A text: its first unit's place in the bits it was written to, its units, and whether the encoder wrote a zero behind them that is to be dropped.
 pub struct LaidText {
     pub width: usize,
     pub place: usize,
     pub units: Vec<u16>,
+    pub padded: bool,
 }
 
 #[derive(Default)]
@@ -44,15 +45,16 @@ impl Laid {
         self.fields.get(name).cloned().unwrap_or(absent.to_string())
     }
 
-    /// SOURCE:WIDTH:POSITION:COUNT:UNITS, the place counted from the layout's start bit.
+    /// SOURCE:WIDTH:POSITION:COUNT:UNITS:PADDED, the place counted from the layout's start bit.
     fn text(&self, name: &str, source: char, start: u64) -> String {
         let Some(text) = self.texts.get(name) else {
-            return "-:0:0:0:-".to_string();
+            return "-:0:0:0:-:0".to_string();
         };
         let digits = text.width / 4;
         let units: String = text.units.iter().map(|unit| format!("{unit:0digits$x}")).collect();
         let units = if units.is_empty() { "-" } else { &units };
-        format!("{source}:{}:{}:{}:{units}", text.width, start + text.place as u64, text.units.len())
+        let (place, count, padded) = (start + text.place as u64, text.units.len(), if text.padded { '1' } else { '0' });
+        format!("{source}:{}:{place}:{count}:{units}:{padded}", text.width)
     }
 
     /// A hatch answer after its places.

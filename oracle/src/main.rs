@@ -23,6 +23,7 @@ mod encode_path;
 mod encode_prefix;
 mod encode_text;
 mod examples;
+mod examples_text;
 mod gen_codes;
 mod gen_hatch;
 mod gen_long;

@@ -105,17 +105,19 @@ fn is_colour(text: &str) -> bool {
     double(value).is_some() && magnitude && fits(rgb, LONG) && fits(byte, BYTE)
 }
 
-/// SOURCE:WIDTH:POSITION:COUNT:UNITS; units are spelled by the width, 8 or 16 bits each, or there are none.
+/// SOURCE:WIDTH:POSITION:COUNT:UNITS:PADDED; units are spelled by the width, 8 or 16 bits each, or there are none; padded is 0 or 1 and no
+/// other spelling of these.
 fn is_text(text: &str) -> bool {
     let parts: Vec<&str> = text.split(':').collect();
-    let [source, width, position, count, units] = parts[..] else { return false };
+    let [source, width, position, count, units, padded] = parts[..] else { return false };
     let digits = match width {
         "8" | "08" | "008" => 2,
         "16" | "016" => 4,
         _ => 0,
     };
     let spelled = digits > 0 && !units.is_empty() && units.len() % digits == 0 && units.bytes().all(|b| b.is_ascii_hexdigit());
-    ["m", "s", "-"].contains(&source) && fits(width, BYTE) && fits(position, ANY) && fits(count, ANY) && (units == "-" || spelled)
+    let numbers = fits(width, BYTE) && fits(position, ANY) && fits(count, ANY);
+    ["m", "s", "-"].contains(&source) && numbers && (units == "-" || spelled) && ["0", "1"].contains(&padded)
 }
 
 fn number(text: &str) -> Option<u64> {

@@ -27,11 +27,12 @@ pub fn list<T>(items: &[T], separator: &str, one: impl Fn(&T) -> String) -> Stri
     items.iter().map(one).collect::<Vec<String>>().join(separator)
 }
 
-/// SOURCE:WIDTH:POSITION:COUNT:UNITS.
+/// SOURCE:WIDTH:POSITION:COUNT:UNITS:PADDED.
 pub fn text(text: &Text) -> String {
     let digits = text.width / 4;
-    let units = list(&text.units, "", |unit| format!("{unit:0digits$x}"));
-    format!("{}:{}:{}:{}:{}", text.source, text.width, text.position, text.units.len(), units)
+    let units = list(text.units(), "", |unit| format!("{unit:0digits$x}"));
+    let (count, padded) = (text.units().len(), u8::from(text.padded()));
+    format!("{}:{}:{}:{count}:{units}:{padded}", text.source, text.width, text.position)
 }
 
 /// `0:0` if absent, `1:VALUE` if present.

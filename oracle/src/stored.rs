@@ -4,6 +4,7 @@ use std::collections::{BTreeMap, BTreeSet};
 
 use crate::answer;
 use crate::answer_hatch;
+use crate::compare;
 use crate::examples;
 use crate::generate::{self, Group, Source};
 use crate::request::{self, Request};
@@ -72,7 +73,8 @@ fn selection(group: Group, seed: u64) -> Vec<String> {
             continue;
         }
         let mut classes = vec![(class(&request, &answer, group), wanted(group, &answer))];
-        classes.extend(features(&request).into_iter().map(|name| (name, 1)));
+        let shown = features(&request).into_iter().chain(paddings(&request, &answer));
+        classes.extend(shown.map(|name| (name, 1)));
         let new = classes.iter().any(|(class, wanted)| taken.get(class).is_none_or(|count| count < wanted));
         if new {
             for (class, _) in classes {
@@ -102,6 +104,13 @@ fn features(request: &str) -> Vec<String> {
         Ok(reading) => reading.features().iter().map(|name| format!("{name} {}", hatch.release)).collect(),
         Err(_) => Vec::new(),
     }
+}
+
+/// Which texts the answer has, padded or not, with the kind (inline, of a body, by a reader) and the release. An absent name is none.
+fn paddings(request: &str, answer: &str) -> Vec<String> {
+    let asked: Vec<&str> = request.split(' ').take(2).collect();
+    let texts = compare::texts(answer).into_iter().filter(|(_, text)| !text.starts_with('-'));
+    texts.map(|(name, text)| format!("{} {name} {}", asked.join(" "), if text.ends_with(":1") { "padded" } else { "not padded" })).collect()
 }
 
 fn wanted(group: Group, answer: &str) -> usize {

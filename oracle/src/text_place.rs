@@ -5,13 +5,29 @@ use crate::bitcursor::BitCursor;
 use crate::error::Result;
 use crate::version::Version;
 
-/// Document 01: (main or string payload, unit width, bit position of the first unit, units).
+/// Document 01: (main or string payload, unit width, bit position of the first unit, units), the units as they were laid out. Length 0, and
+/// a reader at or past its end bit, have none.
 #[derive(Debug)]
 pub struct Text {
     pub source: char,
     pub width: usize,
     pub position: usize,
-    pub units: Vec<u16>,
+    laid: Vec<u16>,
+}
+
+impl Text {
+    /// Document 02: whether a closing zero unit was dropped.
+    pub fn padded(&self) -> bool {
+        matches!(self.laid[..], [.., 0])
+    }
+
+    /// Document 01: one closing zero unit is dropped, not more.
+    pub fn units(&self) -> &[u16] {
+        match &self.laid[..] {
+            [kept @ .., 0] => kept,
+            all => all,
+        }
+    }
 }
 
 /// Inline text: 8-bit units before release 4, else 16-bit ones.
@@ -30,16 +46,13 @@ pub fn from_reader(c: &mut BitCursor<'_>, end: usize) -> Result<Text> {
 
 fn units(source: char, width: usize, length: u16, c: &mut BitCursor<'_>) -> Result<Text> {
     let position = c.position_bits();
-    let mut units = Vec::new();
+    let mut laid = Vec::new();
     for _ in 0..length {
         let low = u16::from(c.read_rc()?);
         let high = if width == 16 { u16::from(c.read_rc()?) } else { 0 };
-        units.push(high << 8 | low);
+        laid.push(high << 8 | low);
     }
-    if units.last() == Some(&0) {
-        units.pop(); // one closing zero unit is dropped, not more
-    }
-    Ok(Text { source, width, position, units })
+    Ok(Text { source, width, position, laid })
 }
 
 /// Both texts of a hatch that was read, and the string cursor's final place.
@@ -91,12 +104,16 @@ fn skip_gradient_fields(c: &mut BitCursor<'_>) -> Result<()> {
     Ok(())
 }
 
-/// The oracle's check of itself: the units of the second walk are the Rust's characters. By document 01, 8-bit text
-/// is compared where all bytes are below 80 (hexadecimal), since above that the Rust's characters hang on a code page.
+/// The oracle's check of itself. The Rust's characters have one zero fewer than was laid out where the text is padded, and as many where it is
+/// not; a zero is a character of its own beside any byte. And the units of the second walk are the Rust's characters; by document 01, 8-bit text
+/// is compared so where all bytes are below 80 (hexadecimal), since above that the Rust's characters hang on a code page.
 pub fn check(text: &Text, rust: &str) {
-    if text.width == 8 && text.units.iter().any(|unit| *unit >= 0x80) {
+    let laid = text.laid.iter().filter(|unit| **unit == 0).count();
+    let kept = rust.chars().filter(|character| *character == '\0').count();
+    assert_eq!(laid, kept + usize::from(text.padded()), "zeros of {text:?} where the Rust read {rust:?}");
+    if text.width == 8 && text.laid.iter().any(|unit| *unit >= 0x80) {
         return;
     }
-    let same = rust.encode_utf16().eq(text.units.iter().copied());
+    let same = rust.encode_utf16().eq(text.units().iter().copied());
     assert!(same, "the second walk found {text:?} where the Rust read {rust:?}");
 }
