@@ -276,10 +276,10 @@ fn as_f64(name: &str, request: &Request, mut outcome: Vec<u64>) -> Option<Vec<u6
     Some(outcome)
 }
 
-/// The text of a hatch body by a reader: a request on the strings, with their end bit, and its refusal and position; none where the body's
-/// answer does not have both. A body of one text has them where it was read, where text passed the end bit, where the units were not
+/// The text of a hatch body by a reader: a request on the strings, with their end bit, and the text or its refusal, and the position; none where the
+/// body's answer does not have both. A body of one text has them where it was read, where text passed the end bit, where the units were not
 /// UTF-16, and where the string start lies past the strings.
-fn reader(request: &Request, outcome: &[u64]) -> Option<(Request, Vec<u64>)> {
+fn reader(request: &Request, outcome: &[u64], answer: &str) -> Option<(Request, Vec<u64>)> {
     let start = request.further[FIRST];
     let is_past = start > 8 * request.strings.len() as u64;
     if !(1..=ONE_TEXT).contains(&request.release) || !(is_past || [0, 6, 7].contains(&outcome[0])) {
@@ -288,7 +288,10 @@ fn reader(request: &Request, outcome: &[u64]) -> Option<(Request, Vec<u64>)> {
     let mut further = [0; 4];
     further[FIRST] = request.further[STRING_END];
     let asked = Request { release: request.release, start, further, main: request.strings.clone(), ..Request::default() };
-    Some((asked, vec![outcome[0], outcome[2], 0, 0]))
+    match answer.split(' ').find_map(|word| word.strip_prefix("name=")) {
+        Some(name) => Some((asked, reading(outcome[2], 0, text(name).ok()?))),
+        None => Some((asked, vec![outcome[0], outcome[2], 0, 0])),
+    }
 }
 
 fn record(line: u64, kind: u64, request: &Request, outcome: &[u64]) -> Result<Vec<u8>, String> {
@@ -325,7 +328,7 @@ fn pack(line: u64, text: &str, hatches: bool, out: &mut Vec<u8>) -> Result<(), S
             continue;
         }
         if kind == READER {
-            if let Some((asked, expected)) = reader(&request, &outcome) {
+            if let Some((asked, expected)) = reader(&request, &outcome, answer) {
                 out.extend(record(line, kind, &asked, &expected)?);
             }
             continue;

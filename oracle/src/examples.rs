@@ -108,7 +108,7 @@ const CASES: &[(&str, &str)] = &[
     ("move 0000000000000000 0000000000000000 name=m:8:10:0:-", "bad request"),
     ("move 0000000000000000 0000000000000000 name=m:8:10:0:-:", "bad request"),
     ("move 0000000000000000 0000000000000000 name=m:8:10:0:-:2", "bad request"),
-    ("move 0000000000000000 0000000000000000 gname=-:0:0:0:-:01", "bad request"),
+    ("move 0000000000000000 0000000000000000 gname=-:0:0:0:-:01", "err 12 0 0"),
     ("move 0000000000000000 0000000000000000 gname=-:0:0:0:-:0:0", "bad request"),
     // Prefix releases and single code releases.
     ("prefix 0 3 -", "err 9 3 0"),

@@ -23,7 +23,7 @@ pub fn all() -> Vec<String> {
     lines
 }
 
-/// What stands behind a name's units: `:0` and `:1`, and what no name ends in, since PADDED is 0 or 1 and the last of six parts.
+/// What stands behind a name's units: 0 and 1 in two spellings each, and what no name ends in, since PADDED is 0 or 1 and the last of six parts.
 pub const PADDINGS: [&str; 12] = [":0", ":1", "", ":", ":2", ":00", ":01", ":10", ":256", ":+1", ":-", ":0:0"];
 
 /// Names that end so: an absent one, an empty one, one with a unit.

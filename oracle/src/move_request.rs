@@ -105,8 +105,8 @@ fn is_colour(text: &str) -> bool {
     double(value).is_some() && magnitude && fits(rgb, LONG) && fits(byte, BYTE)
 }
 
-/// SOURCE:WIDTH:POSITION:COUNT:UNITS:PADDED; units are spelled by the width, 8 or 16 bits each, or there are none; padded is 0 or 1 and no
-/// other spelling of these.
+/// SOURCE:WIDTH:POSITION:COUNT:UNITS:PADDED; units are spelled by the width, 8 or 16 bits each, or there are none; padded is 0 or 1, as
+/// `grad` is.
 fn is_text(text: &str) -> bool {
     let parts: Vec<&str> = text.split(':').collect();
     let [source, width, position, count, units, padded] = parts[..] else { return false };
@@ -116,8 +116,8 @@ fn is_text(text: &str) -> bool {
         _ => 0,
     };
     let spelled = digits > 0 && !units.is_empty() && units.len() % digits == 0 && units.bytes().all(|b| b.is_ascii_hexdigit());
-    let numbers = fits(width, BYTE) && fits(position, ANY) && fits(count, ANY);
-    ["m", "s", "-"].contains(&source) && numbers && (units == "-" || spelled) && ["0", "1"].contains(&padded)
+    let numbers = fits(width, BYTE) && fits(position, ANY) && fits(count, ANY) && fits(padded, Form::UpTo(1));
+    ["m", "s", "-"].contains(&source) && numbers && (units == "-" || spelled)
 }
 
 fn number(text: &str) -> Option<u64> {
