@@ -38,6 +38,11 @@ ends-last (u ∷ []) (suc m) h = absurd (omega arith)
 ends-last (u ∷ (v ∷ us)) zero h = absurd (omega arith)
 ends-last (u ∷ (v ∷ us)) (suc m) h = ends-last (v ∷ us) m (omega arith)
 
+pub none-padded : (xs : List ℕ) (p k n : ℕ) → n ≤ 0 → false ≡ endsInZero (unitsAt xs p k n)
+unfolding unitsAt
+none-padded xs p k zero h = refl
+none-padded xs p k (suc n) h = absurd (omega arith)
+
 pub padded-units : (xs : List ℕ) (p k n : ℕ) → 0 < n → eqb (lowNumber (bytesAt xs (p + 8 * (k * (n - 1))) k)) 0 ≡ endsInZero (unitsAt xs p k n)
 padded-units xs p k n some =
     let long : length (unitsAt xs p k n) ≡ suc (n - 1) = length-units xs p k n ∙ omega arith in

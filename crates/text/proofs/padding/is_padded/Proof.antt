@@ -4,15 +4,15 @@ use Prim.Native.Nat.{ℕ}
 use native.Mathlib.Omega.{arith}
 use lib.Dec.{eqb}
 use denote.Ref.{now}
-use Rattle.text.specs.Units.{unitsAt}
-use Rattle.text.proofs.UnitLaws.{unit-within, padded-units}
+use Rattle.text.proofs.UnitLaws.{unit-within, none-padded, padded-units}
 use borrow.Author.Needs.{needs}
 use Rattle.text.proofs.padding.is_padded.Statement.{statement}
 use Rattle.text.proofs.padding.is_padded.Tie as tie
 
 returns : tie.Need-returns
-unfolding unitsAt
-returns c = rw (c .if1 .taken)
+returns c =
+    let a = c .before .before .args in
+    none-padded (now (a .s)) (a .at) (a .k) (a .n) (omega arith)
 
 sub-unit-at : tie.Need-sub-unit-at
 sub-unit-at c = search needs
