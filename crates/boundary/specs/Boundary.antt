@@ -1,10 +1,9 @@
 -- What crosses the C boundary: a reading is refusal 0, its final place and its value; a refusal is its number, its place and 0 for
 -- all else. Assumes nothing.
-use mathlib.Core.Bool.{Bool, true, false}
+use mathlib.Core.Bool.{Bool, false}
 use Prim.Native.Nat.{ℕ}
-use lib.Ieee.{Float, ofBits, binary64}
+use lib.Ieee.{ofBits, binary64}
 use lib.IntN.{ℤ, pos}
-use Rattle.bitcursor.specs.declared.Refusal.{Refusal}
 use Rattle.bitcursor.specs.declared.Handle.{Handle}
 use Rattle.bitcursor.specs.declared.Read.{Read}
 use Rattle.bitcursor.specs.declared.Read.the-variants.{Value, Refused}
@@ -26,7 +25,6 @@ use Rattle.text.specs.declared.ReadText.the-variants.{Found as FoundText, Refus
 use Rattle.loads.specs.Bits.{bit}
 use Rattle.bitcursor.specs.Reading.{Out, got, refused}
 use Rattle.bitcursor.specs.Refusals.{refusalNumber}
-use Rattle.bitcursor.specs.Answers.{asRead, asBool, asI16, asI32, asF64, asHandle}
 use Rattle.boundary.specs.declared.CodeAnswer.{CodeAnswer}
 use Rattle.boundary.specs.declared.SignedAnswer.{SignedAnswer}
 use Rattle.boundary.specs.declared.DoubleAnswer.{DoubleAnswer}

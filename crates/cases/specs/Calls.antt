@@ -1,5 +1,4 @@
 -- Calls as cases show them: a text, and a hatch from bit 0. Assumes nothing.
-use mathlib.Core.Bool.{Bool}
 use mathlib.Core.List.{List, [], _∷_}
 use Prim.Native.Nat.{ℕ}
 use lib.IntN.{ℤ, pos}

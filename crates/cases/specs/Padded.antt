@@ -1,6 +1,6 @@
 -- Document 02's cases of padded names: what each text says of a closing zero, with its unit width, its position and its unit count.
 -- Assumes nothing.
-use mathlib.Core.Bool.{Bool, true, false}
+use mathlib.Core.Bool.{true, false}
 use mathlib.Core.List.{List, [], _∷_, _++_}
 use Prim.Native.Nat.{ℕ, _+_, _*_}
 use lib.Dec.{leb}

@@ -1,5 +1,4 @@
 -- Document 01's cases marked †, document 02's, and the proof that each holds. Assumes nothing.
-use mathlib.Core.Bool.{Bool}
 use mathlib.Core.List.{List, [], _∷_}
 use Prim.Native.Nat.{ℕ}
 use lib.IntN.{ℤ, pos, negsuc}
@@ -7,7 +6,7 @@ use lib.ListN.{length, replicate}
 use Rattle.loads.specs.Bits.{bitsOf, digits, number, window}
 use Rattle.bitcursor.specs.Code.{give, refuse, raw, _>>=_, tabled, mapped, measured}
 use Rattle.bitcursor.specs.Bytes.{bytes, bytes-read, lowFirst, highFirst, skip}
-use Rattle.loads.specs.Bytes.{bytesAt, lowNumber}
+use Rattle.loads.specs.Bytes.{lowNumber}
 use Rattle.bitcursor.specs.Codes.{byTag, tagged, B, B-read, BB, RC, RD, RL, BS, BS-read, signed-BS, BL, BL-read}
 use Rattle.bitcursor.specs.Doubles.{BD, BD-read, one-pattern}
 use Rattle.bitcursor.specs.Handles.{BLL, BLL-read, HANDLE, HANDLE-read, HANDLE-value, checked}
@@ -94,7 +93,8 @@ unfolding cases padded-cases allSame
     signed-BS BS BS-read BD BD-read BLL BLL-read B B-read BB RC RD RL BL BL-read HANDLE HANDLE-read HANDLE-value tagged byTag checked
     raw _>>=_ tabled mapped measured give refuse held lowFirst highFirst bytes bytes-read lowNumber skip window bitsOf digits number limited
     pure refuse-format bind-format peek relay either partIn at-least
-    readerText inlineText units units-read checked-units released TV TV-read TV-field TV-field-read has-reader reader-text from-reader past-end room-for here inline
+    readerText inlineText units units-read checked-units released TV TV-read TV-field TV-field-read has-reader reader-text from-reader past-end room-for
+    here inline
     prefixCall prefix prefixBy extended chain graphics graphicsBlock name
     callOn hatch hatch-read plane plane-read gradient gradient-read block block-read color color-read rest rest-read tail tail-read ending ending-read
     pattern pattern-read pattern-line pattern-line-read paths path path-read segments segments-read handle-count handle-count-read edge edge-read

@@ -15,4 +15,5 @@ pub mod Entries
 pub mod Record
 pub mod Call
 pub mod Begins
+pub mod Names
 pub mod Demand3

@@ -1,16 +1,15 @@
 -- What the text readers know of a length code, and what they make of units that are there, or cut short. Assumes nothing.
-use mathlib.Core.Path.{_≡_, refl, sym, ap, ap₂, subst, _∙_}
+use mathlib.Core.Path.{_≡_, sym, ap, ap₂, _∙_}
 use mathlib.Core.Bool.{Bool, true, false}
 use mathlib.Core.List.{List}
 use Prim.Native.Nat.{ℕ, _+_, _-_, _*_, _/_, _^_, _≤_, _<_}
-use native.Mathlib.Omega.{arith}
 use lib.ListN.{length}
 use Rattle.bitcursor.specs.declared.Refusal.{Refusal}
 use Rattle.bitcursor.specs.declared.Refusal.the-variants.{TooFewBits, NotUtf16}
 use Rattle.loads.specs.Bits.{bit, size}
 use Rattle.bitcursor.specs.declared.Read.{Read}
 use Rattle.bitcursor.specs.declared.Read.the-variants.{Value}
-use Rattle.bitcursor.specs.Reading.{Out, got, refused}
+use Rattle.bitcursor.specs.Reading.{Out, got}
 use Rattle.bitcursor.specs.Codes.{BS}
 use Rattle.bitcursor.specs.Ranges.{read-below, BS-below}
 use Rattle.bitcursor.specs.Stops.{ends-inside, BS-past}

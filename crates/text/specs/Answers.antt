@@ -21,9 +21,8 @@ use Rattle.text.specs.declared.ReadField.the-variants.{Found as FoundFie
 use Rattle.text.specs.declared.version.MaybeVersion.{MaybeVersion}
 use Rattle.text.specs.declared.version.MaybeVersion.the-variants.{Known, Unknown}
 use Rattle.text.specs.declared.version.Version.{Version}
-use Rattle.text.specs.Releases.{versionOf}
 use Rattle.text.specs.Units.{units}
-use Rattle.text.specs.Texts.{UnitWidth, wide, unitBytes, unclosed, valid, Written, checked-units, TV}
+use Rattle.text.specs.Texts.{UnitWidth, wide, unclosed, valid, Written, checked-units, TV}
 use Rattle.text.specs.Fields.{textAt, textOf, laidText, widthOf}
 
 abbrev pub asText : Out ℕ Text → ReadText

@@ -1,5 +1,5 @@
 -- A text as a field reads what the one-payload definitions read, with the other payload's place unmoved. Assumes nothing.
-use mathlib.Core.Path.{_≡_, refl, sym, ap, _∙_}
+use mathlib.Core.Path.{_≡_, refl}
 use mathlib.Core.Bool.{Bool, true, false, _||_}
 use mathlib.Core.List.{List, []}
 use Prim.Native.Nat.{ℕ, _+_, _*_}
@@ -15,7 +15,7 @@ use Rattle.text.specs.declared.Source.the-variants.{Main, String}
 use Rattle.text.specs.declared.Text.{Text}
 use Rattle.text.specs.declared.version.Version.{Version}
 use Rattle.text.specs.Units.{units}
-use Rattle.text.specs.Texts.{UnitWidth, wide, Written, checked-units, TV}
+use Rattle.text.specs.Texts.{wide, Written, checked-units, TV}
 use Rattle.text.specs.Fields.{textOf, textAt, widthOf, here, inline, past-end, room-for, from-reader}
 use Rattle.text.specs.Answers.{placed, inlineText, readerText}
 

@@ -1,19 +1,17 @@
 -- Texts as fields of a format: inline in the main payload, or from the lent string reader by the reader's rule. Assumes nothing.
-use mathlib.Core.Path.{_≡_, refl, sym, ap, ap₂, _∙_}
 use mathlib.Core.Bool.{Bool, true, false, _||_}
 use mathlib.Core.List.{List, []}
 use Prim.Native.Nat.{ℕ, _+_, _*_}
 use lib.Dec.{leb, eqb}
 use lib.ListN.{length}
-use Rattle.bitcursor.specs.declared.Refusal.the-variants.{TextPastEnd, NotUtf16}
-use Rattle.bitcursor.specs.Reading.{Out, got, refused, andThen}
-use Rattle.bitcursor.specs.Code.{Code, measured}
+use Rattle.bitcursor.specs.declared.Refusal.the-variants.{TextPastEnd}
+use Rattle.bitcursor.specs.Code.{measured}
 use Rattle.bitcursor.specs.Codes.{BS}
-use Rattle.bitcursor.specs.Inputs.{both, Places, Payloads, Agree}
+use Rattle.bitcursor.specs.Inputs.{both}
 use Rattle.bitcursor.specs.Format.{Format, pure, refuse, _>>=_, peek, either}
-use Rattle.bitcursor.specs.Fields.{Payload, main, string, placeIn, bytesIn, field, lifted, movedIn}
+use Rattle.bitcursor.specs.Fields.{Payload, main, string, placeIn, field}
 use Rattle.text.specs.declared.Source.{Source}
-use Rattle.text.specs.declared.Source.the-variants.{Absent, Main, String}
+use Rattle.text.specs.declared.Source.the-variants.{Main, String}
 use Rattle.text.specs.declared.Text.{Text}
 use Rattle.text.specs.declared.version.Version.{Version}
 use Rattle.text.specs.Releases.{releaseNumber}

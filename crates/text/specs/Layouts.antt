@@ -1,28 +1,26 @@
 -- The layouts of a reader's text, said directly: empty at or past the end bit; else an inline text of 16-bit units that ends by
 -- the end bit, or is a length code of 0 alone. Assumes nothing.
-use mathlib.Core.Path.{_≡_, refl, sym, ap, ap₂, subst, _∙_}
-use mathlib.Core.Bool.{Bool, true, false, _||_}
+use mathlib.Core.Path.{_≡_, refl, sym, ap, ap₂, _∙_}
+use mathlib.Core.Bool.{Bool, true, false}
 use mathlib.Core.List.{List, []}
 use mathlib.Core.Logic.{⊎-elim, _⊎_, inl, inr}
 use Prim.Native.Nat.{ℕ, _+_, _-_, _*_, _≤_, _<_}
 use native.Mathlib.Omega.{arith}
 use lib.ListN.{length}
-use Rattle.bitcursor.specs.declared.Refusal.the-variants.{TextPastEnd, NotUtf16}
-use Rattle.loads.specs.Bits.{size}
-use Rattle.bitcursor.specs.Reading.{Out, got, refused, place, andThen, never}
-use Rattle.bitcursor.specs.Code.{Code, Moves, give, refuse, _>>=_, tabled, measured, measured-out}
+use Rattle.bitcursor.specs.declared.Refusal.the-variants.{NotUtf16}
+use Rattle.bitcursor.specs.Reading.{Out, got, refused, never}
 use Rattle.bitcursor.specs.Codes.{BS}
 use Rattle.bitcursor.specs.Handles.{checked}
 use Rattle.bitcursor.specs.Bytes.{le-or-lt}
 use Rattle.bitcursor.specs.Inputs.{both, Places, Payloads}
 use Rattle.bitcursor.specs.Format.{Format, relay}
-use Rattle.bitcursor.specs.Fields.{string, Field, field, lifted, movedIn}
+use Rattle.bitcursor.specs.Fields.{string, Field, lifted, movedIn}
 use Rattle.text.specs.declared.Source.the-variants.{String}
 use Rattle.text.specs.declared.Text.{Text}
-use Rattle.text.specs.Units.{units, units-there, units-short}
-use Rattle.text.specs.Texts.{wide, unclosed, valid, Written, writtenOf, checked-units, TV, TV-read}
+use Rattle.text.specs.Units.{units}
+use Rattle.text.specs.Texts.{wide, unclosed, valid, Written, writtenOf, TV}
 use Rattle.text.specs.Fields.{textAt, textOf, laidText, from-reader}
-use Rattle.text.specs.Answers.{placed, unitsText, readerText}
+use Rattle.text.specs.Answers.{unitsText, readerText}
 use Rattle.text.specs.Steps.{reader-over, reader-refused, reader-past, reader-empty, reader-units}
 use Rattle.text.specs.Parts.{Parts, parts, code-on, units-end, join}
 use Rattle.text.specs.FieldReads.{reader-reads}
@@ -34,7 +32,8 @@ pub data ReaderText (γ : Payloads) (t : Text) (p q : Places) : Type 0 where
 
 -- ---- what the reader's rule makes of the parts
 module _ (xs : List ℕ) (p : ℕ) where
-  ruled : (end : ℕ) {u : Written} {s : ℕ} → Parts wide xs p u s → p < end → (s ≤ end) ⊎ (s ≡ p + u .code-bits) → readerText end xs p ≡ got (textOf String wide p u) s
+  ruled : (end : ℕ) {u : Written} {s : ℕ} → Parts wide xs p u s → p < end → (s ≤ end) ⊎ (s ≡ p + u .code-bits)
+      → readerText end xs p ≡ got (textOf String wide p u) s
   ruled end {u} {s} t h f =
       let on = code-on xs p (t .length-code) in
       let e = units-end wide xs (t .n) (t .r) (t .units-read) in
@@ -75,7 +74,9 @@ module _ (γ : Payloads) (t : Text) (p q : Places) where
           let ends = units-end wide (γ .string) n r g in
           let after : p .string + (r - p .string) ≡ r = omega arith in
           let es : q .string ≡ s = ap (λ (w : Places). w .string) eq in
-          let read = join wide (γ .string) (p .string) (record { n = n; r = r; units-laid = l; length-code = f; units-read = g; valid-units = k; whole = refl }) in
+          let whole : Parts wide (γ .string) (p .string) u s =
+          record { n = n; r = r; units-laid = l; length-code = f; units-read = g; valid-units = k; whole = refl } in
+          let read = join wide (γ .string) (p .string) whole in
           laid u h (record { end = s; laid = (TV wide) .sound (γ .string) u (p .string) s read; moved = eq })
           (⊎-elim (λ (z : n ≡ 0). inr (omega arith)) (λ (z : r + 16 * n ≤ γ .end). inl (omega arith)) room)
           (et ∙ ap (λ (k : ℕ). laidText String wide k l) (sym after))

@@ -1,6 +1,6 @@
 -- What every text that is laid out says of its units: those at its position and its padding together are what was laid out there, up to
 -- the place behind it; and where it is not padded they do not end in a zero. Assumes nothing.
-use mathlib.Core.Path.{_≡_, refl, sym, ap, subst, subst⁻¹, subst₂, _∙_}
+use mathlib.Core.Path.{_≡_, refl, sym, ap, subst, subst₂, _∙_}
 use mathlib.Core.Bool.{Bool, true, false}
 use mathlib.Core.List.{List, []}
 use Prim.Native.Nat.{ℕ, _+_, _-_, _*_, _/_}
@@ -8,7 +8,7 @@ use native.Mathlib.Omega.{arith}
 use lib.ListN.{length}
 use Rattle.bitcursor.specs.Reading.{Out, got, refused, never}
 use Rattle.bitcursor.specs.Inputs.{Places, Payloads}
-use Rattle.bitcursor.specs.Fields.{Payload, main, string, bytesIn, placeIn, Field, lifted, movedIn}
+use Rattle.bitcursor.specs.Fields.{Payload, main, string, bytesIn, placeIn, lifted, movedIn}
 use Rattle.text.specs.declared.Source.{Source}
 use Rattle.text.specs.declared.Source.the-variants.{Main, String}
 use Rattle.text.specs.declared.Text.{Text}

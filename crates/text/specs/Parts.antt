@@ -8,7 +8,7 @@ use native.Mathlib.Omega.{arith}
 use Rattle.bitcursor.specs.declared.Refusal.the-variants.{NotUtf16}
 use Rattle.loads.specs.Bits.{size}
 use Rattle.bitcursor.specs.Reading.{Out, got, refused, place, andThen, never}
-use Rattle.bitcursor.specs.Code.{Code, Moves, give, refuse, _>>=_, tabled, measured, measured-out}
+use Rattle.bitcursor.specs.Code.{Moves, give, refuse, _>>=_, tabled, measured, measured-out}
 use Rattle.bitcursor.specs.Codes.{BS}
 use Rattle.bitcursor.specs.Handles.{checked}
 use Rattle.bitcursor.specs.Bytes.{le-or-lt}

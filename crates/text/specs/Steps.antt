@@ -1,5 +1,5 @@
 -- A text read step by step: what follows its length code, inline and by the reader's rule. Assumes nothing.
-use mathlib.Core.Path.{_≡_, refl, sym, ap, ap₂, _∙_}
+use mathlib.Core.Path.{_≡_, refl, ap, _∙_}
 use mathlib.Core.Bool.{Bool, true, false, _||_}
 use mathlib.Core.List.{List, []}
 use Prim.Native.Nat.{ℕ, _+_, _-_, _*_, _≤_, _<_}
@@ -10,7 +10,7 @@ use borrow.Author.Tests.{le-leb, lt-leb, eq-eqb, ne-eqb}
 use Rattle.bitcursor.specs.declared.Refusal.{Refusal}
 use Rattle.bitcursor.specs.declared.Refusal.the-variants.{TextPastEnd, NotUtf16}
 use Rattle.bitcursor.specs.Reading.{Out, got, refused, andThen}
-use Rattle.bitcursor.specs.Code.{Code, give, refuse, _>>=_, tabled, measured}
+use Rattle.bitcursor.specs.Code.{give, refuse, _>>=_, tabled, measured}
 use Rattle.bitcursor.specs.Codes.{BS}
 use Rattle.bitcursor.specs.Handles.{checked}
 use Rattle.text.specs.declared.Source.{Source}

@@ -1,18 +1,16 @@
 -- Inline text: a length code, that many units, one closing zero dropped and said, and 16-bit units valid UTF-16. Assumes nothing.
-use mathlib.Core.Path.{_≡_, refl, sym, ap, ap₂, subst, subst⁻¹, subst₂, _∙_}
+use mathlib.Core.Path.{_≡_, refl, sym, ap, ap₂, subst⁻¹, subst₂, _∙_}
 use mathlib.Core.Bool.{Bool, true, false}
 use mathlib.Core.List.{List, [], _∷_, _++_, append-nil}
-use Prim.Native.Nat.{ℕ, zero, suc, _+_, _*_, _^_, _≤_, _<_}
-use native.Mathlib.Omega.{arith}
+use Prim.Native.Nat.{ℕ, zero, _+_, _^_}
 use lib.Dec.{eqb}
 use lib.ListN.{length}
 use borrow.Author.Tests.{eqb-true}
 use Rattle.bitcursor.specs.declared.Refusal.the-variants.{NotUtf16}
-use Rattle.loads.specs.Bits.{bitsOf}
-use Rattle.bitcursor.specs.Code.{Code, give, refuse, _>>=_, tabled, measured, Measured}
+use Rattle.bitcursor.specs.Code.{Code, give, refuse, _>>=_, tabled, measured}
 use Rattle.bitcursor.specs.Codes.{BS, BS-codes}
 use Rattle.bitcursor.specs.Handles.{checked}
-use Rattle.text.specs.Units.{AllBelow, unitBits, Units, units}
+use Rattle.text.specs.Units.{AllBelow, unitBits, units}
 use Rattle.text.specs.Utf16.{Utf16, pairedFrom, utf16-test}
 
 -- units of one byte, or of two

@@ -1,5 +1,4 @@
 -- The two bounds are the definition's.
-use mathlib.Core.Path.{_≡_, refl, sym, ap, ap₂, _∙_}
 use borrow.Author.Tests.{le-leb, lt-leb}
 use Rattle.text.proofs.utf16.is_high.Statement.{statement}
 use Rattle.text.proofs.utf16.is_high.Tie as tie

@@ -1,14 +1,12 @@
 -- What is left to judge is what the whole judges: a unit of DC00 to DFFF stands just where one of D800 to DBFF stood before it.
-use mathlib.Core.Path.{_≡_, refl, sym, ap, ap₂, _∙_}
-use mathlib.Core.Bool.{Bool, true, false, not, _&&_, Bool·beq}
+use mathlib.Core.Path.{_≡_, sym, ap, _∙_}
+use mathlib.Core.Bool.{false}
 use Prim.Native.Nat.{ℕ, _+_, _-_, _*_, _≤_}
-use native.Mathlib.Nat.{sub-self}
 use native.Mathlib.Omega.{arith}
 use borrow.Author.Needs.{needs}
-use borrow.Author.Tests.{not-true, not-false}
 use denote.Ref.{now}
 use Rattle.text.specs.Units.{unitsAt}
-use Rattle.text.specs.Utf16.{high, low, pairedFrom}
+use Rattle.text.specs.Utf16.{pairedFrom}
 use Rattle.text.proofs.UnitLaws.{pass-stop, pass-on}
 use Rattle.text.proofs.utf16.is_utf16.Statement.{statement}
 use Rattle.text.proofs.utf16.is_utf16.Tie as tie

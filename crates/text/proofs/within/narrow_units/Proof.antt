@@ -32,7 +32,8 @@ cast-count c = search needs
 sub-count : tie.Need-sub-count
 sub-count c =
     let after-p = c .before .before in
-    let entry = after-p .before .before .before .before in
+    let after-skip-bytes = after-p .before .before in
+    let entry = after-skip-bytes .before .before in
     let a = entry .args in
     some-padded (now (a .s)) (a .at) 1 (a .n) (c .is-padded .ensures)
 

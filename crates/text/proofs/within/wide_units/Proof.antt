@@ -36,7 +36,8 @@ cast-count c = search needs
 sub-count : tie.Need-sub-count
 sub-count c =
     let after-p = c .before .before in
-    let entry = after-p .before .before .before .before in
+    let after-skip-bytes = after-p .before .before in
+    let entry = after-skip-bytes .before .before in
     let a = entry .args in
     some-padded (now (a .s)) (a .at) 2 (a .n) (c .is-padded .ensures)
 
@@ -75,7 +76,8 @@ returns-2 c =
     let t = passed-there (now (a .s)) (2 * a .n) (a .at) (after-skip-bytes .skip-bytes .ensures) (after-p .p .given .1) in
     let padded = after-is-padded .is-padded .ensures in
     let valid = all-valid (now (a .s)) (a .at) (a .n) padded (after-is-utf16 .is-utf16 .ensures) in
-    units-found (a .source) wide (now (a .s)) (a .at) (a .n) (after-p .p .given .0 .0) (omega arith) (omega arith) padded (sym valid ∙ not-false _ (c .if1 .left))
+    units-found (a .source) wide (now (a .s)) (a .at) (a .n) (after-p .p .given .0 .0) (omega arith) (omega arith) padded
+    (sym valid ∙ not-false _ (c .if1 .left))
 
 returns-3 : tie.Need-returns-3
 returns-3 c =
