@@ -21,13 +21,14 @@ pub enum Source {
 }
 
 // Document 01's text: the payload, the bits of a unit, the bit position of the first unit, and how many units there are once a
-// closing zero is dropped; and document 02's: whether one was dropped. Characters are left to the host.
+// closing zero is dropped; and document 02's: whether one was dropped. That stands beside the width, where it takes no room. Characters
+// are left to the host.
 pub struct Text {
     pub source: Source,
     pub width: u8,
+    pub padded: bool,
     pub position: usize,
     pub count: usize,
-    pub padded: bool,
 }
 
 // A text and the place after it, or a refusal and its place.
