@@ -69,7 +69,9 @@ impl Run {
     fn print(&self, extra: usize) {
         table("kind", &self.kinds);
         table("the judge's answer", &self.outcomes);
-        println!("texts: {} padded, {} not", self.padded, self.unpadded);
+        if self.padded + self.unpadded > 0 {
+            println!("texts: {} padded, {} not", self.padded, self.unpadded);
+        }
         if self.says_less() {
             println!("of so many inline texts some must be padded and some not");
         }
