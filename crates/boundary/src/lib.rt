@@ -3,6 +3,7 @@
 // specs/ promise that each struct has the answer's numbers: refusal 0 and the value, or the refusal's number and its place and 0.
 pub mod answers;
 pub mod bodies;
+pub mod conversions;
 pub mod given;
 pub mod hatches;
 pub mod moves;

@@ -23,6 +23,7 @@ use boundary::answers;
 use boundary::prefixes;
 
 pub mod bodies;
+pub mod code_pages;
 pub mod moves;
 pub mod seeds;
 

@@ -1,0 +1,112 @@
+-- Each turn stores the byte of the next unit, which has one since all were judged.
+use Prim.Native.Nat.{ℕ, _-_, _<_}
+use mathlib.Core.Path.{_≡_, refl, sym, _∙_}
+use native.Mathlib.Omega.{arith}
+use lib.ListN.{length, getD}
+use denote.Ref.{now}
+use borrow.Author.Needs.{needs}
+use Rattle.code_page.specs.Mapping.{byteOf, defined, undefined}
+use Rattle.code_page.specs.Conversion.{mappedAll}
+use Rattle.code_page.specs.Passes.{entriesOf}
+use Rattle.code_page.proofs.PassLaws.{found-byte, found-none, Stored, entry-stored, stored-more, stored-all}
+use Rattle.code_page.proofs.bytes.put_bytes.Statement.{statement}
+use Rattle.code_page.proofs.bytes.put_bytes.Tie as tie
+
+abbrev Inv-loop : tie.InvT-loop
+Inv-loop table units bytes₀ i₀ bytes i = Stored byteOf units bytes₀ i bytes
+
+abbrev μ-loop : tie.MeasureT-loop
+μ-loop table units bytes₀ i₀ bytes i = length units - i
+
+loop-holds : tie.Need-loop-holds Inv-loop μ-loop
+loop-holds c = (search needs, refl, refl)
+
+mul-byte-of : tie.Need-mul-byte-of Inv-loop μ-loop
+mul-byte-of c = search needs
+
+shared-slice-read-byte-of : tie.Need-shared-slice-read-byte-of Inv-loop μ-loop
+shared-slice-read-byte-of c = search needs
+
+byte-of-requires : tie.Need-byte-of-requires Inv-loop μ-loop
+byte-of-requires c κs = let head = c .before .before in head .before .before .before .pre .lent
+
+enum-known-byte : tie.Need-enum-known-byte Inv-loop μ-loop
+enum-known-byte c = search needs
+
+slice-write-bytes : tie.Need-slice-write-bytes Inv-loop μ-loop
+slice-write-bytes c =
+    let found = c .before .before .before in
+    let turn = found .before .before in
+    let head = turn .before in
+    let start = head .before .before .before in
+    omega (arith, head .loop .inv .2, start .pre .room, turn .loop-test .taken)
+
+enum-told : tie.Need-enum-told Inv-loop μ-loop
+enum-told c = search needs
+
+same-length : tie.Need-same-length Inv-loop μ-loop
+same-length c =
+    let head = c .before .before .before .before .before in
+    head .loop .inv .2
+
+returns : tie.Need-returns Inv-loop μ-loop
+returns c =
+    let found = c .before .before in
+    let turn = found .before .before in
+    let head = turn .before in
+    let start = head .before .before .before in
+    let units = now (start .args .units) in
+    let none = found-none (byteOf (getD units (head .loop .i) 0)) (sym (found .byte-of .ensures) ∙ c .enum-told .given .1) in
+    let some = entry-stored byteOf units (now (start .args .bytes)) (start .pre .judged) (head .loop .i) (turn .loop-test .taken) in
+    absurd (nothing (sym none ∙ some))
+  where
+    nothing : {n : ℕ} → undefined ≡ defined n → ⊥
+    nothing e = let w : _≡_ {A = ℕ} 0 1 = cc in omega arith
+
+add-i : tie.Need-add-i Inv-loop μ-loop
+add-i c = search needs
+
+loop-less : tie.Need-loop-less Inv-loop μ-loop
+loop-less c = search needs
+
+loop-again : tie.Need-loop-again Inv-loop μ-loop
+loop-again c =
+    let found = c .before .before .before in
+    let turn = found .before .before in
+    let head = turn .before in
+    let start = head .before .before .before in
+    let units = now (start .args .units) in
+    let some = found-byte (byteOf (getD units (head .loop .i) 0)) _ (sym (found .byte-of .ensures) ∙ c .before .byte .given .1) in
+    stored-more byteOf units (now (start .args .bytes)) (start .pre .judged) (head .loop .i) _ (head .loop .bytes) (head .loop .inv)
+    (turn .loop-test .taken) (start .pre .room) some
+
+same-length-2 : tie.Need-same-length-2 Inv-loop μ-loop
+same-length-2 c = let head = c .before in head .loop .inv .2
+
+returns-2 : tie.Need-returns-2 Inv-loop μ-loop
+returns-2 c =
+    let head = c .before in
+    let start = head .before .before .before in
+    stored-all byteOf (now (start .args .units)) (now (start .args .bytes)) (start .pre .judged) (head .loop .i) (head .loop .bytes) (head .loop .inv)
+    (c .loop-test .left)
+
+pub put-bytes-spec : {M : Type 1} → statement M
+put-bytes-spec =
+    tie.close
+    (tie.spec
+    Inv-loop
+    μ-loop
+    loop-holds
+    mul-byte-of
+    shared-slice-read-byte-of
+    byte-of-requires
+    enum-known-byte
+    slice-write-bytes
+    enum-told
+    same-length
+    returns
+    add-i
+    loop-less
+    loop-again
+    same-length-2
+    returns-2)

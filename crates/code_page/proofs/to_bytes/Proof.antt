@@ -1,0 +1,69 @@
+-- Every unit is judged and the room is tested before the first store; then each byte is stored.
+use Prim.Native.Nat.{ℕ, _<_, _≤_}
+use mathlib.Core.Path.{_≡_, refl, sym, ap, _∙_}
+use mathlib.Core.Bool.{Bool, true, false}
+use lib.ListN.{length}
+use denote.Ref.{now}
+use borrow.Author.Needs.{needs}
+use borrow.Author.Tests.{not-true, not-false, ltb-true, ltb-false}
+use Rattle.code_page.specs.Mapping.{byteOf}
+use Rattle.code_page.specs.Conversion.{mappedAll}
+use Rattle.code_page.specs.Passes.{isAll}
+use Rattle.code_page.proofs.CallLaws.{gives-undefined, gives-too-short, gives-written}
+use Rattle.code_page.proofs.to_bytes.Statement.{statement}
+use Rattle.code_page.proofs.to_bytes.Tie as tie
+
+cp1252-requires : tie.Need-cp1252-requires
+cp1252-requires c κs = search needs
+
+are-units-requires : tie.Need-are-units-requires
+are-units-requires c κs = search needs
+
+returns : tie.Need-returns
+returns c =
+    let judged = c .before in
+    let start = judged .before .before .before .before .before in
+    let no : isAll (mappedAll byteOf (now (start .args .units))) ≡ false = sym (judged .are-units .ensures) ∙ not-true _ (c .if1 .taken) in
+    gives-undefined byteOf (now (start .args .units)) (now (start .args .bytes)) no
+
+returns-2 : tie.Need-returns-2
+returns-2 c =
+    let judged = c .before .before in
+    let start = judged .before .before .before .before .before in
+    let yes : isAll (mappedAll byteOf (now (start .args .units))) ≡ true = sym (judged .are-units .ensures) ∙ not-false _ (c .before .if1 .left) in
+    gives-too-short byteOf (now (start .args .units)) (now (start .args .bytes)) yes (ltb-true _ _ (c .if2 .taken))
+
+put-bytes-requires : tie.Need-put-bytes-requires
+put-bytes-requires c κs =
+    let passed = c .before .before in
+    let judged = passed .before .before in
+    let called = judged .before .before in
+    record {
+      lent = called .cp1252 .ensures;
+      judged = sym (judged .are-units .ensures) ∙ not-false _ (passed .before .if1 .left);
+      room = ltb-false _ _ (passed .if2 .left);
+    }
+
+same-length : tie.Need-same-length
+same-length c = search needs
+
+returns-3 : tie.Need-returns-3
+returns-3 c =
+    let stored = c .before .before in
+    let passed = stored .before .before .before in
+    let judged = passed .before .before in
+    let start = judged .before .before .before .before .before in
+    let yes : isAll (mappedAll byteOf (now (start .args .units))) ≡ true = sym (judged .are-units .ensures) ∙ not-false _ (passed .before .if1 .left) in
+    gives-written byteOf (now (start .args .units)) (now (start .args .bytes)) yes _ (ltb-false _ _ (passed .if2 .left)) (stored .put-bytes .ensures)
+
+pub to-bytes-spec : {M : Type 1} → statement M
+to-bytes-spec =
+    tie.close
+    (tie.spec
+    cp1252-requires
+    are-units-requires
+    returns
+    returns-2
+    put-bytes-requires
+    same-length
+    returns-3)

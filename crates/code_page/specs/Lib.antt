@@ -1,0 +1,11 @@
+pub mod Cp1252
+pub mod Mapping
+pub mod Conversion
+pub mod Passes
+pub mod Everywhere
+pub mod Facts
+pub mod Inverse
+pub mod MappedLists
+pub mod Answers
+pub mod ThereAndBack
+pub mod Cases

@@ -1,0 +1,84 @@
+// From units back to bytes: every unit is judged first, and only then is a byte stored.
+ghost use mathlib.Core.Path.{_≡_};
+ghost use Prim.Native.Nat.{_≤_};
+ghost use Rattle.code_page.specs.Cp1252.{cp1252};
+ghost use Rattle.code_page.specs.Mapping.{byteOf, mark};
+ghost use Rattle.code_page.specs.Conversion.{mappedAll, converts, after};
+ghost use Rattle.code_page.specs.Passes.{isAll, entriesOf, Storing, foundOf};
+use crate::table::UNDEFINED;
+
+// The byte that has a unit, if one has.
+pub enum Found {
+    Byte(u8),
+    None,
+}
+
+// Among bytes 80 to 9F (hexadecimal), where every unit from 100 up stands: at most 32 comparisons.
+fn byte_80_to_9f(table: &[u16; 256], unit: u16) -> Found
+    requires { ⌜ (now table ≡ cp1252) × (256 ≤ unit) × (unit ≡ mark → ⊥) ⌝ }
+    ensures { λ r. ⌜ r ≡ foundOf (byteOf unit) ⌝ }
+{
+    let mut byte: usize = 128;
+    while byte < 160 {
+        if table[byte] == unit {
+            return Found::Byte(byte as u8);
+        }
+        byte += 1;
+    }
+    Found::None
+}
+
+// The byte of any unit. One below 100 is its own byte or nobody's: one look.
+pub fn byte_of(table: &[u16; 256], unit: u16) -> Found
+    requires { ⌜ now table ≡ cp1252 ⌝ }
+    ensures { λ r. ⌜ r ≡ foundOf (byteOf unit) ⌝ }
+{
+    if unit < 256 {
+        let byte = unit as usize;
+        if table[byte] == unit {
+            return Found::Byte(unit as u8);
+        }
+        return Found::None;
+    }
+    if unit == UNDEFINED {
+        return Found::None;
+    }
+    byte_80_to_9f(table, unit)
+}
+
+// Whether every unit is one of the table.
+pub fn are_units(table: &[u16; 256], units: &[u16]) -> bool
+    requires { ⌜ now table ≡ cp1252 ⌝ }
+    ensures { λ r. ⌜ r ≡ isAll (mappedAll byteOf (now (units .entry))) ⌝ }
+{
+    let mut i = 0;
+    while i < units.len() {
+        match byte_of(table, units[i]) {
+            Found::Byte(_) => {}
+            Found::None => {
+                return false;
+            }
+        }
+        i += 1;
+    }
+    true
+}
+
+// The byte of each unit, at the front of the output.
+pub fn put_bytes(table: &[u16; 256], units: &[u16], bytes: &mut [u8])
+    requires { ⌜ Storing byteOf (now table) (now units) (now bytes) ⌝ }
+    ensures { λ _. ⌜ now (bytes .exit) ≡ after (converts (entriesOf (mappedAll byteOf (now (units .entry))))) (now (bytes .entry)) ⌝ }
+{
+    let mut i = 0;
+    while i < units.len() {
+        match byte_of(table, units[i]) {
+            Found::Byte(byte) => {
+                bytes[i] = byte;
+            }
+            Found::None => {
+                return;
+            }
+        }
+        i += 1;
+    }
+}
