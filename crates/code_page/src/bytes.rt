@@ -51,15 +51,15 @@ pub fn are_units(table: &[u16; 256], units: &[u16]) -> bool
     requires { ⌜ now table ≡ cp1252 ⌝ }
     ensures { λ r. ⌜ r ≡ isAll (mappedAll byteOf (now (units .entry))) ⌝ }
 {
-    let mut i = 0;
-    while i < units.len() {
-        match byte_of(table, units[i]) {
+    let mut k = 0;
+    while k < units.len() {
+        match byte_of(table, units[k]) {
             Found::Byte(_) => {}
             Found::None => {
                 return false;
             }
         }
-        i += 1;
+        k += 1;
     }
     true
 }

@@ -11,13 +11,13 @@ pub fn are_defined(table: &[u16; 256], bytes: &[u8]) -> bool
     requires { ⌜ now table ≡ cp1252 ⌝ }
     ensures { λ r. ⌜ r ≡ isAll (mappedAll unitOf (now (bytes .entry))) ⌝ }
 {
-    let mut i = 0;
-    while i < bytes.len() {
-        let byte = bytes[i] as usize;
+    let mut k = 0;
+    while k < bytes.len() {
+        let byte = bytes[k] as usize;
         if table[byte] == UNDEFINED {
             return false;
         }
-        i += 1;
+        k += 1;
     }
     true
 }

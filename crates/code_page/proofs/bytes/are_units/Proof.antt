@@ -11,10 +11,10 @@ use Rattle.code_page.proofs.bytes.are_units.Statement.{statement}
 use Rattle.code_page.proofs.bytes.are_units.Tie as tie
 
 abbrev Inv-loop : tie.InvT-loop
-Inv-loop table units i₀ i = JudgedTo byteOf units i
+Inv-loop table units k₀ k = JudgedTo byteOf units k
 
 abbrev μ-loop : tie.MeasureT-loop
-μ-loop table units i₀ i = length units - i
+μ-loop table units k₀ k = length units - k
 
 loop-holds : tie.Need-loop-holds Inv-loop μ-loop
 loop-holds c = (search needs, refl)
@@ -40,11 +40,11 @@ returns c =
     let turn = found .before .before in
     let head = turn .before in
     let units = now (head .before .before .args .units) in
-    let none = found-none (byteOf (getD units (head .loop .i) 0)) (sym (found .byte-of .ensures) ∙ c .enum-told2 .given .1) in
-    sym (judged-undefined byteOf units (head .loop .i) (head .loop .inv) (turn .loop-test .taken) none)
+    let none = found-none (byteOf (getD units (head .loop .k) 0)) (sym (found .byte-of .ensures) ∙ c .enum-told2 .given .1) in
+    sym (judged-undefined byteOf units (head .loop .k) (head .loop .inv) (turn .loop-test .taken) none)
 
-add-i : tie.Need-add-i Inv-loop μ-loop
-add-i c = search needs
+add-k : tie.Need-add-k Inv-loop μ-loop
+add-k c = search needs
 
 loop-less : tie.Need-loop-less Inv-loop μ-loop
 loop-less c = search needs
@@ -55,13 +55,13 @@ loop-again c =
     let turn = found .before .before in
     let head = turn .before in
     let units = now (head .before .before .args .units) in
-    let some = found-byte (byteOf (getD units (head .loop .i) 0)) _ (sym (found .byte-of .ensures) ∙ c .enum-told .given .1) in
-    judged-more byteOf units (head .loop .i) _ (head .loop .inv) (turn .loop-test .taken) some
+    let some = found-byte (byteOf (getD units (head .loop .k) 0)) _ (sym (found .byte-of .ensures) ∙ c .enum-told .given .1) in
+    judged-more byteOf units (head .loop .k) _ (head .loop .inv) (turn .loop-test .taken) some
 
 returns-2 : tie.Need-returns-2 Inv-loop μ-loop
 returns-2 c =
     let head = c .before in
-    sym (judged-all byteOf (now (head .before .before .args .units)) (head .loop .i) (head .loop .inv) (c .loop-test .left))
+    sym (judged-all byteOf (now (head .before .before .args .units)) (head .loop .k) (head .loop .inv) (c .loop-test .left))
 
 pub are-units-spec : {M : Type 1} → statement M
 are-units-spec =
@@ -76,7 +76,7 @@ are-units-spec =
     enum-told
     enum-told-2
     returns
-    add-i
+    add-k
     loop-less
     loop-again
     returns-2)
