@@ -1,15 +1,14 @@
 -- Which answer a call gives, and why: 14 exactly if an entry is undefined; then 11 exactly if the output is shorter than the input; else every entry is
 -- converted. Assumes nothing.
-use mathlib.Core.Path.{_≡_, refl, sym, ap, _∙_}
+use mathlib.Core.Path.{_≡_, refl}
 use mathlib.Core.Bool.{Bool, true, false}
-use mathlib.Core.List.{List, [], _∷_}
+use mathlib.Core.List.{List}
 use Prim.Native.Nat.{ℕ, _<_, _≤_}
-use native.Mathlib.Omega.{arith}
 use lib.Dec.{ltb}
 use lib.ListN.{length, getD}
 use borrow.Author.Tests.{ltb-true, ltb-false, lt-ltb, le-ltb}
 use Rattle.code_page.specs.declared.ConversionRefusal.the-variants.{Undefined, OutputTooShort}
-use Rattle.code_page.specs.Mapping.{Mapped, defined, undefined}
+use Rattle.code_page.specs.Mapping.{Mapped, defined}
 use Rattle.code_page.specs.Conversion.{AllMapped, all, not-all, mappedAll, Conversion, converts, refuses, withRoom, conversion}
 use Rattle.code_page.specs.MappedLists.{all-length, all-entries, UndefinedIn, somewhere, of-entries, of-somewhere}
 

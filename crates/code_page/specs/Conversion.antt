@@ -9,7 +9,7 @@ use Rattle.code_page.specs.declared.ConversionOutcome.{ConversionOutcome
 use Rattle.code_page.specs.declared.ConversionOutcome.the-variants.{Written, Refused}
 use Rattle.code_page.specs.declared.ConversionRefusal.{ConversionRefusal}
 use Rattle.code_page.specs.declared.ConversionRefusal.the-variants.{Undefined, OutputTooShort}
-use Rattle.code_page.specs.Mapping.{Mapped, defined, undefined, unitOf, byteOf}
+use Rattle.code_page.specs.Mapping.{Mapped, defined, undefined}
 
 -- the numbers of document 02's table
 abbrev pub conversionRefusalNumber : ConversionRefusal → ℕ

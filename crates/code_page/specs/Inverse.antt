@@ -1,16 +1,16 @@
 -- Each way undoes the other, byte by byte and unit by unit: a unit comes from a byte exactly if the byte has this unit. Assumes nothing.
 use mathlib.Core.Path.{_≡_, refl, sym, ap, _∙_, subst}
-use mathlib.Core.Bool.{Bool, true, false, cond}
+use mathlib.Core.Bool.{Bool, true, false}
 use mathlib.Core.List.{List, [], _∷_}
-use Prim.Native.Nat.{ℕ, zero, suc, _+_, _<_, _≤_}
-use native.Mathlib.Nat.{add-zero, zero-add, add-suc, suc-add, le-of-suc-le-suc, not-suc-le-zero}
+use Prim.Native.Nat.{ℕ, zero, suc, _+_, _<_}
+use native.Mathlib.Nat.{le-of-suc-le-suc, not-suc-le-zero}
 use native.Mathlib.Omega.{arith}
 use lib.Dec.{eqb}
 use lib.ListN.{length, getD}
 use borrow.Author.Tests.{eqb-true, eq-eqb, ne-eqb}
 use Rattle.code_page.specs.Cp1252.{cp1252}
 use Rattle.code_page.specs.Mapping.{Mapped, defined, undefined, mark, unitOf, byteOf, firstFrom}
-use Rattle.code_page.specs.Facts.{entries-256, unmarked-entry, unit-entry, unit-unmarked, unit-of-byte, low-own, high-own, between-above, one-byte}
+use Rattle.code_page.specs.Facts.{entries-256, unmarked-entry, unit-entry, unit-unmarked, unit-of-byte, one-byte}
 
 nothing : {n : ℕ} → undefined ≡ defined n → ⊥
 nothing e = let w : _≡_ {A = ℕ} 0 1 = cc in omega arith

@@ -1,15 +1,15 @@
 -- What one call wrote, the other gives back: bytes after units, and units after bytes, into every output that is long enough. Assumes nothing.
-use mathlib.Core.Path.{_≡_, refl, sym, ap, _∙_}
+use mathlib.Core.Path.{_≡_, refl, ap, _∙_}
 use mathlib.Core.Bool.{Bool, true, false}
-use mathlib.Core.List.{List, [], _∷_, _++_}
-use Prim.Native.Nat.{ℕ, _<_, _≤_}
+use mathlib.Core.List.{List}
+use Prim.Native.Nat.{ℕ, _≤_}
 use native.Mathlib.Omega.{arith}
 use lib.Dec.{ltb}
 use lib.ListN.{length, take, drop}
 use lib.Seq.{take-at}
-use borrow.Author.Tests.{ltb-false, le-ltb}
+use borrow.Author.Tests.{le-ltb}
 use Rattle.code_page.specs.Mapping.{Mapped, defined, unitOf, byteOf}
-use Rattle.code_page.specs.Conversion.{AllMapped, all, not-all, mappedAll, Conversion, converts, refuses, withRoom, conversion, after}
+use Rattle.code_page.specs.Conversion.{AllMapped, all, not-all, mappedAll, converts, withRoom, conversion, after}
 use Rattle.code_page.specs.Inverse.{there, back}
 use Rattle.code_page.specs.MappedLists.{all-length, mapped-back}
 

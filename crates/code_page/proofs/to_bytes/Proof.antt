@@ -1,8 +1,6 @@
 -- Every unit is judged and the room is tested before the first store; then each byte is stored.
-use Prim.Native.Nat.{ℕ, _<_, _≤_}
-use mathlib.Core.Path.{_≡_, refl, sym, ap, _∙_}
-use mathlib.Core.Bool.{Bool, true, false}
-use lib.ListN.{length}
+use mathlib.Core.Path.{_≡_, sym, _∙_}
+use mathlib.Core.Bool.{true, false}
 use denote.Ref.{now}
 use borrow.Author.Needs.{needs}
 use borrow.Author.Tests.{not-true, not-false, ltb-true, ltb-false}
@@ -22,14 +20,16 @@ are-units-requires c κs = search needs
 returns : tie.Need-returns
 returns c =
     let judged = c .before in
-    let start = judged .before .before .before .before .before in
+    let called = judged .before .before in
+    let start = called .before .before .before in
     let no : isAll (mappedAll byteOf (now (start .args .units))) ≡ false = sym (judged .are-units .ensures) ∙ not-true _ (c .if1 .taken) in
     gives-undefined byteOf (now (start .args .units)) (now (start .args .bytes)) no
 
 returns-2 : tie.Need-returns-2
 returns-2 c =
     let judged = c .before .before in
-    let start = judged .before .before .before .before .before in
+    let called = judged .before .before in
+    let start = called .before .before .before in
     let yes : isAll (mappedAll byteOf (now (start .args .units))) ≡ true = sym (judged .are-units .ensures) ∙ not-false _ (c .before .if1 .left) in
     gives-too-short byteOf (now (start .args .units)) (now (start .args .bytes)) yes (ltb-true _ _ (c .if2 .taken))
 
@@ -52,7 +52,8 @@ returns-3 c =
     let stored = c .before .before in
     let passed = stored .before .before .before in
     let judged = passed .before .before in
-    let start = judged .before .before .before .before .before in
+    let called = judged .before .before in
+    let start = called .before .before .before in
     let yes : isAll (mappedAll byteOf (now (start .args .units))) ≡ true = sym (judged .are-units .ensures) ∙ not-false _ (passed .before .if1 .left) in
     gives-written byteOf (now (start .args .units)) (now (start .args .bytes)) yes _ (ltb-false _ _ (passed .if2 .left)) (stored .put-bytes .ensures)
 

@@ -5,11 +5,11 @@ use mathlib.Core.Bool.{Bool, true, false}
 use lib.Dec.{ltb}
 use borrow.Author.Tests.{ltb-true, ltb-false}
 use native.Mathlib.Omega.{arith}
-use lib.ListN.{length, getD}
+use lib.ListN.{getD}
 use denote.Ref.{now}
 use borrow.Author.Needs.{needs}
 use Rattle.code_page.specs.Cp1252.{cp1252}
-use Rattle.code_page.specs.Mapping.{unitOf, byteOf, defined}
+use Rattle.code_page.specs.Mapping.{unitOf, defined}
 use Rattle.code_page.specs.Passes.{foundOf}
 use Rattle.code_page.specs.Facts.{unit-entry, looked-up, found-unit, unit-of-byte, above-between}
 use Rattle.code_page.specs.Inverse.{back, no-byte}

@@ -1,12 +1,12 @@
 -- A unit below 100 can only be its own byte's; the mark is no unit; every other is looked for between 80 and 9F.
 use Prim.Native.Nat.{ℕ, _<_}
-use mathlib.Core.Path.{_≡_, refl, sym, ap, _∙_}
+use mathlib.Core.Path.{_≡_, sym, ap, _∙_}
 use native.Mathlib.Omega.{arith}
 use lib.ListN.{getD}
 use denote.Ref.{now}
 use borrow.Author.Needs.{needs}
 use Rattle.code_page.specs.Cp1252.{cp1252}
-use Rattle.code_page.specs.Mapping.{unitOf, byteOf, defined, undefined, mark}
+use Rattle.code_page.specs.Mapping.{unitOf, byteOf, defined, mark}
 use Rattle.code_page.specs.Passes.{foundOf}
 use Rattle.code_page.specs.Facts.{unit-entry, looked-up, found-unit, below-own}
 use Rattle.code_page.specs.Inverse.{back, no-byte}

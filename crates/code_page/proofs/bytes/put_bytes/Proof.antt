@@ -1,13 +1,11 @@
 -- Each turn stores the byte of the next unit, which has one since all were judged.
-use Prim.Native.Nat.{ℕ, _-_, _<_}
+use Prim.Native.Nat.{ℕ, _-_}
 use mathlib.Core.Path.{_≡_, refl, sym, _∙_}
 use native.Mathlib.Omega.{arith}
 use lib.ListN.{length, getD}
 use denote.Ref.{now}
 use borrow.Author.Needs.{needs}
 use Rattle.code_page.specs.Mapping.{byteOf, defined, undefined}
-use Rattle.code_page.specs.Conversion.{mappedAll}
-use Rattle.code_page.specs.Passes.{entriesOf}
 use Rattle.code_page.proofs.PassLaws.{found-byte, found-none, Stored, entry-stored, stored-more, stored-all}
 use Rattle.code_page.proofs.bytes.put_bytes.Statement.{statement}
 use Rattle.code_page.proofs.bytes.put_bytes.Tie as tie
@@ -28,7 +26,10 @@ shared-slice-read-byte-of : tie.Need-shared-slice-read-byte-of Inv-loop μ-loop
 shared-slice-read-byte-of c = search needs
 
 byte-of-requires : tie.Need-byte-of-requires Inv-loop μ-loop
-byte-of-requires c κs = let head = c .before .before in head .before .before .before .pre .lent
+byte-of-requires c κs =
+    let head = c .before .before in
+    let start = head .before .before .before in
+    start .pre .lent
 
 enum-known-byte : tie.Need-enum-known-byte Inv-loop μ-loop
 enum-known-byte c = search needs
@@ -46,7 +47,8 @@ enum-told c = search needs
 
 same-length : tie.Need-same-length Inv-loop μ-loop
 same-length c =
-    let head = c .before .before .before .before .before in
+    let turn = c .before .before .before in
+    let head = turn .before .before in
     head .loop .inv .2
 
 returns : tie.Need-returns Inv-loop μ-loop

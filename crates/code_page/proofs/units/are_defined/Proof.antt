@@ -1,5 +1,5 @@
 -- From each byte on, all are defined exactly if all are; the mark stands where one is not.
-use Prim.Native.Nat.{ℕ, _-_, _<_}
+use Prim.Native.Nat.{_-_, _<_}
 use mathlib.Core.Path.{_≡_, refl, sym, _∙_}
 use native.Mathlib.Omega.{arith}
 use lib.ListN.{length, getD}
@@ -11,8 +11,6 @@ use Rattle.code_page.specs.Facts.{found-marked, found-unit}
 use Rattle.code_page.proofs.PassLaws.{JudgedTo, judged-more, judged-undefined, judged-all}
 use Rattle.code_page.proofs.units.are_defined.Statement.{statement}
 use Rattle.code_page.proofs.units.are_defined.Tie as tie
-use Rattle.code_page.proofs.units.are_defined.Reads as reads
-use Rattle.code_page.proofs.units.are_defined.Lts as lts
 
 abbrev Inv-loop : tie.InvT-loop
 Inv-loop table bytes k₀ k = JudgedTo unitOf bytes k

@@ -1,11 +1,10 @@
 -- Each turn stores the unit of the next byte, which is defined since all were judged.
-use Prim.Native.Nat.{ℕ, _-_, _<_}
+use Prim.Native.Nat.{_-_, _<_}
 use mathlib.Core.Path.{_≡_, refl, sym, _∙_}
 use native.Mathlib.Omega.{arith}
 use lib.ListN.{length, getD}
 use denote.Ref.{now}
 use borrow.Author.Needs.{needs}
-use Rattle.code_page.specs.Cp1252.{cp1252}
 use Rattle.code_page.specs.Mapping.{unitOf, defined}
 use Rattle.code_page.specs.Conversion.{mappedAll}
 use Rattle.code_page.specs.Passes.{entriesOf}
@@ -62,10 +61,11 @@ loop-again c =
     let byte = getD bytes (head .loop .i) 0 in
     let small : byte < 256 = omega (arith, known .shared-slice-known .given (head .loop .i)) in
     let unit = getD (entriesOf (mappedAll unitOf bytes)) (head .loop .i) 0 in
-    let is : unitOf byte ≡ defined unit = entry-stored unitOf bytes (now (start .args .units)) (start .pre .judged) (head .loop .i) (known .before .loop-test .taken) in
+    let more = known .before .loop-test .taken in
+    let is : unitOf byte ≡ defined unit = entry-stored unitOf bytes (now (start .args .units)) (start .pre .judged) (head .loop .i) more in
     let read : getD (now (start .args .table)) byte 0 ≡ unit = rw (start .pre .lent) (sym (looked-up byte small) ∙ unit-entry byte unit is) in
     stored-more unitOf bytes (now (start .args .units)) (start .pre .judged) (head .loop .i) _ (head .loop .units) (head .loop .inv)
-    (known .before .loop-test .taken) (start .pre .room) (rw read is)
+    more (start .pre .room) (rw read is)
 
 same-length : tie.Need-same-length Inv-loop μ-loop
 same-length c = let head = c .before in head .loop .inv .2
