@@ -18,7 +18,7 @@ fn number(k: ConversionRefusal) -> u64
     ensures { λ n. ⌜ n ≡ conversionRefusalNumber k ⌝ }
 {
     match k {
-        ConversionRefusal::Undefined => 14,
+        ConversionRefusal::UndefinedCharacter => 14,
         ConversionRefusal::OutputTooShort => 11,
     }
 }

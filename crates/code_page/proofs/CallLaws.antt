@@ -9,7 +9,7 @@ use lib.ListN.{length}
 use borrow.Author.Tests.{lt-ltb, le-ltb}
 use Rattle.code_page.specs.declared.ConversionOutcome.{ConversionOutcome}
 use Rattle.code_page.specs.declared.ConversionOutcome.the-variants.{Written, Refused}
-use Rattle.code_page.specs.declared.ConversionRefusal.the-variants.{Undefined, OutputTooShort}
+use Rattle.code_page.specs.declared.ConversionRefusal.the-variants.{UndefinedCharacter, OutputTooShort}
 use Rattle.code_page.specs.Mapping.{Mapped}
 use Rattle.code_page.specs.Conversion.{AllMapped, all, not-all, mappedAll, Conversion, converts, refuses, withRoom, conversion, after, answerOf, Converts}
 use Rattle.code_page.specs.Passes.{isAll, entriesOf}
@@ -22,11 +22,11 @@ module _ (f : ℕ → Mapped) (xs out : List ℕ) where
       → Converts f xs r out out′
   given o r out′ e a b = (a ∙ ap answerOf (sym e), b ∙ ap (λ (p : Conversion). after p out) (sym e))
 
-  pub gives-undefined : isAll (mappedAll f xs) ≡ false → Converts f xs (Refused Undefined) out out
+  pub gives-undefined : isAll (mappedAll f xs) ≡ false → Converts f xs (Refused UndefinedCharacter) out out
   unfolding conversion
-  gives-undefined e = given (refuses Undefined) (Refused Undefined) out (go (mappedAll f xs) e) refl refl
+  gives-undefined e = given (refuses UndefinedCharacter) (Refused UndefinedCharacter) out (go (mappedAll f xs) e) refl refl
     where
-      go : (m : AllMapped) → isAll m ≡ false → withRoom (ltb (length out) (length xs)) m ≡ refuses Undefined
+      go : (m : AllMapped) → isAll m ≡ false → withRoom (ltb (length out) (length xs)) m ≡ refuses UndefinedCharacter
       go not-all e = refl
       go (all ys) e = absurd (let w : _≡_ {A = ℕ} 0 1 = cc in omega arith)
 

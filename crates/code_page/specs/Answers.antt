@@ -7,7 +7,7 @@ use Prim.Native.Nat.{ℕ, _<_, _≤_}
 use lib.Dec.{ltb}
 use lib.ListN.{length, getD}
 use borrow.Author.Tests.{ltb-true, ltb-false, lt-ltb, le-ltb}
-use Rattle.code_page.specs.declared.ConversionRefusal.the-variants.{Undefined, OutputTooShort}
+use Rattle.code_page.specs.declared.ConversionRefusal.the-variants.{UndefinedCharacter, OutputTooShort}
 use Rattle.code_page.specs.Mapping.{Mapped, defined}
 use Rattle.code_page.specs.Conversion.{AllMapped, all, not-all, mappedAll, Conversion, converts, refuses, withRoom, conversion}
 use Rattle.code_page.specs.MappedLists.{all-length, all-entries, UndefinedIn, somewhere, of-entries, of-somewhere}
@@ -20,7 +20,7 @@ module _ (f : ℕ → Mapped) (xs : List ℕ) (room : ℕ) where
 
   -- each answer and what it stands for
   pub data Answers : Conversion → Type 0 where
-    one-undefined : UndefinedIn f 0 xs → Answers (refuses Undefined)
+    one-undefined : UndefinedIn f 0 xs → Answers (refuses UndefinedCharacter)
     too-short : (ys : List ℕ) → Each ys → room < length xs → Answers (refuses OutputTooShort)
     all-converted : (ys : List ℕ) → Each ys → length xs ≤ room → Answers (converts ys)
 
@@ -40,6 +40,6 @@ module _ (f : ℕ → Mapped) (xs : List ℕ) (room : ℕ) where
   -- and no other
   pub answers-only : (o : Conversion) → Answers o → conversion f xs room ≡ o
   unfolding conversion
-  answers-only (refuses Undefined) (one-undefined u) = rw (of-somewhere f xs u)
+  answers-only (refuses UndefinedCharacter) (one-undefined u) = rw (of-somewhere f xs u)
   answers-only (refuses OutputTooShort) (too-short ys e l) = rw (of-entries f xs ys (e .as-many) (e .entry), lt-ltb room (length xs) l)
   answers-only (converts ys) (all-converted zs e l) = rw (of-entries f xs ys (e .as-many) (e .entry), le-ltb room (length xs) l)

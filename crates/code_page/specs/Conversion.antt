@@ -8,12 +8,12 @@ use lib.ListN.{length, drop}
 use Rattle.code_page.specs.declared.ConversionOutcome.{ConversionOutcome}
 use Rattle.code_page.specs.declared.ConversionOutcome.the-variants.{Written, Refused}
 use Rattle.code_page.specs.declared.ConversionRefusal.{ConversionRefusal}
-use Rattle.code_page.specs.declared.ConversionRefusal.the-variants.{Undefined, OutputTooShort}
+use Rattle.code_page.specs.declared.ConversionRefusal.the-variants.{UndefinedCharacter, OutputTooShort}
 use Rattle.code_page.specs.Mapping.{Mapped, defined, undefined}
 
 -- the numbers of document 02's table
 abbrev pub conversionRefusalNumber : ConversionRefusal → ℕ
-conversionRefusalNumber Undefined = 14
+conversionRefusalNumber UndefinedCharacter = 14
 conversionRefusalNumber OutputTooShort = 11
 
 -- ---- all entries of a list mapped, or one that is undefined
@@ -36,7 +36,7 @@ pub data Conversion : Type 0 where
   refuses : ConversionRefusal → Conversion
 
 abbrev pub withRoom : Bool → AllMapped → Conversion
-withRoom short not-all = refuses Undefined
+withRoom short not-all = refuses UndefinedCharacter
 withRoom true (all ys) = refuses OutputTooShort
 withRoom false (all ys) = converts ys
 

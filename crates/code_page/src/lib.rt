@@ -10,7 +10,7 @@ pub mod units;
 
 // Why a list is not converted: an entry stands for nothing in the code page, or the output is shorter than the input.
 pub enum ConversionRefusal {
-    Undefined,
+    UndefinedCharacter,
     OutputTooShort,
 }
 
@@ -28,7 +28,7 @@ pub fn to_units(bytes: &[u8], units: &mut [u16]) -> ConversionOutcome
     let defined = units::are_defined(&table, bytes);
     let short = units.len() < bytes.len();
     if !defined {
-        return ConversionOutcome::Refused(ConversionRefusal::Undefined);
+        return ConversionOutcome::Refused(ConversionRefusal::UndefinedCharacter);
     }
     if short {
         return ConversionOutcome::Refused(ConversionRefusal::OutputTooShort);
@@ -45,7 +45,7 @@ pub fn to_bytes(units: &[u16], bytes: &mut [u8]) -> ConversionOutcome
     let defined = bytes::are_units(&table, units);
     let short = bytes.len() < units.len();
     if !defined {
-        return ConversionOutcome::Refused(ConversionRefusal::Undefined);
+        return ConversionOutcome::Refused(ConversionRefusal::UndefinedCharacter);
     }
     if short {
         return ConversionOutcome::Refused(ConversionRefusal::OutputTooShort);
