@@ -1,7 +1,5 @@
 //! The requests `cp1252` and `uncp1252`: a text converted by code page 1252, or the way back, and the answer's line.
 
-use std::fmt::Debug;
-
 use dwg_hatch::{cp1252_to_bytes, cp1252_to_units, Refusal};
 
 use crate::protocol::answer::put_digits;
@@ -81,7 +79,7 @@ fn units(field: &[u8]) -> Option<Vec<u16>> {
 
 /// Lends an output as long as the request says, but not above one entry more than is needed, since it may name any length. Entries past those written are as
 /// they were, and on a refusal all are; if they are not, no answer is better than a wrong one.
-fn converted<Entry: Copy + PartialEq + Debug + Into<u64>>(
+fn converted<Entry: Copy + PartialEq + Into<u64>>(
     room: Option<u64>,
     needed: usize,
     before: Entry,
@@ -109,7 +107,6 @@ fn line<Entry: Copy + Into<u64>>(entries: &[Entry]) -> String {
 
 #[cfg(test)]
 mod tests {
-    use super::*;
     use crate::protocol::answer::Answerer;
 
     fn answers(lines: &[&str]) -> Vec<String> {
@@ -141,8 +138,8 @@ mod tests {
             "uncp1252 0041 L x", "uncp1252 0041 L 1 1", "uncp1252 +041", "uncp1252 00 41", "cp1251 41",
         ];
         let long = [format!("cp1252 4B L {most}"), format!("cp1252 z{most}"), format!("uncp1252 0041 L {most}")];
-        for (line, answer) in lines.iter().copied().chain(long.each_ref().map(String::as_str)).map(|line| (line, &answers(&[line])[0] == "bad request")) {
-            assert!(answer, "{line}");
+        for line in lines.iter().copied().chain(long.iter().map(String::as_str)) {
+            assert_eq!(answers(&[line]), ["bad request"], "{line}");
         }
     }
 }
