@@ -182,8 +182,9 @@ is empty, and a colour is DOUBLE/SHORT/RGB/BYTE.
 A move takes X and Y as 16 hexadecimal digits, and the fields of a hatch's answer as they were printed, in any order; a
 missing one is 0, absent or empty, and nw and nn are then the lengths of words and nums. solid, assoc and pdouble may be
 0 to 255. It is answered `ok 0 0 nums=LIST`, every entry of nums afterwards, or `err NUMBER 0 0`.
-UNITS are four hexadecimal digits each, - for none. A conversion is answered `ok COUNT UNITS` or `ok COUNT HEX`, or `err NUMBER 0 0`.
-L gives the length of its output; without it that is the input's. Of zN bytes there are at most 268435456.
+A conversion takes HEX, here at most 268435456 bytes as zN, or UNITS of four hexadecimal digits each, - for none. L gives the
+length of its output; without it that is the input's. It is answered `ok COUNT UNITS`, or `ok COUNT HEX` on the way back, or
+`err NUMBER 0 0`: 14 for an entry that the page leaves undefined, then 11 for an output that is shorter than the input.
 A reading is answered `ok PLACE VALUE`, a refusal `err NUMBER PLACE PLACE2`, the second place 0 without a reader,
 and a line that is no request `bad request`.
 ";
