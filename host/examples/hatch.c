@@ -1,7 +1,7 @@
 /* Reads a hatch body through dwg_hatch.h and prints it: measure, lend, read, move, print.
  *
- *     hatch [RELEASE HEX [START [X Y]]]       a payload in hexadecimal and its start bit, and an origin that it is moved to; without words a hatch of one
- *                                             seed point is read
+ *     hatch [-1252] [RELEASE HEX [START [X Y]]]   a payload in hexadecimal and its start bit, and an origin that it is moved to; without words a hatch of
+ *                                                 one seed point is read; with -1252 names of 8-bit units are characters of that code page
  *
  * cc -Ihost/include host/examples/hatch.c libdwg_hatch.a -o hatch      Exit status 0: read; 1: refused; 2: bad usage. */
 #include <dwg_hatch.h>
@@ -9,6 +9,9 @@
 #include <stdio.h>
 #include <stdlib.h>
 #include <string.h>
+
+/* What 8-bit units of names stand for. */
+static DwgCodePage page = DWG_CODE_PAGE_UNKNOWN;
 
 /* The lists of a reading, taken from the front as they are printed. */
 typedef struct Lists {
@@ -82,7 +85,7 @@ static void path(Lists *lists, size_t index) {
 /* A text of the main payload, its characters as far as they fit, and whether a closing zero was dropped. */
 static void text(const char *what, const uint8_t *payload, size_t length, DwgTextFields at) {
     char characters[256];
-    size_t bytes = dwg_text_utf8(payload, length, at.width, at.position, at.count, characters, sizeof characters);
+    size_t bytes = dwg_text_utf8_in_page(page, payload, length, at.width, at.position, at.count, characters, sizeof characters);
     printf("%s \"%s\"%s: %zu units of %u bits at bit %zu%s\n", what, characters, bytes < sizeof characters ? "" : "...", at.count, at.width, at.position,
            at.padded ? ", padded" : "");
 }
@@ -138,12 +141,17 @@ static int read_hatch(const uint8_t *payload, size_t length, size_t start, uint6
 }
 
 int main(int count, char **arguments) {
+    if (count > 1 && strcmp(arguments[1], "-1252") == 0) {
+        page = DWG_CODE_PAGE_1252;
+        arguments++;
+        count--;
+    }
     const char *release = count > 1 ? arguments[1] : "2", *start = count > 3 ? arguments[3] : "0";
     const char *hex = count > 2 ? arguments[2] : "A9AA901000000000000000000000000000000000";
     size_t digits = strspn(hex, "0123456789abcdefABCDEF");
     if (count == 2 || count == 5 || count > 6 || hex[digits] != 0 || digits % 2 != 0 || *release == 0 || release[strspn(release, "0123456789")] != 0
         || *start == 0 || start[strspn(start, "0123456789")] != 0) {
-        return fail(2, "usage: hatch [RELEASE HEX [START [X Y]]]: a number, pairs of hexadecimal digits, a bit number, an origin");
+        return fail(2, "usage: hatch [-1252] [RELEASE HEX [START [X Y]]]: a number, pairs of hexadecimal digits, a bit number, an origin");
     }
     uint8_t *payload = malloc(digits / 2 + 1);
     if (payload == NULL) {

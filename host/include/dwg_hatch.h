@@ -1,4 +1,4 @@
-/* Hatch bodies of DWG drawings, proved: the C boundary of libdwg_hatch.a. This header brings the prefixes and the codes too.
+/* Hatch bodies of DWG drawings, proved: the C boundary of libdwg_hatch.a. This header brings the prefixes, the texts and the codes too.
  *
  * A body is measured, lists of the measured lengths are lent, and the body is read (host/examples/hatch.c does so and prints it):
  *
@@ -14,7 +14,9 @@
  *     dwg_text_utf8(payload, payload_length, at.width, at.position, at.count, name, sizeof name);
  *
  * with the string payload in place of `payload` where at.source is DWG_SOURCE_STRING. Some offices pad a name with a closing zero unit: at.padded says
- * so, and the characters are the same with it and without.
+ * so, and the characters are the same with it and without. Before DWG_R2007 accented letters are bytes of the drawing's code page; where that is 1252:
+ *
+ *     dwg_text_utf8_in_page(DWG_CODE_PAGE_1252, payload, payload_length, at.width, at.position, at.count, name, sizeof name);
  *
  * What goes to the lists, in reading order; a point is its x and y, an angle is in radians, a switch is 0 or 1:
  *
@@ -47,6 +49,7 @@
 
 #include "dwg_hatch_codes.h"
 #include "dwg_hatch_prefix.h"
+#include "dwg_hatch_texts.h"
 
 #ifdef __cplusplus
 extern "C" {

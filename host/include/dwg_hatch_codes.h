@@ -1,13 +1,13 @@
-/* Bit codes and texts of DWG drawings: the part of dwg_hatch.h that reads one code. Start with dwg_hatch.h.
+/* Bit codes of DWG drawings, refusals and releases: the part of dwg_hatch.h that reads one code. Start with dwg_hatch.h.
  *
- * What holds for every function of the three headers:
+ * What holds for every function of the four headers:
  *
  * - A payload is a pointer to its first byte and its length in bytes. Bits are numbered from 0, from the top bit of each byte. A start bit
  *   may be any number; one past the payload is refused at that bit, DWG_TOO_FEW_BITS (dwg_read_string_tv asks its end bit first).
  * - `release` is a number of DwgRelease; any other is refused, DWG_UNKNOWN_RELEASE.
  * - A payload above DWG_PAYLOAD_LIMIT bytes is refused, DWG_PAYLOAD_TOO_LONG, and none of its bytes is read.
  * - Every call comes to an end and gives one of two: the whole reading, with `refusal` 0, or a refusal: `refusal` is a number of
- *   DwgRefusal, the places say where the reading stopped, every other field is 0, and a lent list is unchanged.
+ *   DwgRefusal, the places say where the reading stopped, or are 0 where no bits are read, every other field is 0, and a lent list is unchanged.
  * - Asked of the caller, and nothing else is: a pointer is never null, also where its length is 0, is aligned for what it points to, and
  *   the whole length may be read, of a list also written; a payload or a list is at most PTRDIFF_MAX bytes; a list lies apart from every
  *   other list and payload of the call; nothing else writes to them during the call. Two payloads may overlap.
@@ -50,20 +50,21 @@ typedef enum DwgRelease {
 
 /* Why a reading stopped, or a call gave nothing: the numbers of the field `refusal`. */
 typedef enum DwgRefusal {
-    DWG_READ = 0,                    /* it did not stop: the reading is whole */
-    DWG_TOO_FEW_BITS = 1,            /* too few bits for the next read */
-    DWG_RESERVED_TAG = 2,            /* a BL or BD starts with the tag 11 */
-    DWG_COUNT_TOO_LARGE = 3,         /* a count is above its cap or above the bits left */
-    DWG_EDGE_KIND = 4,               /* an edge's kind is not 1 to 4 */
-    DWG_HANDLE_COUNTER = 5,          /* a handle's counter is above 8 */
-    DWG_TEXT_PAST_END = 6,           /* a string reader's text passes its end bit */
-    DWG_NOT_UTF16 = 7,               /* a text's 16-bit units are not UTF-16 */
-    DWG_TOO_MANY_XDATA_BLOCKS = 8,   /* 256 nonzero XDATA blocks */
-    DWG_UNKNOWN_RELEASE = 9,         /* the release is not 1 to 7 */
-    DWG_PAYLOAD_TOO_LONG = 10,       /* a payload is above DWG_PAYLOAD_LIMIT bytes */
-    DWG_LIST_TOO_SHORT = 11,         /* a lent list is too short for the hatch, or record and lists do not fit each other */
-    DWG_OTHER_PLANE = 12,            /* the extrusion is not (0, 0, 1) */
-    DWG_COORDINATE_OUT_OF_RANGE = 13 /* the origin or a coordinate to be moved is not a number within 2^40 of 0 */
+    DWG_READ = 0,                     /* it did not stop: the reading is whole */
+    DWG_TOO_FEW_BITS = 1,             /* too few bits for the next read */
+    DWG_RESERVED_TAG = 2,             /* a BL or BD starts with the tag 11 */
+    DWG_COUNT_TOO_LARGE = 3,          /* a count is above its cap or above the bits left */
+    DWG_EDGE_KIND = 4,                /* an edge's kind is not 1 to 4 */
+    DWG_HANDLE_COUNTER = 5,           /* a handle's counter is above 8 */
+    DWG_TEXT_PAST_END = 6,            /* a string reader's text passes its end bit */
+    DWG_NOT_UTF16 = 7,                /* a text's 16-bit units are not UTF-16 */
+    DWG_TOO_MANY_XDATA_BLOCKS = 8,    /* 256 nonzero XDATA blocks */
+    DWG_UNKNOWN_RELEASE = 9,          /* the release is not 1 to 7 */
+    DWG_PAYLOAD_TOO_LONG = 10,        /* a payload is above DWG_PAYLOAD_LIMIT bytes */
+    DWG_LIST_TOO_SHORT = 11,          /* a lent list is too short for the hatch or the converted text, or record and lists do not fit each other */
+    DWG_OTHER_PLANE = 12,             /* the extrusion is not (0, 0, 1) */
+    DWG_COORDINATE_OUT_OF_RANGE = 13, /* the origin or a coordinate to be moved is not a number within 2^40 of 0 */
+    DWG_UNDEFINED_CHARACTER = 14      /* a byte, or a unit on the way back, stands for nothing in code page 1252 */
 } DwgRefusal;
 
 /* What a refusal's number means, in a few words; never null, also for a number that is none of them. */
@@ -80,9 +81,10 @@ static inline const char *dwg_refusal_meaning(uint64_t refusal) {
     case DWG_TOO_MANY_XDATA_BLOCKS: return "there are 256 nonzero XDATA blocks, which is more than are read";
     case DWG_UNKNOWN_RELEASE: return "the release is not 1 to 7";
     case DWG_PAYLOAD_TOO_LONG: return "a payload is longer than 268,435,456 bytes";
-    case DWG_LIST_TOO_SHORT: return "a lent list is too short for the hatch, or record and lists do not fit each other";
+    case DWG_LIST_TOO_SHORT: return "a lent list is too short for the hatch or the converted text, or record and lists do not fit each other";
     case DWG_OTHER_PLANE: return "the hatch's extrusion is not (0, 0, 1), so it does not lie in the drawing's own plane";
     case DWG_COORDINATE_OUT_OF_RANGE: return "the origin or a coordinate to be moved is not a number within 1,099,511,627,776 (2^40) of 0";
+    case DWG_UNDEFINED_CHARACTER: return "a byte, or a unit on the way back, stands for nothing in code page 1252";
     default: return "this number is not in the table of refusals";
     }
 }
@@ -116,28 +118,6 @@ typedef struct DwgHandleAnswer {
     uint8_t counter;
     uint64_t value;
 } DwgHandleAnswer;
-
-/* The payloads that a text may lie in: the field `source`. */
-typedef enum DwgSource {
-    DWG_SOURCE_NONE = 0,  /* there is no text: the name of an absent gradient */
-    DWG_SOURCE_MAIN = 1,  /* the main payload */
-    DWG_SOURCE_STRING = 2 /* the string payload */
-} DwgSource;
-
-/* What a text gives: where it lies. dwg_text_utf8 below makes characters of it. Unit number i starts at bit `position` + i * `width` of its
- * payload; a unit of 16 bits has its low byte first. Empty text has the position after its length code, or the unmoved position.
- *
- * If the last unit is zero, that one unit is dropped: it is not counted, and `padded` is true. So one zero unit alone has count 0 and is padded, and of
- * two closing zeros one is counted. Not padded are a length of 0 and text from a string reader at or past its end bit. */
-typedef struct DwgTextAnswer {
-    uint64_t refusal;
-    size_t place;
-    uint8_t source;  /* a number of DwgSource */
-    uint8_t width;   /* the bits of a unit, 8 or 16 */
-    bool padded;     /* whether a closing zero unit was dropped */
-    size_t position; /* the bit position of the first unit */
-    size_t count;    /* the unit count, without a unit that was dropped */
-} DwgTextAnswer;
 
 /* ---- codes of `length` bytes at `s`, from bit `at` on. Each may be refused for DWG_PAYLOAD_TOO_LONG (place: `at`) and then for
  * DWG_TOO_FEW_BITS, and says what else refuses it; then `place` is the bit where the reading stopped, and all other fields are 0, a double
@@ -198,93 +178,10 @@ DwgCodeAnswer dwg_read_dd_bits(const uint8_t *s, size_t length, size_t at, uint6
 /* A handle: 4 bits code, 4 bits counter, counter bytes with the high one first. Also refused: DWG_HANDLE_COUNTER. */
 DwgHandleAnswer dwg_read_handle(const uint8_t *s, size_t length, size_t at);
 
-/* ---- texts */
-
-/* TV: inline text of a release, in 8-bit units before DWG_R2007 and 16-bit ones from then on. Refused, in this order: DWG_UNKNOWN_RELEASE and
- * DWG_PAYLOAD_TOO_LONG (place: `at`), DWG_TOO_FEW_BITS, DWG_NOT_UTF16; then source, width, padded, position and count are 0. */
-DwgTextAnswer dwg_read_tv(const uint8_t *s, size_t length, size_t at, uint64_t release);
-
-/* Text from a string reader that stands at bit `at` of a string payload and has the end bit `end`, which may be any number. At or past its
- * end bit the text is empty and `place` is `at`. Refused, in this order: DWG_PAYLOAD_TOO_LONG (place: `at`), DWG_TOO_FEW_BITS,
- * DWG_TEXT_PAST_END, DWG_NOT_UTF16; then source, width, padded, position and count are 0. */
-DwgTextAnswer dwg_read_string_tv(const uint8_t *s, size_t length, size_t at, size_t end);
-
-/* The unit of a text at a bit; the caller has seen that the payload has it. */
-static inline uint32_t dwg_unit_at(const uint8_t *s, uint8_t width, size_t bit) {
-    uint32_t shift = (uint32_t)(bit % 8), value = 0;
-    size_t bytes = width / 8u, i;
-    for (i = bytes; i > 0; i--) {
-        const uint8_t *at = s + bit / 8 + (i - 1);
-        uint32_t byte = shift == 0 ? at[0] : ((uint32_t)at[0] << shift | (uint32_t)at[1] >> (8 - shift)) & 255u;
-        value = value << 8 | byte;
-    }
-    return value;
-}
-
-/* The character of the unit at a bit, and of the one behind it where the two are a pair. `left` is how many units there are from here on, and
- * `*taken` becomes how many the character has. */
-static inline uint32_t dwg_character_at(const uint8_t *s, uint8_t width, size_t bit, size_t left, size_t *taken) {
-    uint32_t unit = dwg_unit_at(s, width, bit), next = left > 1 ? dwg_unit_at(s, width, bit + width) : 0;
-    *taken = 1;
-    if (width == 8) {
-        return unit > 0x7fu ? 0xfffdu : unit;
-    }
-    if ((unit & 0xf800u) != 0xd800u) {
-        return unit;
-    }
-    if (unit >= 0xdc00u || (next & 0xfc00u) != 0xdc00u) {
-        return 0xfffdu;
-    }
-    *taken = 2;
-    return 0x10000u + ((unit & 0x3ffu) << 10) + (next & 0x3ffu);
-}
-
-/* Puts a character's UTF-8 into four bytes, and gives how many it has. */
-static inline size_t dwg_put_utf8(uint32_t character, char bytes[4]) {
-    static const uint32_t first[] = {0, 0, 0xc0, 0xe0, 0xf0};
-    size_t count = character < 0x80u ? 1 : character < 0x800u ? 2 : character < 0x10000u ? 3 : 4, i;
-    for (i = count - 1; i > 0; i--) {
-        bytes[i] = (char)(0x80u | (character & 0x3fu));
-        character >>= 6;
-    }
-    bytes[0] = (char)(first[count] | character);
-    return count;
-}
-
-/* A text's characters as UTF-8 in a lent buffer, with a closing zero: whole characters, as many as fit. `s` is the payload that the text lies
- * in; width, position and count are the text's. Gives how many bytes the whole text has without the closing zero, so that the buffer was long
- * enough if this is below `size`; with `size` 0 nothing is written, and `buffer` may be null. Gives SIZE_MAX, and no characters, where the units
- * do not all lie in the payload, which then is another one.
- *
- * U+FFFD stands for an 8-bit unit above 7F, whose character hangs on the drawing's code page, and for a 16-bit unit that is half of a pair;
- * in a text that was read there is no such half. A zero among the units is a zero byte.
- *
- * A padded name and the same name without its zero give the same bytes, since the zero that was dropped is not counted; the text's `padded` says which
- * of the two it was. A name with a second closing zero is another one: it has a zero byte more. */
-static inline size_t dwg_text_utf8(const uint8_t *s, size_t length, uint8_t width, size_t position, size_t count, char *buffer, size_t size) {
-    size_t bits = length > SIZE_MAX / 8 ? SIZE_MAX : 8 * length, needed = 0, taken, i;
-    bool fits = size > 0;
-    if (fits) {
-        buffer[0] = 0;
-    }
-    if (count > 0 && ((width != 8 && width != 16) || position > bits || count > (bits - position) / width)) {
-        return SIZE_MAX;
-    }
-    for (i = 0; i < count; i += taken) {
-        char bytes[4];
-        size_t more = dwg_put_utf8(dwg_character_at(s, width, position + i * width, count - i, &taken), bytes);
-        fits = fits && more < size - needed;
-        if (fits) {
-            memcpy(buffer + needed, bytes, more);
-            buffer[needed + more] = 0;
-        }
-        needed += more;
-    }
-    return needed;
-}
-
 #ifdef __cplusplus
 }
 #endif
+
+#include "dwg_hatch_texts.h" /* for who includes this header alone */
 
 #endif

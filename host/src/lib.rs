@@ -26,7 +26,8 @@
 //! ```
 //!
 //! Some offices pad names with a closing zero. It is dropped, [`Text::padded`] says so, and [`Name::is_same_name`] takes names that differ in padding alone
-//! for one.
+//! for one. Before R2007 names are bytes of the drawing's code page, which is not in the body: [`Name::decoded`] has the characters of one where the page is
+//! known, as [`CodePage::Ansi1252`].
 //!
 //! Below them are inline text and text from a string reader ([`read_tv`], [`read_string_tv`]), and the codes of document 01's section on bitcursor.rs,
 //! each by its name.
@@ -34,6 +35,7 @@
 mod boundary;
 mod calls;
 
+pub use calls::code_pages::{cp1252_to_bytes, cp1252_to_units, CodePage, UnknownCodePage};
 pub use calls::codes::{
     read_3b, read_b, read_bb, read_bd, read_bd_bits, read_bl, read_bl_u, read_bll, read_bs, read_bs_u, read_dd, read_dd_bits, read_handle, read_rc,
     read_rd, read_rd_bits, read_rl, read_rs, Handle, Reading,

@@ -11,6 +11,8 @@ const SEEDS: &str = concat!(env!("CARGO_MANIFEST_DIR"), "/../crates/dwg_hatch/sr
 const GIVEN: &str = concat!(env!("CARGO_MANIFEST_DIR"), "/../crates/boundary/src/given.rt");
 const MOVE_ANSWERS: &str = concat!(env!("CARGO_MANIFEST_DIR"), "/../crates/boundary/src/moves.rt");
 const MOVES: &str = concat!(env!("CARGO_MANIFEST_DIR"), "/../crates/dwg_hatch/src/moves.rt");
+const CONVERSIONS: &str = concat!(env!("CARGO_MANIFEST_DIR"), "/../crates/boundary/src/conversions.rt");
+const CODE_PAGES: &str = concat!(env!("CARGO_MANIFEST_DIR"), "/../crates/dwg_hatch/src/code_pages.rt");
 const RUST: &str = concat!(env!("CARGO_MANIFEST_DIR"), "/src/boundary/ffi.rs");
 
 /// How a function starts in each text.
@@ -23,7 +25,7 @@ fn text(path: &str) -> String {
 
 /// The Rattle texts whose functions and structs cross the boundary, in ffi.rs's order.
 fn rattle() -> String {
-    [ANSWERS, LIB, COLORS, BODY_ANSWERS, BODIES, SEEDS, GIVEN, MOVE_ANSWERS, MOVES].map(text).join("\n")
+    [ANSWERS, LIB, COLORS, BODY_ANSWERS, BODIES, SEEDS, GIVEN, MOVE_ANSWERS, MOVES, CONVERSIONS, CODE_PAGES].map(text).join("\n")
 }
 
 fn lines(text: &str) -> Vec<&str> {
@@ -68,8 +70,8 @@ fn structs(text: &str) -> Vec<String> {
 #[test]
 fn functions_are_declared_as_they_are_exported() {
     let exported = functions(&rattle(), EXPORTED);
-    let starts = ["dwg_read_b(", "dwg_read_tv(", "dwg_read_string_tv(", "dwg_read_common_entity_data(", "dwg_hatch_decode(", "dwg_hatch_move_origin_bits("];
-    for start in starts {
+    let reads = ["dwg_read_b(", "dwg_read_tv(", "dwg_read_string_tv(", "dwg_read_common_entity_data(", "dwg_hatch_decode("];
+    for start in reads.iter().chain(&["dwg_hatch_move_origin_bits(", "dwg_cp1252_to_units(", "dwg_cp1252_to_bytes("]) {
         assert!(exported.iter().any(|function| function.starts_with(start)), "{start}");
     }
     assert_eq!(functions(&text(RUST), DECLARED), exported);
@@ -78,7 +80,7 @@ fn functions_are_declared_as_they_are_exported() {
 #[test]
 fn structs_have_the_fields_of_the_source() {
     let source = structs(&rattle());
-    for name in ["CodeAnswer", "TextAnswer", "PrefixFields", "GradientColorBits", "TextGiven", "BodyGiven"] {
+    for name in ["CodeAnswer", "TextAnswer", "PrefixFields", "GradientColorBits", "TextGiven", "BodyGiven", "ConversionAnswer"] {
         let start = format!("pub struct {name} {{");
         assert!(source.contains(&start), "{start}");
     }
@@ -140,6 +142,10 @@ fn edits_of_the_declarations_are_seen() {
         ("    pub name: TextGiven,\n", "    pub name: TextFields,\n"),
         ("words_length: usize,\n        numbers: *mut f64,", "words_length: usize,\n        numbers: *const f64,"),
         ("        x: u64,\n        y: u64,\n", "        y: u64,\n        x: u64,\n"),
+        ("units: *mut u16, units_length: usize)", "units: *const u16, units_length: usize)"),
+        ("units: *mut u16, units_length: usize)", "units: *mut u32, units_length: usize)"),
+        ("bytes: *mut u8, bytes_length: usize) -> ConversionAnswer", "bytes: *mut u8, bytes_length: usize) -> MoveAnswer"),
+        ("    pub string_place: usize,\n    pub count: usize,\n", "    pub string_place: usize,\n    pub count: u32,\n"),
         ("dwg_hatch_measure(main: *const u8, main_length: usize, start: usize, release: u64)", "dwg_hatch_measure(main: *const u8, main_length: usize, release: u64, start: usize)"),
     ];
     for (old, new) in edits {
@@ -150,12 +156,13 @@ fn edits_of_the_declarations_are_seen() {
     }
 }
 
-/// The constants of the C headers are the numbers that this library has: releases, the flags of paths, and the kinds of edges as a list of words has them.
+/// The constants of the C headers are the numbers that this library has: releases, code pages, the flags of paths, and the kinds of edges as a list of words
+/// has them.
 #[test]
 fn the_headers_constants_are_the_librarys() {
-    use dwg_hatch::{HatchEdge, Point2D, Release};
+    use dwg_hatch::{CodePage, HatchEdge, Point2D, Release};
     let folder = concat!(env!("CARGO_MANIFEST_DIR"), "/include");
-    let headers = ["dwg_hatch.h", "dwg_hatch_codes.h"].map(|name| text(&format!("{folder}/{name}"))).concat();
+    let headers = ["dwg_hatch.h", "dwg_hatch_codes.h", "dwg_hatch_texts.h"].map(|name| text(&format!("{folder}/{name}"))).concat();
     let constants: Vec<&str> = lines(&headers).into_iter().filter(|line| line.starts_with("DWG_")).collect();
     let has = |name: &str, number: u64| {
         let constant = format!("DWG_{name} = {number}");
@@ -165,6 +172,9 @@ fn the_headers_constants_are_the_librarys() {
         has(release.name(), release.number());
         let line = lines(&headers).into_iter().find(|line| line.starts_with(&format!("DWG_{release} "))).expect("a release");
         assert!(line.contains(release.signature()), "{line}");
+    }
+    for page in CodePage::ALL {
+        has(&format!("CODE_PAGE_{}", page.number()), u64::from(page.number()));
     }
     let flags = [dwg_hatch::FLAG_EXTERNAL, dwg_hatch::FLAG_POLYLINE, dwg_hatch::FLAG_DERIVED, dwg_hatch::FLAG_TEXTBOX, dwg_hatch::FLAG_OUTERMOST];
     for (name, flag) in ["EXTERNAL", "POLYLINE", "DERIVED", "TEXTBOX", "OUTERMOST"].iter().zip(flags) {

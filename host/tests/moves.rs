@@ -3,8 +3,7 @@
 mod layouts;
 
 use dwg_hatch::{
-    GivenHatch, GradientColor, HatchBody, HatchEdge, HatchPath, HatchPathSegments, PatternLine, Point2D, ReadHatch, Reason, Refusal, StringReader, TypedHatch,
-    Vertex,
+    GivenHatch, GradientColor, HatchBody, HatchEdge, HatchPath, HatchPathSegments, PatternLine, Point2D, ReadHatch, Reason, StringReader, TypedHatch, Vertex,
 };
 use layouts::{Numbers, Plan};
 
@@ -114,8 +113,8 @@ fn doubled(read: &ReadHatch<u64>) -> GivenHatch {
 /// A move that must be refused with this number, places 0 and the numbers as they were.
 fn refused(read: &ReadHatch<u64>, given: &GivenHatch<u64>, x: f64, y: f64, reason: Reason) {
     let mut numbers = read.numbers.clone();
-    let moved = given.move_origin(&read.words, &mut numbers, x.to_bits(), y.to_bits());
-    assert_eq!(moved, Err(Refusal { reason, place: 0, second_place: 0 }));
+    let refusal = given.move_origin(&read.words, &mut numbers, x.to_bits(), y.to_bits()).expect_err("a refusal");
+    assert_eq!((refusal.reason, refusal.place, refusal.second_place), (reason, 0, 0));
     assert_eq!(numbers, read.numbers);
 }
 

@@ -11,7 +11,7 @@ mod files;
 use std::collections::BTreeSet;
 use std::path::PathBuf;
 
-use dwg_hatch::{HatchEdge, HatchPathSegments, Point2D, TypedHatch};
+use dwg_hatch::{CodePage, HatchEdge, HatchPathSegments, Point2D, TypedHatch};
 use requests::Request;
 
 /// The repository's folder.
@@ -122,6 +122,30 @@ fn padded_names_are_the_same_names() {
     let list = "names that stand both padded and not: 1\n  pattern   \"DUCT-INSUL\": padded in 2 hatches, not padded in 1\n";
     assert!(String::from_utf8(output.stdout).expect("UTF-8").ends_with(list));
     assert!(text("README.md").contains(&list.replace("names", "    names").replace("  pattern", "      pattern")), "README has no such list");
+}
+
+/// Accented names before R2007, one of them again in 16-bit units, and one with a byte that stands for nothing; README shows what `read` says of them.
+#[test]
+fn accented_names_are_shown_by_their_page() {
+    let hatches = hatches("accented.txt");
+    let names = hatches.iter().map(|hatch| hatch.pattern_name.decoded(CodePage::Ansi1252).ok().map(|name| name.into_owned()));
+    let shown = [Some("K\u{fc}che"), Some("\u{20ac} 5"), Some("Estaci\u{f3}n"), Some("K\u{fc}che"), None];
+    assert!(names.eq(shown.iter().map(|name| name.map(str::to_string))));
+    assert_eq!(hatches.iter().map(|hatch| hatch.hatch.pattern_name.width).collect::<Vec<_>>(), [8, 8, 8, 16, 8]);
+    let [old, new] = [0, 3].map(|at| &hatches[at].pattern_name);
+    assert!(old.is_same_name_in(new, CodePage::Ansi1252) && !old.is_same_name(new));
+    let words = ["read", "--names", "--code-page", "1252", "samples/accented.txt"];
+    let output = calls::tool().args(words).current_dir(root()).output().expect("the tool starts");
+    assert!(output.status.success() && output.stderr.is_empty(), "{output:?}");
+    let printed = String::from_utf8(output.stdout).expect("UTF-8");
+    let lines: Vec<&str> = printed.lines().filter(|line| line.starts_with("  pattern ")).collect();
+    assert_eq!(lines.len(), 6);
+    let (readme, picture) = (text("README.md"), stored("accented.svg"));
+    assert!(lines.iter().all(|line| readme.contains(&format!("\n    {line}\n"))), "README does not show {lines:?}");
+    assert!(readme.contains(&format!("./dwg-hatch {}", words.join(" "))), "README has no such command");
+    let titles = ["2: K\u{fc}che", "4: \u{20ac} 5", "6: Estaci\u{f3}n", "8: K\u{fc}che", "10: D\\x81N"];
+    assert!(titles.iter().all(|title| picture.contains(&format!("<title>samples/accented.txt:{title}</title>"))));
+    assert!(titles.iter().all(|title| picture.contains(&format!(">{title}</text>"))));
 }
 
 /// The ends of an edge in doubles, or computed from its numbers in single precision.

@@ -48,6 +48,6 @@ fn unsafe_code_stands_in_few_files() {
     let name = |path: &PathBuf| path.strip_prefix(&source).expect("below src").display().to_string();
     let mut names: Vec<String> = files(&source).iter().filter(|path| is_unsafe(path)).map(name).collect();
     names.sort();
-    let calls = ["codes", "hatch_record", "hatches", "moves", "prefixes", "texts"].map(|name| format!("calls/{name}.rs"));
+    let calls = ["code_pages", "codes", "hatch_record", "hatches", "moves", "prefixes", "texts"].map(|name| format!("calls/{name}.rs"));
     assert_eq!(names, [&calls[..], &["commands/streams.rs".to_string()]].concat());
 }

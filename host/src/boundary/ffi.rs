@@ -1,7 +1,7 @@
 //! The exported C functions of crates/dwg_hatch, the structs of crates/boundary that they answer with or take, and nothing else.
 //!
 //! No compiler checks these declarations against the Rattle source: a wrong one would be undefined behaviour. So they are few, they
-//! stand here alone, in the order of lib.rt, bodies.rt, seeds.rt and moves.rt, and `host/tests/boundary.rs` compares the texts.
+//! stand here alone, in the order of lib.rt, bodies.rt, seeds.rt, moves.rt and code_pages.rt, and `host/tests/boundary.rs` compares the texts.
 //!
 //! A Rattle `&[u8]` is a pointer and a length; the pointer is never null, also where there are no bytes. A `&mut [u64]` is the same, and
 //! its entries may be written.
@@ -318,6 +318,15 @@ pub struct MoveAnswer {
     pub string_place: usize,
 }
 
+/// What a conversion gives: the refusal's number or 0; the places, which are 0; and how many entries of the output were written, or 0.
+#[repr(C)]
+pub struct ConversionAnswer {
+    pub refusal: u64,
+    pub place: usize,
+    pub string_place: usize,
+    pub count: usize,
+}
+
 unsafe extern "C" {
     pub fn dwg_read_b(s: *const u8, length: usize, at: usize) -> CodeAnswer;
     pub fn dwg_read_bb(s: *const u8, length: usize, at: usize) -> CodeAnswer;
@@ -419,6 +428,8 @@ unsafe extern "C" {
         x: u64,
         y: u64,
     ) -> MoveAnswer;
+    pub fn dwg_cp1252_to_units(bytes: *const u8, bytes_length: usize, units: *mut u16, units_length: usize) -> ConversionAnswer;
+    pub fn dwg_cp1252_to_bytes(units: *const u16, units_length: usize, bytes: *mut u8, bytes_length: usize) -> ConversionAnswer;
 }
 
 #[cfg(test)]

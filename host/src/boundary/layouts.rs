@@ -86,3 +86,10 @@ fn a_given_hatch_lies_as_an_answer_does() {
     assert_eq!(size_of::<MoveAnswer>(), 24);
     assert_eq!([offset_of!(MoveAnswer, refusal), offset_of!(MoveAnswer, place), offset_of!(MoveAnswer, string_place)], [0, 8, 16]);
 }
+
+#[test]
+fn a_conversion_lies_as_c_lays_it() {
+    assert_eq!(size_of::<ConversionAnswer>(), 32);
+    assert_eq!([offset_of!(ConversionAnswer, refusal), offset_of!(ConversionAnswer, place)], [0, 8]);
+    assert_eq!([offset_of!(ConversionAnswer, string_place), offset_of!(ConversionAnswer, count)], [16, 24]);
+}

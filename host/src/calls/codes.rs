@@ -1,11 +1,11 @@
 //! One code at a time: the payload's bytes and a start bit in, the value and the place after it out.
 //!
-//! Every function refuses a payload above the limit ([`Reason::PayloadTooLong`]) and then a start past the payload ([`Reason::TooFewBits`]), as
+//! Every function refuses a payload above the limit ([`Reason::PayloadTooLong`](crate::Reason)) and then a start past the payload (`TooFewBits`), as
 //! document 01's calls do. The value
 //! and the place, or the refusal, are what the function's contract in crates/dwg_hatch states.
 
 use crate::boundary::ffi::{self, CodeAnswer, DoubleAnswer, SignedAnswer};
-use super::refusal::{Reason, Refusal};
+use super::refusal::Refusal;
 
 /// A value and the place after it, or why there is none.
 pub type Reading<T> = Result<(T, usize), Refusal>;
@@ -229,7 +229,7 @@ fn double(entry: unsafe extern "C" fn(*const u8, usize, usize) -> DoubleAnswer, 
 pub(crate) fn reading<T>(refusal: u64, place: usize, value: T) -> Reading<T> {
     match refusal {
         0 => Ok((value, place)),
-        number => Err(Refusal { reason: Reason::of(number), place, second_place: 0 }),
+        number => Err(Refusal::of_reading(number, place, 0)),
     }
 }
 

@@ -10,7 +10,7 @@ use crate::boundary::ffi;
 pub use super::hatch_record::{GradientColor, GradientFill, Hatch, Lengths, Places, ReadHatch};
 use super::hatch_record::{color, fill, hatch};
 use super::kept;
-use super::refusal::{Reason, Refusal};
+use super::refusal::Refusal;
 use super::release::Release;
 
 /// A string reader that is lent to a call: the texts of a hatch come from it, at every release.
@@ -156,7 +156,7 @@ impl<'a> HatchBody<'a> {
 fn accepted(number: u64, places: Places) -> Result<(), Refusal> {
     match number {
         0 => Ok(()),
-        number => Err(Refusal { reason: Reason::of(number), place: places.main, second_place: places.string }),
+        number => Err(Refusal::of_reading(number, places.main, places.string)),
     }
 }
 
@@ -171,7 +171,7 @@ mod tests {
     fn both_entries_refuse_alike_and_leave_the_lists() {
         let cases = [(&[0xc0][..], 3, 2, 2), (&[0xa9, 0xa7, 0xfc], 2, 3, 22), (&[], 2, 1, 0), (&[0xa9], 8, 9, 0)];
         for (payload, release, number, place) in cases {
-            let refusal = Refusal { reason: Reason::of(number), place, second_place: 0 };
+            let refusal = Refusal::of_reading(number, place, 0);
             let body = HatchBody { payload, start: 0, release_number: release, strings: None };
             assert_eq!(body.measure(), Err(refusal));
             let (mut numbers, mut bits, mut words) = ([1.0; 2], [1; 2], [1; 2]);

@@ -1,5 +1,6 @@
 //! Safe calls over the boundary. They know nothing of the tool.
 
+pub(crate) mod code_pages;
 pub(crate) mod codes;
 pub(crate) mod given;
 mod hatch_record;

@@ -6,7 +6,7 @@ use super::codes::OUTSIDE;
 use super::given::GivenHatch;
 use super::hatch_record::{Hatch, ReadHatch};
 use super::outline_lists::{Counts, Rest};
-use super::refusal::{Reason, Refusal};
+use super::refusal::Refusal;
 use super::texts::{Source, Text};
 use super::typed::TypedHatch;
 use crate::boundary::ffi::{self, FieldsGiven, MoveAnswer, TextGiven};
@@ -160,7 +160,7 @@ fn moved(answer: MoveAnswer) -> Result<(), Refusal> {
     assert_eq!((answer.place, answer.string_place), (0, 0), "{OUTSIDE}");
     match answer.refusal {
         0 => Ok(()),
-        number @ 11..=13 => Err(Refusal { reason: Reason::of(number), place: 0, second_place: 0 }),
+        number @ 11..=13 => Err(Refusal::of_given_hatch(number)),
         _ => panic!("{OUTSIDE}"),
     }
 }

@@ -195,7 +195,7 @@ mod tests {
     fn both_entries_refuse_alike() {
         let cases = [(&[0x85][..], 0, 8, 9, 0), (&[], 0, 2, 1, 0), (&[0x86], 0, 2, 2, 7), (&[], 3, 2, 1, 3)];
         for (payload, start, release, number, place) in cases {
-            let refusal = crate::Refusal { reason: crate::Reason::of(number), place, second_place: 0 };
+            let refusal = crate::Refusal::of_reading(number, place, 0);
             assert_eq!(read_common_entity_data(payload, start, release), Err(refusal));
             assert_eq!(read_common_entity_bits(payload, start, release), Err(refusal));
         }

@@ -28,27 +28,31 @@ pub enum Reason {
     UnknownRelease = 9,
     /// A payload is longer than 268,435,456 bytes.
     PayloadTooLong = 10,
-    /// The hatch is readable, but a lent list is too short for it. Of a call that takes a hatch: record and lists do not fit each other.
+    /// The hatch is readable, but a lent list is too short for it. Of a call that takes a hatch: record and lists do not fit each other. Of a call that
+    /// converts a text: the output is shorter than the input.
     ListTooShort = 11,
     /// The extrusion is not (0, 0, 1), so that the hatch does not lie in the drawing's own plane.
     OtherPlane = 12,
     /// The origin or a coordinate to be moved is not a number from -2^40 to 2^40.
     CoordinateOutOfRange = 13,
+    /// A byte stands for no character in code page 1252; on the way back, a unit is none of its characters.
+    UndefinedCharacter = 14,
 }
 
-/// What number 11 means where a hatch was read, and where one was handed over.
+/// What number 11 means where a hatch was read, where one was handed over, and where a text was converted.
 const SHORT: [&str; 2] = ["the hatch is readable, but a lent list is too short for it", "lend longer lists and read again"];
 const UNFIT: [&str; 2] = [
     "record and lists do not fit each other: a count is above its cap, a switch is not 0 or 1, an edge's kind is not 1 to 4, or the counts do not come to \
      the lengths used",
     "hand over record and lists as they were read; doubles alone may be altered",
 ];
+const NARROW: [&str; 2] = ["the output is shorter than the input", "lend an output that is as long as the input"];
 
 const CHECK: &str = "check the release and the start bit, else the payload is damaged";
 
 impl Reason {
     /// Every row of the table, in its order. A test looks that the C header has the same.
-    const ALL: [Reason; 13] = [
+    const ALL: [Reason; 14] = [
         Reason::TooFewBits,
         Reason::ReservedTag,
         Reason::CountTooLarge,
@@ -62,6 +66,7 @@ impl Reason {
         Reason::ListTooShort,
         Reason::OtherPlane,
         Reason::CoordinateOutOfRange,
+        Reason::UndefinedCharacter,
     ];
 
     /// The row's number, which the line protocol and the C boundary have.
@@ -95,9 +100,10 @@ impl Reason {
             Reason::TooManyXdataBlocks => "there are 256 nonzero XDATA blocks, which is more than are read",
             Reason::UnknownRelease => "the release is not 1 to 7",
             Reason::PayloadTooLong => "a payload is longer than 268,435,456 bytes",
-            Reason::ListTooShort => "a lent list is too short for the hatch, or record and lists do not fit each other",
+            Reason::ListTooShort => "a lent list is too short for the hatch or the converted text, or record and lists do not fit each other",
             Reason::OtherPlane => "the hatch's extrusion is not (0, 0, 1), so it does not lie in the drawing's own plane",
             Reason::CoordinateOutOfRange => "the origin or a coordinate to be moved is not a number within 1,099,511,627,776 (2^40) of 0",
+            Reason::UndefinedCharacter => "a byte, or a unit on the way back, stands for nothing in code page 1252",
         }
     }
 
@@ -114,9 +120,10 @@ impl Reason {
             Reason::NotUtf16 => "check the release, and the start bit of the payload that holds the text, else that payload is damaged",
             Reason::UnknownRelease => "name a release from 1 (R14) to 7 (R2018)",
             Reason::PayloadTooLong => "lend only the object's own bytes",
-            Reason::ListTooShort => "lend longer lists and read again, or hand over record and lists as they were read",
+            Reason::ListTooShort => "lend longer lists and call again, or hand over record and lists as they were read",
             Reason::OtherPlane => "leave its coordinates as they are, or turn them into the drawing's own plane first",
             Reason::CoordinateOutOfRange => "check the origin; else the coordinate is damaged, or was read with a wrong release or start bit",
+            Reason::UndefinedCharacter => "show the units as they are, or look for the drawing's own code page",
         }
     }
 }
@@ -144,9 +151,37 @@ pub struct Refusal {
     pub place: usize,
     /// Where the string payload's reading stopped; 0 without a string reader.
     pub second_place: usize,
+    /// Which kind of call gave it.
+    call: Call,
+}
+
+/// The kinds of calls. Number 11 means something else of each, and where no bits are read there is no bit to name.
+#[derive(Clone, Copy, PartialEq, Eq)]
+enum Call {
+    /// It reads bits.
+    Reads,
+    /// It takes a hatch that was read.
+    TakesHatch,
+    /// It converts a text.
+    Converts,
 }
 
 impl Refusal {
+    /// The refusal of a call that reads bits, by its number.
+    pub(crate) fn of_reading(number: u64, place: usize, second_place: usize) -> Refusal {
+        Refusal { reason: Reason::of(number), place, second_place, call: Call::Reads }
+    }
+
+    /// That of a call that takes a hatch. Its places are 0.
+    pub(crate) fn of_given_hatch(number: u64) -> Refusal {
+        Refusal { reason: Reason::of(number), place: 0, second_place: 0, call: Call::TakesHatch }
+    }
+
+    /// That of a call that converts a text. Its places are 0.
+    pub(crate) fn of_conversion(number: u64) -> Refusal {
+        Refusal { reason: Reason::of(number), place: 0, second_place: 0, call: Call::Converts }
+    }
+
     /// The reason's number.
     pub fn number(&self) -> u64 {
         self.reason.number()
@@ -162,24 +197,20 @@ impl Refusal {
         self.of_eleven().map_or_else(|| self.reason.advice(), |texts| texts[1])
     }
 
-    /// Whether bits were read: a call that takes a hatch reads none, and then the places are 0. A hatch that is readable ends behind bit 0.
-    fn reads_bits(&self) -> bool {
-        match self.reason {
-            Reason::OtherPlane | Reason::CoordinateOutOfRange => false,
-            Reason::ListTooShort => self.place != 0,
-            _ => true,
-        }
-    }
-
     fn of_eleven(&self) -> Option<[&'static str; 2]> {
-        (self.reason == Reason::ListTooShort).then_some(if self.reads_bits() { SHORT } else { UNFIT })
+        let texts = match self.call {
+            Call::Reads => SHORT,
+            Call::TakesHatch => UNFIT,
+            Call::Converts => NARROW,
+        };
+        (self.reason == Reason::ListTooShort).then_some(texts)
     }
 }
 
 impl fmt::Display for Refusal {
     fn fmt(&self, f: &mut fmt::Formatter<'_>) -> fmt::Result {
         write!(f, "refusal {}", self.number())?;
-        if self.reads_bits() {
+        if self.call == Call::Reads {
             write!(f, " at bit {}", self.place)?;
         }
         if self.second_place != 0 {
@@ -233,21 +264,23 @@ mod tests {
         Reason::of(Reason::ALL.len() as u64 + 1);
     }
 
-    /// Number 11 says which of its two it is, and a call that reads no bits has no bit to name.
+    /// Number 11 says which of its three it is, and a call that reads no bits has no bit to name.
     #[test]
     fn a_refusal_says_what_holds_of_it() {
-        let told = |reason, place| Refusal { reason, place, second_place: 0 }.to_string();
-        let short = told(Reason::ListTooShort, 156);
+        let short = Refusal::of_reading(11, 156, 0).to_string();
         assert_eq!(short, "refusal 11 at bit 156: the hatch is readable, but a lent list is too short for it; lend longer lists and read again");
-        assert!(told(Reason::ListTooShort, 0).starts_with("refusal 11: record and lists do not fit each other: a count "));
-        assert!(told(Reason::OtherPlane, 0).starts_with("refusal 12: the hatch's extrusion is not (0, 0, 1), "));
-        assert!(told(Reason::CoordinateOutOfRange, 0).starts_with("refusal 13: the origin or a coordinate to be moved is not a number "));
-        assert!(told(Reason::TooFewBits, 0).starts_with("refusal 1 at bit 0: "));
+        let narrow = Refusal::of_conversion(11).to_string();
+        assert_eq!(narrow, "refusal 11: the output is shorter than the input; lend an output that is as long as the input");
+        assert!(Refusal::of_given_hatch(11).to_string().starts_with("refusal 11: record and lists do not fit each other: a count "));
+        assert!(Refusal::of_given_hatch(12).to_string().starts_with("refusal 12: the hatch's extrusion is not (0, 0, 1), "));
+        assert!(Refusal::of_given_hatch(13).to_string().starts_with("refusal 13: the origin or a coordinate to be moved is not a number "));
+        assert!(Refusal::of_conversion(14).to_string().starts_with("refusal 14: a byte, or a unit on the way back, stands for nothing in "));
+        assert!(Refusal::of_reading(1, 0, 0).to_string().starts_with("refusal 1 at bit 0: "));
     }
 
     #[test]
     fn a_second_place_is_displayed() {
-        let refusal = Refusal { reason: Reason::TextPastEnd, place: 8, second_place: 10 };
+        let refusal = Refusal::of_reading(6, 8, 10);
         assert!(refusal.to_string().starts_with("refusal 6 at bit 8 of the main payload and bit 10 of the string payload: a text"));
     }
 }

@@ -2,7 +2,8 @@
 //!
 //! A text is handed over as document 01 has it, without characters: which payload, the bits of a unit, the bit position of the first unit
 //! and the unit count; and whether a closing zero unit was dropped. [`Text::units`] takes the units out of the payload, [`Text::characters`]
-//! makes a `String` of 16-bit ones. What character an 8-bit unit stands for hangs on the drawing's code page, and is left to the caller.
+//! makes a `String` of 16-bit ones. What character an 8-bit unit stands for hangs on the drawing's code page, which the caller knows
+//! ([`CodePage`](crate::CodePage)).
 
 use crate::boundary::ffi::{self, TextAnswer};
 use super::codes::{reading, Reading, OUTSIDE};

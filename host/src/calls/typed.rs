@@ -14,7 +14,7 @@ use super::texts::{Source, Text};
 /// A text taken out of its payload. Where it lies, and whether it is padded, is in the record.
 #[derive(Clone, Debug, PartialEq, Eq, Hash)]
 pub enum Name {
-    /// 8-bit units: inline text before release 4. What characters they are hangs on the drawing's code page.
+    /// 8-bit units: inline text before release 4. What characters they are hangs on the drawing's code page ([`Name::decoded`]).
     Bytes(Vec<u8>),
     /// 16-bit units, which are UTF-16.
     Characters(String),
@@ -42,7 +42,7 @@ impl Name {
     ///
     /// Names are compared by their characters, whatever the bits of a unit: 8-bit units that are all below 80 (hexadecimal) are ASCII, and the same name as
     /// the 16-bit units of these characters. Other 8-bit units are characters of a code page that is not in the body: such a name is the same as another of
-    /// the very same units alone.
+    /// the very same units alone. [`Name::is_same_name_in`] compares where the page is known.
     ///
     /// ```
     /// use dwg_hatch::{read_hatch, Release};

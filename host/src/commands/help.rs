@@ -34,7 +34,7 @@ command or a line is wrong.
 pub const READ_HELP: &str = "\
 Reads hatch bodies and entity prefixes, and prints a summary of each, or everything as JSON.
 
-usage: dwg-hatch read [--json] [--names] [--quiet] [--jobs N] [--origin X,Y|auto] [FILE]
+usage: dwg-hatch read [--json] [--names] [--quiet] [--jobs N] [--origin X,Y|auto] [--code-page 1252] [FILE]
        dwg-hatch read [OPTION]... --release N [--start BIT] [--strings FILE [--string-start BIT] [--string-end BIT]] [FILE]
 
   --json               print one JSON object a line for each request, with every field; docs/JSON.md has their names.
@@ -51,6 +51,9 @@ usage: dwg-hatch read [--json] [--names] [--quiet] [--jobs N] [--origin X,Y|auto
                        extrusion is not (0, 0, 1), 13 if a coordinate is not within 1099511627776 (2^40) of 0
   --origin auto        the same with a whole multiple of 1000 near the middle of all hatches, which is told on standard
                        error; FILE is gone through twice
+  --code-page 1252     show names of 8-bit units, which those before R2007 are, as characters of Windows code page 1252, and
+                       compare them so by --names. A name with a byte that the page leaves undefined (81, 8D, 8F, 90, 9D) is
+                       shown as its units, as all names that are not ASCII are without this option. ANSI_1252 is the same page
   --release N          the file is binary and holds a hatch body of this release: 1 R14, 2 R2000, 3 R2004, 4 R2007,
                        5 R2010, 6 R2013, 7 R2018; its name will do too, as R2000, or how a drawing of it begins, as AC1015
   --start BIT          where the body starts in it, in bits from its first byte's top bit; 0 if not given
@@ -98,7 +101,7 @@ points as crosses. Coordinates of the drawing stand at the frame with a scale ba
 the number of its request line and its pattern's name.
 
 usage: dwg-hatch draw [--output FILE] [--view X,Y,WIDTH,HEIGHT] [--only LINE] [--width PIXELS] [--max-lines N] [--single]
-                      [--origin X,Y|auto] [FILE]
+                      [--origin X,Y|auto] [--code-page 1252] [FILE]
        dwg-hatch draw [OPTION]... --release N [--start BIT] [--strings FILE [--string-start BIT] [--string-end BIT]] [FILE]
 
   --output FILE              write the picture to this file and not to standard output. It is written whole or not at all:
@@ -114,6 +117,7 @@ usage: dwg-hatch draw [--output FILE] [--view X,Y,WIDTH,HEIGHT] [--only LINE] [-
                              --view are counted from there, and --single narrows what is left. The origin stands in the picture
   --origin auto              the same with a whole multiple of 1000 near the middle of what is drawn, which is told on standard
                              error too; FILE is gone through once more
+  --code-page 1252           write names of 8-bit units as characters of Windows code page 1252, as dwg-hatch read --help says
 
 Where the input is, its request lines, whole drawings and the options for a binary file are as dwg-hatch read --help has them. Lines with a
 prefix have no outlines and are passed over. No file of the input is written to.
@@ -164,6 +168,8 @@ usage: dwg-hatch answer [--f64] [--jobs N]
   hatch REL START HEX [L NWORDS NNUMBERS]                          one hatch body of the release
   hatchs REL START HEX STRSTART STREND STRHEX [L NWORDS NNUMBERS]  one with a string reader
   move X Y [NAME=VALUE]...                                         the origin of a hatch moved to X, Y
+  cp1252 HEX [L ROOM]                                              bytes of code page 1252 as 16-bit units
+  uncp1252 UNITS [L ROOM]                                          the way back
 
 REL is the release, 1 to 7 (of a prefix or a hatch any number), START the start bit. HEX is bytes in hexadecimal, - for
 no bytes, zN for N zero bytes. L gives the lengths of the lent lists; without it they are long enough.
@@ -176,6 +182,9 @@ is empty, and a colour is DOUBLE/SHORT/RGB/BYTE.
 A move takes X and Y as 16 hexadecimal digits, and the fields of a hatch's answer as they were printed, in any order; a
 missing one is 0, absent or empty, and nw and nn are then the lengths of words and nums. solid, assoc and pdouble may be
 0 to 255. It is answered `ok 0 0 nums=LIST`, every entry of nums afterwards, or `err NUMBER 0 0`.
+A conversion takes HEX, here at most 268435456 bytes as zN, or UNITS of four hexadecimal digits each, - for none. L gives the
+length of its output; without it that is the input's. It is answered `ok COUNT UNITS`, or `ok COUNT HEX` on the way back, or
+`err NUMBER 0 0`: 14 for an entry that the page leaves undefined, then 11 for an output that is shorter than the input.
 A reading is answered `ok PLACE VALUE`, a refusal `err NUMBER PLACE PLACE2`, the second place 0 without a reader,
 and a line that is no request `bad request`.
 ";

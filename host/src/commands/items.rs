@@ -184,7 +184,9 @@ fn item(name: &str, number: u64, line: &[u8]) -> Result<Item, Failure> {
     match crate::protocol::request::parse(line) {
         Some(Request::Hatch(request)) => Ok(Item { origin, line: Some(number), entry: Entry::Hatch(request) }),
         Some(Request::Prefix(request)) => Ok(Item { origin, line: Some(number), entry: Entry::Prefix(request) }),
-        Some(Request::Code(_) | Request::Text(_) | Request::Move(_)) | None => Err(Failure::Usage(format!("{origin}: {}", lines::why_not(line)))),
+        Some(Request::Code(_) | Request::Text(_) | Request::Move(_) | Request::Conversion(_)) | None => {
+            Err(Failure::Usage(format!("{origin}: {}", lines::why_not(line))))
+        }
     }
 }
 

@@ -41,6 +41,9 @@ pub fn why_not(line: &[u8]) -> String {
             format!("{} is a single code, which dwg-hatch answer reads; here a line is hatch, hatchs or prefix", shown(name))
         }
         b"move" => "move is what dwg-hatch answer does; here a line is hatch, hatchs or prefix, and --origin X,Y moves what is read".to_string(),
+        b"cp1252" | b"uncp1252" => {
+            format!("{} is what dwg-hatch answer does; here a line is hatch, hatchs or prefix, and --code-page 1252 shows accented names", shown(name))
+        }
         name => no_such_request(name),
     }
 }
@@ -100,5 +103,7 @@ mod tests {
         assert_eq!(why_not(b"hatch 2 x A9"), "START is \"x\", which is no decimal number from 0 to 18446744073709551615");
         assert_eq!(why_not(b"bs 2 0 3FFFC0"), "bs is a single code, which dwg-hatch answer reads; here a line is hatch, hatchs or prefix");
         assert!(why_not(b"move 0 0").ends_with("here a line is hatch, hatchs or prefix, and --origin X,Y moves what is read"));
+        assert!(why_not(b"uncp1252 0041").starts_with("uncp1252 is what dwg-hatch answer does; "));
+        assert!(why_not(b"cp1252 41").ends_with("here a line is hatch, hatchs or prefix, and --code-page 1252 shows accented names"));
     }
 }

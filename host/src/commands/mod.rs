@@ -15,6 +15,7 @@ pub mod options;
 pub mod origin;
 pub mod out_file;
 pub mod read;
+pub mod spelling;
 pub mod streams;
 pub mod warnings;
 pub mod written;

@@ -37,6 +37,7 @@ impl Answerer {
             Some(Request::Prefix(request)) => self.prefix(&request),
             Some(Request::Hatch(request)) => self.hatch(&request),
             Some(Request::Move(request)) => self.moved(*request),
+            Some(Request::Conversion(request)) => request.line(&mut self.zeros).unwrap_or_else(|refusal| refused(&refusal)),
             None => BAD_REQUEST.to_string(),
         }
     }

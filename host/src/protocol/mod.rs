@@ -2,6 +2,7 @@
 
 pub mod answer;
 pub mod batches;
+pub mod conversions;
 pub mod given;
 pub mod hatch_form;
 pub mod lists;

@@ -2,6 +2,7 @@
 
 use dwg_hatch::{HatchBody, Release, StringReader};
 
+use crate::protocol::conversions::ConversionRequest;
 use crate::protocol::given::Given;
 use crate::protocol::payload::{Payload, Zeros};
 
@@ -18,6 +19,8 @@ pub enum Request {
     Hatch(HatchRequest),
     /// `move`: the origin of a hatch that is handed over.
     Move(Box<MoveRequest>),
+    /// `cp1252` or `uncp1252`: a text to be converted.
+    Conversion(ConversionRequest),
 }
 
 /// A single code. Its release is 1 to 7 and changes nothing.
@@ -144,6 +147,8 @@ pub fn parse(line: &[u8]) -> Option<Request> {
             hatch([release, start, main], Some(strings), lent)
         }
         [b"move", x, y, fields @ ..] => Some(Request::Move(Box::new(MoveRequest { x: pattern(x)?, y: pattern(y)?, given: Given::parse(fields)? }))),
+        [b"cp1252", fields @ ..] => ConversionRequest::of_bytes(fields).map(Request::Conversion),
+        [b"uncp1252", fields @ ..] => ConversionRequest::of_units(fields).map(Request::Conversion),
         [b"prefix", release, start, main] => prefix([release, start, main]),
         [b"tv", release, start, main] => text([release, start, main]),
         [b"dd", release, start, main, default] => code(Code::Dd(pattern(default)?), [release, start, main]),

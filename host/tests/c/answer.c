@@ -1,4 +1,4 @@
-/* Codes, texts and prefixes: each by both of its entries where there are two. */
+/* Codes, texts, prefixes and texts converted: each by both of its entries where there are two. */
 #include "calls.h"
 
 #include <string.h>
@@ -107,6 +107,70 @@ static void put_prefix(Line *line, const Request *r) {
     put_prefix_fields(line, &bits.fields, bits.ltype_scale);
 }
 
+/* As long as the request says, but no longer than one more than is needed, since it may name any length. */
+static size_t lent_room(const Request *r, size_t needed) {
+    return !r->lent ? needed : r->room < needed + 1 ? r->room : needed + 1;
+}
+
+/* What a conversion says, and what it leaves: `same` says that the entry at an index is as it was before. */
+static bool is_converted(Line *line, DwgConversionAnswer a, size_t needed, size_t room, bool (*same)(const void *, size_t), const void *output) {
+    claim(a.place == 0 && a.string_place == 0, "a conversion has no places");
+    claim(a.count == (a.refusal == 0 ? needed : 0), "each entry is converted, or none is");
+    claim(a.refusal == 0 || a.refusal == DWG_UNDEFINED_CHARACTER || a.refusal == DWG_LIST_TOO_SHORT, "a conversion is refused for two reasons alone");
+    claim(a.refusal == 0 ? needed <= room : a.refusal != DWG_LIST_TOO_SHORT || needed > room, "a shorter output is refused, and no other");
+    for (size_t i = a.count; i < room; i++) {
+        claim(same(output, i), "an entry past those written, and each on a refusal, keeps every bit");
+    }
+    if (a.refusal != 0) {
+        put_refusal(line, a.refusal, a.place, a.string_place);
+        return false;
+    }
+    put(line, "ok %zu %s", a.count, a.count == 0 ? "-" : "");
+    return true;
+}
+
+#define UNIT_MARK 0x5a5au
+#define BYTE_MARK 0x5au
+
+static bool is_unit_mark(const void *units, size_t at) {
+    return ((const uint16_t *)units)[at] == UNIT_MARK;
+}
+
+static bool is_byte_mark(const void *bytes, size_t at) {
+    return ((const uint8_t *)bytes)[at] == BYTE_MARK;
+}
+
+static void put_units(Line *line, const Request *r) {
+    size_t count = r->main.length, room = lent_room(r, count);
+    uint16_t *units = (uint16_t *)lend(SLOT_UNITS, 2 * room);
+    for (size_t i = 0; i < room; i++) {
+        units[i] = UNIT_MARK;
+    }
+    if (is_converted(line, dwg_cp1252_to_units(r->main.bytes, count, units, room), count, room, is_unit_mark, units)) {
+        for (size_t i = 0; i < count; i++) {
+            put_unit(line, units[i], 16);
+        }
+    }
+    take_back(SLOT_UNITS, units);
+}
+
+static void put_bytes(Line *line, const Request *r) {
+    size_t count = r->main.length / 2, room = lent_room(r, count);
+    uint16_t *units = (uint16_t *)lend(SLOT_UNITS, 2 * count);
+    uint8_t *bytes = (uint8_t *)lend(SLOT_BYTES, room);
+    for (size_t i = 0; i < count; i++) {
+        units[i] = (uint16_t)(r->main.bytes[2 * i] | r->main.bytes[2 * i + 1] << 8);
+    }
+    memset(bytes, BYTE_MARK, room);
+    if (is_converted(line, dwg_cp1252_to_bytes(units, count, bytes, room), count, room, is_byte_mark, bytes)) {
+        for (size_t i = 0; i < count; i++) {
+            put_unit(line, bytes[i], 8);
+        }
+    }
+    take_back(SLOT_UNITS, units);
+    take_back(SLOT_BYTES, bytes);
+}
+
 void answer(const Request *r, Line *line) {
     const uint8_t *s = r->main.bytes;
     size_t n = r->main.length, at = r->start;
@@ -133,6 +197,8 @@ void answer(const Request *r, Line *line) {
     case KIND_HATCH:
     case KIND_HATCHS: answer_hatch(r, line); break;
     case KIND_MOVE: answer_move(r, line); break;
+    case KIND_CP1252: put_units(line, r); break;
+    case KIND_UNCP1252: put_bytes(line, r); break;
     default: claim(false, "a request has a kind");
     }
 }

@@ -8,7 +8,7 @@
 /* The kinds of requests, in the protocol's order of names; KIND_STRING_TV, text from a string reader alone, is the fuzzer's. */
 typedef enum Kind {
     KIND_B, KIND_BB, KIND_3B, KIND_BS, KIND_BSU, KIND_BL, KIND_BLU, KIND_BD, KIND_BLL, KIND_RC, KIND_RS, KIND_RL, KIND_RD, KIND_HANDLE,
-    KIND_DD, KIND_TV, KIND_STRING_TV, KIND_PREFIX, KIND_HATCH, KIND_HATCHS, KIND_MOVE, KINDS
+    KIND_DD, KIND_TV, KIND_STRING_TV, KIND_PREFIX, KIND_HATCH, KIND_HATCHS, KIND_MOVE, KIND_CP1252, KIND_UNCP1252, KINDS
 } Kind;
 
 typedef struct Payload {
@@ -29,6 +29,7 @@ typedef struct Request {
     size_t numbers;
     uint64_t fallback; /* KIND_DD */
     struct Given *given; /* KIND_MOVE */
+    size_t room;         /* KIND_CP1252 and KIND_UNCP1252: the output's length, if `lent`; of KIND_UNCP1252 `main` has two bytes for a unit, the low one first */
 } Request;
 
 /* A hatch to be moved, and the origin: the record as it is handed over, whatever its numbers are, and both lists. */
@@ -57,6 +58,7 @@ void put_bits(Line *line, uint64_t bits); /* the protocol's D */
 void put_number(Line *line, uint64_t number);
 void put_text(Line *line, const DwgTextFields *text, const Request *request); /* the protocol's T */
 void put_refusal(Line *line, uint64_t number, size_t place, size_t second_place);
+void put_unit(Line *line, unsigned unit, unsigned bits); /* a text's unit of 8 or 16 bits, in two digits or four */
 
 /* Ends the program unless the claim holds, with the claim's text. */
 void claim(bool holds, const char *text);
@@ -65,7 +67,7 @@ void claim(bool holds, const char *text);
 bool is_double_of(double value, uint64_t bits);
 
 /* Memory to lend to a call, each slot at most once at a time. It has exactly so many bytes: reading or writing past them is seen. */
-typedef enum Slot { SLOT_MAIN, SLOT_STRING, SLOT_BITS, SLOT_DOUBLES, SLOT_WORDS, SLOT_MORE_WORDS, SLOTS } Slot;
+typedef enum Slot { SLOT_MAIN, SLOT_STRING, SLOT_BITS, SLOT_DOUBLES, SLOT_WORDS, SLOT_MORE_WORDS, SLOT_UNITS, SLOT_BYTES, SLOTS } Slot;
 void *lend(Slot slot, size_t bytes);
 void take_back(Slot slot, void *memory);
 

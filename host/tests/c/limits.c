@@ -1,4 +1,4 @@
-/* Payloads at document 01's limit and one byte above it, for every exported function: a code that ends at the last bit of a payload of exactly
+/* Payloads at document 01's limit and one byte above it, for every exported function that takes one: a code that ends at the last bit of a payload of exactly
  * the limit is read as at the end of a short payload, and one byte more is refusal 10. Behind each payload lies a page that may not be
  * touched, and a payload above the limit may not be touched at all. Then one body that fills a payload of the limit to its last bit. */
 #include "calls.h"

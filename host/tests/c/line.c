@@ -55,6 +55,10 @@ void put_number(Line *line, uint64_t number) {
     line->length += length;
 }
 
+void put_unit(Line *line, unsigned unit, unsigned bits) {
+    put(line, bits == 16 ? "%04x" : "%02x", unit);
+}
+
 void put_refusal(Line *line, uint64_t number, size_t place, size_t second_place) {
     put(line, "err %llu %zu %zu", (unsigned long long)number, place, second_place);
 }
@@ -100,7 +104,7 @@ void put_text(Line *line, const DwgTextFields *text, const Request *request) {
     Payload payload = text->source == DWG_SOURCE_STRING && request->kind != KIND_STRING_TV ? request->string : request->main;
     check_padded(text, payload);
     for (size_t unit = 0; unit < text->count; unit++) {
-        put(line, text->width == 16 ? "%04x" : "%02x", unit_at(payload, text, unit));
+        put_unit(line, unit_at(payload, text, unit), text->width);
     }
     put(line, ":%d", text->padded);
 }

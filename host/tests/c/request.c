@@ -6,7 +6,8 @@
 #include <string.h>
 
 static const char *const names[KINDS] = {"b",  "bb", "3b", "bs",     "bsu", "bl", "blu",    "bd",     "bll",   "rc",
-                                         "rs", "rl", "rd", "handle", "dd",  "tv", "(none)", "prefix", "hatch", "hatchs", "move"};
+                                         "rs", "rl", "rd", "handle", "dd",  "tv", "(none)", "prefix", "hatch", "hatchs", "move",
+                                         "cp1252", "uncp1252"};
 
 /* The next word of the line, or NULL. */
 static const char *next_word(char **rest) {
@@ -79,6 +80,34 @@ static bool release(const char *word, Request *r) {
     return is_number && (r->kind >= KIND_PREFIX || (value >= 1 && value <= 7));
 }
 
+/* Four digits for each unit, `-` for none; as bytes, the low one first. */
+static bool units(const char *word, Payload *out) {
+    size_t length = word == NULL ? 0 : strlen(word);
+    bool none = length == 1 && word[0] == '-';
+    if (length == 0 || (!none && (length % 4 != 0 || word[strspn(word, "0123456789abcdefABCDEF")] != 0))) {
+        return false;
+    }
+    length = none ? 0 : length / 2;
+    uint8_t *bytes = (uint8_t *)lend(SLOT_MAIN, length);
+    for (size_t i = 0; i < length; i++) {
+        size_t at = 2 * (i ^ 1);
+        bytes[i] = (uint8_t)(16 * digit(word[at]) + digit(word[at + 1]));
+    }
+    *out = (Payload){bytes, length};
+    return true;
+}
+
+/* HEX or UNITS, and [L ROOM]. A list of zeros that is longer than a payload may be is none. */
+static bool conversion(char **rest, Request *r) {
+    const char *word = next_word(rest);
+    if (!(r->kind == KIND_CP1252 ? payload(word, SLOT_MAIN, &r->main) && r->main.length <= DWG_PAYLOAD_LIMIT : units(word, &r->main))) {
+        return false;
+    }
+    word = next_word(rest);
+    r->lent = word != NULL;
+    return word == NULL || (strcmp(word, "L") == 0 && number(next_word(rest), &r->room) && next_word(rest) == NULL);
+}
+
 bool parse(char *text, Request *r) {
     char *rest = NULL;
     const char *name = strtok_r(text, " \t\r\n", &rest);
@@ -86,6 +115,9 @@ bool parse(char *text, Request *r) {
     }
     if (r->kind == KIND_MOVE) {
         return parse_move(rest, r);
+    }
+    if (r->kind == KIND_CP1252 || r->kind == KIND_UNCP1252) {
+        return conversion(&rest, r);
     }
     if (name == NULL || r->kind == KINDS || r->kind == KIND_STRING_TV || !release(next_word(&rest), r)
         || !number(next_word(&rest), &r->start) || !payload(next_word(&rest), SLOT_MAIN, &r->main)) {

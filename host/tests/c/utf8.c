@@ -1,7 +1,9 @@
-/* dwg_text_utf8 of dwg_hatch_codes.h: every character, units at every bit offset, halves of pairs, buffers of every size, texts that do not lie
- * in the payload, and padded names. Payloads are of exactly the bytes that they need, so that a read past them is seen by gcc's sanitizers. */
+/* dwg_text_utf8 and dwg_text_utf8_in_page of dwg_hatch_texts.h: every character, units at every bit offset, halves of pairs, buffers of every size, texts
+ * that do not lie in the payload, padded names, and every byte of code page 1252 as glibc's iconv has it. Payloads are of exactly the bytes that they need, so
+ * that a read past them is seen by gcc's sanitizers. */
 #include "calls.h"
 
+#include <iconv.h>
 #include <stdio.h>
 #include <stdlib.h>
 #include <string.h>
@@ -35,15 +37,16 @@ static size_t whole(const char *text, size_t length, size_t size) {
     return at;
 }
 
-/* The units are these characters, at every bit offset and in buffers of every size. */
-static void gives(const uint32_t *units, size_t count, uint8_t width, const char *text, size_t length) {
+/* The units are these characters in a code page, at every bit offset and in buffers of every size. */
+static void gives_in(DwgCodePage page, const uint32_t *units, size_t count, uint8_t width, const char *text, size_t length) {
     for (size_t position = 0; position < 17; position++) {
         size_t bytes;
         uint8_t *payload = laid(units, count, width, position, &bytes);
         for (size_t size = 0; size <= length + 2; size++) {
             char buffer[4 * MOST + 4];
             memset(buffer, GUARD, sizeof buffer);
-            claim(dwg_text_utf8(payload, bytes, width, position, count, size == 0 ? NULL : buffer, size) == length, "the whole text's length is given");
+            size_t given = dwg_text_utf8_in_page(page, payload, bytes, width, position, count, size == 0 ? NULL : buffer, size);
+            claim(given == length, "the whole text's length is given");
             size_t kept = size == 0 ? 0 : whole(text, length, size);
             claim(memcmp(buffer, text, kept) == 0, "whole characters are written as far as they fit");
             claim(size == 0 || buffer[kept] == 0, "a closing zero is written");
@@ -53,6 +56,38 @@ static void gives(const uint32_t *units, size_t count, uint8_t width, const char
         }
         free(payload);
     }
+}
+
+/* The same where no code page is known, by the function that takes none too. */
+static void gives(const uint32_t *units, size_t count, uint8_t width, const char *text, size_t length) {
+    size_t bytes;
+    char buffer[4 * MOST + 4];
+    uint8_t *payload = laid(units, count, width, 3, &bytes);
+    claim(dwg_text_utf8(payload, bytes, width, 3, count, buffer, sizeof buffer) == length, "the page that is not known is the one that is left out");
+    claim(memcmp(buffer, text, length) == 0 && buffer[length] == 0, "and so are its characters");
+    free(payload);
+    gives_in(DWG_CODE_PAGE_UNKNOWN, units, count, width, text, length);
+}
+
+/* Every byte of code page 1252 alone, as glibc's iconv has it; what it does not convert is U+FFFD. Says how many are defined, or that there is no iconv. */
+static int every_byte(void) {
+    iconv_t converter = iconv_open("UTF-8", "CP1252");
+    int defined = 0;
+    if (converter == (iconv_t)-1) {
+        return -1;
+    }
+    for (uint32_t byte = 0; byte < 256; byte++) {
+        char from[1] = {(char)byte}, to[4], *input = from, *output = to;
+        size_t left = sizeof from, room = sizeof to;
+        iconv(converter, NULL, NULL, NULL, NULL);
+        bool known = iconv(converter, &input, &left, &output, &room) == 0;
+        defined += known;
+        gives_in(DWG_CODE_PAGE_1252, &byte, 1, 8, known ? to : "\xef\xbf\xbd", known ? sizeof to - room : 3);
+        uint32_t wide = 0x400 + byte; /* the page is for 8-bit units alone */
+        gives_in(DWG_CODE_PAGE_1252, &wide, 1, 16, (char[]){(char)(0xd0 | byte >> 6), (char)(0x80 | (byte & 63))}, 2);
+    }
+    iconv_close(converter);
+    return defined;
 }
 
 /* Every character, as one unit or as a pair, by a strict reading of its UTF-8. */
@@ -127,9 +162,15 @@ int main(void) {
     gives((uint32_t[]){0xdc00, 0xdc01}, 2, 16, "\xef\xbf\xbd\xef\xbf\xbd", 6);
     gives((uint32_t[]){0xd800, 0xdbff, 0xdfff, 0xdc00}, 4, 16, "\xef\xbf\xbd\xf4\x8f\xbf\xbf\xef\xbf\xbd", 10);
     gives(NULL, 0, 16, "", 0);
+    gives_in(DWG_CODE_PAGE_1252, (uint32_t[]){'K', 0xfc, 'c', 'h', 'e'}, 5, 8, "K\xc3\xbc" "che", 6);
+    gives_in(DWG_CODE_PAGE_1252, (uint32_t[]){0x80, ' ', '5', 0x81, 0x9d, 0}, 6, 8, "\xe2\x82\xac 5\xef\xbf\xbd\xef\xbf\xbd\0", 12);
+    gives_in((DwgCodePage)1251, (uint32_t[]){0xe9, 'a'}, 2, 8, "\xef\xbf\xbd" "a", 4);
     every_character();
     elsewhere();
     padded_names();
+    int defined = every_byte();
+    claim(defined == 251 || defined == -1, "of 256 bytes 251 stand for a character");
+    puts(defined == -1 ? "utf8: code page 1252 is NOT COMPARED, since glibc's iconv has none here" : "utf8: code page 1252 is as glibc's iconv has it");
     puts("utf8: every character, units at every bit offset, halves of pairs, buffers of every size and padded names are as the header says");
     return 0;
 }

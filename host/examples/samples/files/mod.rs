@@ -1,5 +1,6 @@
 //! The files of requests, objects and a drawing, by their names.
 
+mod accented;
 mod bad;
 mod body;
 mod campus;
@@ -25,6 +26,7 @@ pub fn all() -> Vec<(&'static str, Vec<u8>)> {
         ("patterns.txt", fills::patterns()),
         ("gradients.txt", fills::gradients()),
         ("padded.txt", padded::text()),
+        ("accented.txt", accented::text()),
         ("campus.txt", campus::text()),
         ("prefix.txt", prefixes::text()),
         ("bad.txt", bad::text()),

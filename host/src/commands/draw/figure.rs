@@ -8,6 +8,7 @@ use super::runs::{self, Run, GREATEST};
 use super::view::Extents;
 use crate::commands::failure::{shown, Failure};
 use crate::commands::input::Item;
+use crate::commands::spelling::Spelling;
 use crate::commands::written::counted;
 
 /// A hatch that is drawn.
@@ -18,6 +19,9 @@ pub struct Figure {
     pub line: Option<u64>,
     /// The hatch.
     pub typed: TypedHatch,
+    /// The name of its pattern, and of its gradient if it has one, as they are spelt.
+    pub pattern_name: String,
+    pub gradient_name: Option<String>,
     /// Whether its plane is seen from behind, and so the sign of each x is changed.
     pub is_mirrored: bool,
 }
@@ -32,7 +36,7 @@ pub struct Outline {
 
 impl Figure {
     /// The hatch that was asked for.
-    pub fn new(item: &Item, typed: TypedHatch) -> Figure {
+    pub fn new(item: &Item, typed: TypedHatch, spelling: Spelling) -> Figure {
         let [x, y, z] = typed.hatch.extrusion;
         let is_mirrored = x == 0.0 && y == 0.0 && z < 0.0;
         let plane = match [x, y, z] == [0.0, 0.0, 1.0] {
@@ -40,8 +44,10 @@ impl Figure {
             false if is_mirrored => " (mirrored, since its extrusion points down)".to_string(),
             false => format!(" (in its own plane; its extrusion is {x:?}, {y:?}, {z:?})"),
         };
-        let title = format!("{}: {}{plane}", item.origin, characters(&typed.pattern_name));
-        Figure { title, line: item.line, typed, is_mirrored }
+        let pattern_name = characters(&typed.pattern_name, spelling);
+        let gradient_name = typed.gradient_name.as_ref().map(|name| characters(name, spelling));
+        let title = format!("{}: {pattern_name}{plane}", item.origin);
+        Figure { title, line: item.line, typed, pattern_name, gradient_name, is_mirrored }
     }
 
     /// The outlines that can be drawn.
@@ -72,9 +78,9 @@ impl Figure {
 
     /// What may be written into it, the longer first: its line with the names of its pattern and its gradient, or less of them.
     pub fn names(&self) -> Vec<String> {
-        let pattern = characters(&self.typed.pattern_name);
-        let gradient = self.typed.gradient_name.as_ref().map(|name| format!("{pattern}, {}", characters(name)));
-        let names = gradient.into_iter().chain([pattern]);
+        let pattern = &self.pattern_name;
+        let gradient = self.gradient_name.as_ref().map(|name| format!("{pattern}, {name}"));
+        let names = gradient.into_iter().chain([pattern.clone()]);
         match self.line {
             Some(line) => names.map(|name| format!("{line}: {name}")).chain([line.to_string()]).collect(),
             None => names.collect(),
@@ -115,10 +121,10 @@ fn is_drawable(seed: &Point2D) -> bool {
     seed.x.abs() <= GREATEST && seed.y.abs() <= GREATEST
 }
 
-/// A name's characters; of 8-bit units that are not all ASCII, what cannot be shown is escaped.
-pub fn characters(name: &Name) -> String {
-    match (name, name.as_str()) {
-        (_, Some(name)) => name.to_string(),
+/// A name's characters; where it is not known which its 8-bit units are, what cannot be shown is escaped.
+fn characters(name: &Name, spelling: Spelling) -> String {
+    match (name, spelling.of(name)) {
+        (_, Some(characters)) => characters.into_owned(),
         (Name::Bytes(bytes), None) => shown(bytes),
         (Name::Characters(name), None) => name.clone(),
     }

@@ -32,6 +32,7 @@ use crate::commands::input::{Entry, Input, Item, Kind};
 use crate::commands::options::{Command, Options};
 use crate::commands::origin::{origin, typed, ORIGIN};
 use crate::commands::out_file;
+use crate::commands::spelling::{Spelling, CODE_PAGE};
 use crate::protocol::payload::Zeros;
 use crate::protocol::request::number;
 
@@ -40,7 +41,7 @@ pub const DRAW: Command = Command {
     name: "draw",
     kind: Kind::Hatch,
     switches: &["--single"],
-    values: &["--output", "--view", "--width", "--only", "--max-lines", ORIGIN],
+    values: &["--output", "--view", "--width", "--only", "--max-lines", ORIGIN, CODE_PAGE],
 };
 
 /// The picture's width where none is asked for.
@@ -57,6 +58,8 @@ struct Wanted<'a> {
     single: bool,
     /// The origin that hatches are moved to before they are narrowed; coordinates and views are counted from it.
     origin: Option<Point2D>,
+    /// How names are spelt.
+    spelling: Spelling,
     /// The request line whose hatch alone is drawn.
     only: Option<u64>,
     most_strokes: usize,
@@ -117,8 +120,8 @@ impl<'a> Wanted<'a> {
             return Err(DRAW.usage("--only names a line, and a binary file has none".to_string()));
         }
         let most = whole(options, "--max-lines", "strokes from 0 to 10000000", 0..=10_000_000)?;
-        let most_strokes = most.map_or(MOST_STROKES, |most| most as usize);
-        Ok(Wanted { width, view: view(options)?, single: options.has("--single"), origin: None, only, most_strokes, file })
+        let (most_strokes, spelling) = (most.map_or(MOST_STROKES, |most| most as usize), Spelling::asked(&DRAW, options)?);
+        Ok(Wanted { width, view: view(options)?, single: options.has("--single"), origin: None, spelling, only, most_strokes, file })
     }
 
     /// The hatch of an item, moved to the origin if one is asked for, and then with the numbers of its outlines narrowed if it is to be seen in single
@@ -127,7 +130,7 @@ impl<'a> Wanted<'a> {
         match &item.entry {
             Entry::Hatch(request) if self.takes(item) => {
                 let typed = typed(request, zeros, self.origin, |numbers| if self.single { narrow(numbers) })?;
-                Ok(Some(Figure::new(item, typed)))
+                Ok(Some(Figure::new(item, typed, self.spelling)))
             }
             _ => Ok(None),
         }

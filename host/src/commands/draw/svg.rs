@@ -6,7 +6,7 @@ use std::io::{self, Write};
 use dwg_hatch::Point2D;
 
 use super::area::Area;
-use super::figure::{characters, Figure};
+use super::figure::Figure;
 use super::frame;
 use super::gradients::{self, Frame};
 use super::names::Names;
@@ -140,9 +140,8 @@ impl<'a, Out: Write> Sheet<'a, Out> {
         if outlines.peek().is_none() {
             return Ok(());
         }
-        let (id, name) = (format!("gradient-{}", at + 1), figure.typed.gradient_name.as_ref().map(characters));
-        let gradient = figure.typed.hatch.gradient.as_ref();
-        let gradient = gradient.and_then(|fill| gradients::definition(&id, fill, name.as_deref(), figure.is_mirrored, frame));
+        let (id, name, gradient) = (format!("gradient-{}", at + 1), figure.gradient_name.as_deref(), figure.typed.hatch.gradient.as_ref());
+        let gradient = gradient.and_then(|fill| gradients::definition(&id, fill, name, figure.is_mirrored, frame));
         let class = match &gradient {
             Some(_) => format!("fill gradient\" style=\"fill: url(#{id})"),
             None if figure.typed.hatch.solid_fill => "fill".to_string(),

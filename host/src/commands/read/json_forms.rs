@@ -6,9 +6,11 @@ use dwg_hatch::{
 };
 
 use crate::commands::input::{Entry, Item};
+use crate::commands::spelling::Spelling;
 use crate::protocol::request::Strings;
 use super::json::{array, double, object, or_null, string};
 use super::measures::{self, Measures};
+use super::Wanted;
 
 /// A field of an object.
 type Field = (&'static str, String);
@@ -79,29 +81,31 @@ pub fn prefix(item: &Item, data: &CommonEntityBits, place: usize) -> String {
     object(asked(item).into_iter().chain(fields))
 }
 
-/// A hatch, and the origin that it was moved to, if it was.
-pub fn hatch(item: &Item, typed: &TypedHatch<u64>, origin: Option<Point2D>) -> String {
-    let Hatch { gradient, places, .. } = &typed.hatch;
-    let fill = gradient.as_ref().zip(typed.gradient_name.as_ref()).map(|(fill, name)| gradient_fill(fill, name));
+/// A hatch; the code page that its names are spelt by and the origin that it was moved to, if they were asked for.
+pub fn hatch(item: &Item, typed: &TypedHatch<u64>, wanted: &Wanted) -> String {
+    let (Hatch { gradient, places, .. }, spelling) = (&typed.hatch, wanted.spelling);
+    let fill = gradient.as_ref().zip(typed.gradient_name.as_ref()).map(|(fill, name)| gradient_fill(fill, text(&fill.name, name, spelling)));
     let first = [
         ("places", object([("main", places.main.to_string()), ("string", places.string.to_string())])),
         ("gradient", or_null(fill)),
     ];
-    let moved = origin.map(|Point2D { x, y }| ("moved_origin", array([x, y].map(|number| double(number.to_bits())))));
+    let page = spelling.0.map(|page| ("code_page", page.number().to_string()));
+    let moved = wanted.origin.map(|Point2D { x, y }| ("moved_origin", array([x, y].map(|number| double(number.to_bits())))));
+    let record = record(&typed.hatch, text(&typed.hatch.pattern_name, &typed.pattern_name, spelling));
     let last = [
         ("paths", array(typed.paths.iter().map(path))),
         ("pattern_lines", array(typed.pattern_lines.iter().map(pattern_line))),
         ("seed_points", points(&typed.seed_points)),
     ];
-    object(asked(item).into_iter().chain(first).chain(moved).chain(record(&typed.hatch, &typed.pattern_name)).chain(last))
+    object(asked(item).into_iter().chain(page).chain(first).chain(moved).chain(record).chain(last))
 }
 
-/// The fields of a hatch's record.
-fn record(hatch: &Hatch<u64>, name: &Name) -> [Field; 13] {
+/// The fields of a hatch's record, with its name's text.
+fn record(hatch: &Hatch<u64>, name: String) -> [Field; 13] {
     [
         ("elevation", double(hatch.elevation)),
         ("extrusion", array(hatch.extrusion.map(double))),
-        ("pattern_name", text(&hatch.pattern_name, name)),
+        ("pattern_name", name),
         ("solid_fill", hatch.solid_fill.to_string()),
         ("associative", hatch.associative.to_string()),
         ("pattern_style", hatch.pattern_style.to_string()),
@@ -115,14 +119,14 @@ fn record(hatch: &Hatch<u64>, name: &Name) -> [Field; 13] {
     ]
 }
 
-fn gradient_fill(fill: &GradientFill<u64>, name: &Name) -> String {
+fn gradient_fill(fill: &GradientFill<u64>, name: String) -> String {
     object([
         ("angle", double(fill.angle)),
         ("shift", double(fill.shift)),
         ("is_single_color", fill.is_single_color.to_string()),
         ("tint", double(fill.tint)),
         ("colors", array(fill.colors.iter().map(color))),
-        ("name", text(&fill.name, name)),
+        ("name", name),
     ])
 }
 
@@ -136,7 +140,7 @@ fn color(color: &GradientColor<u64>) -> String {
 }
 
 /// Where a text lies, whether it is padded, its units in hexadecimal, and its characters if it is known which they are.
-fn text(text: &Text, name: &Name) -> String {
+fn text(text: &Text, name: &Name, spelling: Spelling) -> String {
     let source = match text.source {
         Source::None => "none",
         Source::Main => "main",
@@ -149,7 +153,7 @@ fn text(text: &Text, name: &Name) -> String {
         ("count", text.count.to_string()),
         ("padded", text.padded.to_string()),
         ("units", units(name)),
-        ("string", or_null(name.as_str().map(string))),
+        ("string", or_null(spelling.of(name).map(|characters| string(&characters)))),
     ])
 }
 

@@ -16,6 +16,7 @@ use crate::commands::failure::Failure;
 use crate::commands::input::{Entry, Input, Item, Kind};
 use crate::commands::options::{Command, Options, JOBS};
 use crate::commands::origin::{origin, typed_bits, ORIGIN};
+use crate::commands::spelling::{Spelling, CODE_PAGE};
 use crate::commands::warnings::warning;
 use crate::protocol::lists::lists;
 use crate::protocol::payload::Zeros;
@@ -24,7 +25,7 @@ use crate::protocol::OUTSIDE;
 use names::{Named, Names};
 
 /// The command that reads hatches and prefixes.
-pub const READ: Command = Command { name: "read", kind: Kind::Hatch, switches: &["--json", "--quiet", NAMES], values: &[JOBS, ORIGIN] };
+pub const READ: Command = Command { name: "read", kind: Kind::Hatch, switches: &["--json", "--quiet", NAMES], values: &[JOBS, ORIGIN, CODE_PAGE] };
 
 /// The option that lists the names which stand in the input both padded and not.
 const NAMES: &str = "--names";
@@ -35,13 +36,13 @@ pub const PREFIX: Command = Command { name: "prefix", kind: Kind::Prefix, switch
 /// Reads each item of the input and writes it to `output`: a summary, or with `--json` one object a line. What is refused, each line that is no
 /// request and, without `--quiet`, each hatch that may have been read wrongly is a line on `errors`. Gives the tool's status: 0 if all was read, 1 if
 /// something was refused or a file could not be read, 2 if a line was no request. The work is done by as many jobs as `--jobs` says, and what is written
-/// is the same for any number. Hatches are moved to the origin that `--origin` asks for. With `--names` the list of the names that stand in the input both
-/// padded and not comes last.
+/// is the same for any number. Hatches are moved to the origin that `--origin` asks for, and names are spelt by the page that `--code-page` does. With
+/// `--names` the list of the names that stand in the input both padded and not comes last.
 pub fn run(command: &Command, options: &Options, input: &Input, output: impl Write, mut errors: impl Write) -> Result<u8, Failure> {
-    let (jobs, command) = (command.jobs(options)?, *command);
+    let (jobs, spelling, command) = (command.jobs(options)?, Spelling::asked(command, options)?, *command);
     let origin = origin(&command, options, input, None, &mut errors)?;
-    let wanted = Wanted { command, json: options.has("--json"), quiet: options.has("--quiet"), names: options.has(NAMES), origin };
-    let (mut output, mut names) = (BufWriter::with_capacity(1 << 16, output), Names::default());
+    let wanted = Wanted { command, json: options.has("--json"), quiet: options.has("--quiet"), names: options.has(NAMES), origin, spelling };
+    let (mut output, mut names) = (BufWriter::with_capacity(1 << 16, output), Names::spelt(spelling));
     let worker = move || {
         let mut zeros = Zeros::default();
         move |item: &Item| read(&wanted, item, &mut zeros)
@@ -63,6 +64,8 @@ struct Wanted {
     names: bool,
     /// Where a hatch is moved to.
     origin: Option<Point2D>,
+    /// How its names are spelt.
+    spelling: Spelling,
 }
 
 fn read(wanted: &Wanted, item: &Item, zeros: &mut Zeros) -> Done<Named> {
@@ -98,8 +101,8 @@ fn written(wanted: &Wanted, item: &Item, zeros: &mut Zeros) -> Result<Read, Refu
         Entry::Hatch(request) => {
             let typed = typed(request, wanted.origin, zeros)?;
             let text = match wanted.json {
-                true => json_forms::hatch(item, &typed, wanted.origin) + "\n",
-                false => summary::hatch(item, request, &typed, wanted.origin),
+                true => json_forms::hatch(item, &typed, wanted) + "\n",
+                false => summary::hatch(item, request, &typed, wanted),
             };
             Ok(Read { text, warning: warning(request, typed.hatch.places.main), named: wanted.names.then(|| Named::of(typed)) })
         }

@@ -8,6 +8,7 @@ use super::json::{array, object, or_null, string};
 use super::json_forms::units;
 use super::page::Page;
 use super::summary::shown;
+use crate::commands::spelling::Spelling;
 
 /// What a name names. The names of either are listed apart, in this order.
 #[derive(Clone, Copy, Debug, PartialEq, Eq, PartialOrd, Ord, Hash)]
@@ -48,9 +49,17 @@ struct Count {
 
 /// The names of the hatches so far. Each is held once, however often it stands.
 #[derive(Default)]
-pub struct Names(HashMap<(Kind, Name), Count>);
+pub struct Names {
+    names: HashMap<(Kind, Name), Count>,
+    spelling: Spelling,
+}
 
 impl Names {
+    /// None so far; they are compared as they are spelt.
+    pub fn spelt(spelling: Spelling) -> Names {
+        Names { names: HashMap::new(), spelling }
+    }
+
     /// Counts the names of one hatch more.
     pub fn add(&mut self, named: Named) {
         self.count(Kind::Pattern, named.pattern);
@@ -58,14 +67,14 @@ impl Names {
     }
 
     fn count(&mut self, kind: Kind, (name, padded): (Name, bool)) {
-        let before = self.0.len();
-        let count = self.0.entry((kind, filed(name))).or_insert(Count { before, padded: 0, not_padded: 0 });
+        let before = self.names.len();
+        let count = self.names.entry((kind, filed(name, self.spelling))).or_insert(Count { before, padded: 0, not_padded: 0 });
         *if padded { &mut count.padded } else { &mut count.not_padded } += 1;
     }
 
     /// Those that stand both padded and not: pattern names first, each in the order in which they first stood.
     fn both(&self) -> Vec<(Kind, &Name, &Count)> {
-        let names = self.0.iter().map(|((kind, name), count)| (*kind, name, count));
+        let names = self.names.iter().map(|((kind, name), count)| (*kind, name, count));
         let mut both: Vec<_> = names.filter(|(_, _, count)| count.padded > 0 && count.not_padded > 0).collect();
         both.sort_unstable_by_key(|(kind, _, count)| (*kind, count.before));
         both
@@ -80,7 +89,7 @@ impl Names {
             number => Page::titled(format_args!("{TITLE}: {number}")),
         };
         for (kind, name, count) in both {
-            let (name, hatches) = (shown(name), if count.padded == 1 { "hatch" } else { "hatches" });
+            let (name, hatches) = (shown(name, self.spelling), if count.padded == 1 { "hatch" } else { "hatches" });
             page.line(kind.word(), format_args!("{name}: padded in {} {hatches}, not padded in {}", count.padded, count.not_padded));
         }
         page.text()
@@ -101,10 +110,11 @@ impl Names {
     }
 }
 
-/// What a name is filed under. It is equal for two names exactly where they are the same by [`Name::is_same_name`]: the characters, if they are known.
-fn filed(name: Name) -> Name {
-    match name.as_str() {
-        Some(characters) => Name::Characters(characters.to_string()),
+/// What a name is filed under: its characters, if they are known. It is equal for two names exactly where they are the same by [`Name::is_same_name`] or, by a
+/// code page, by [`Name::is_same_name_in`].
+fn filed(name: Name, spelling: Spelling) -> Name {
+    match spelling.of(&name) {
+        Some(characters) => Name::Characters(characters.into_owned()),
         None => name,
     }
 }
@@ -112,6 +122,7 @@ fn filed(name: Name) -> Name {
 #[cfg(test)]
 mod tests {
     use super::*;
+    use dwg_hatch::CodePage::Ansi1252;
 
     fn bytes(units: &[u8]) -> Name {
         Name::Bytes(units.to_vec())
@@ -131,19 +142,23 @@ mod tests {
     #[test]
     fn names_are_filed_as_they_are_the_same() {
         let names = ["", "NET", "NET\0", "\0", "net", "N\u{c9}T", "\u{c9}"].map(characters).into_iter();
-        let units = [&b""[..], b"NET", b"NET\0", b"\0", b"N\xc9T", b"N\xc3\x89T", b"\xc9", b"\x7f", b"\x80"].map(bytes);
+        let units = [&b""[..], b"NET", b"NET\0", b"\0", b"N\xc9T", b"N\xc3\x89T", b"\xc9", b"\x7f", b"\x80", b"\x81", b"\x8d"].map(bytes);
         let names: Vec<Name> = names.chain(units).collect();
-        let mut same = 0;
+        let mut same = [0, 0];
         for one in &names {
             assert!(one.is_same_name(one));
             for other in &names {
-                assert_eq!(one.is_same_name(other), filed(one.clone()) == filed(other.clone()), "{one:?} {other:?}");
+                let is_filed_so = |spelling| filed(one.clone(), spelling) == filed(other.clone(), spelling);
+                assert_eq!(one.is_same_name(other), is_filed_so(Spelling::default()), "{one:?} {other:?}");
                 assert_eq!(one.is_same_name(other), other.is_same_name(one), "{one:?} {other:?}");
-                same += usize::from(one.is_same_name(other));
+                assert_eq!(one.is_same_name_in(other, Ansi1252), is_filed_so(Spelling(Some(Ansi1252))), "{one:?} {other:?}");
+                assert_eq!(one.is_same_name_in(other, Ansi1252), other.is_same_name_in(one, Ansi1252), "{one:?} {other:?}");
+                same[0] += usize::from(one.is_same_name(other));
+                same[1] += usize::from(one.is_same_name_in(other, Ansi1252));
             }
         }
-        // Each with itself, and four names of both widths with one another.
-        assert_eq!(same, names.len() + 8);
+        // Each with itself, and four names of both widths with one another; by the page two more, whose characters are not ASCII.
+        assert_eq!(same, [names.len() + 8, names.len() + 12]);
     }
 
     #[test]

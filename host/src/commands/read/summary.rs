@@ -8,7 +8,9 @@ use dwg_hatch::{
 
 use super::measures;
 use super::page::Page;
+use super::Wanted;
 use crate::commands::input::Item;
+use crate::commands::spelling::Spelling;
 use crate::commands::written::{counted, grouped, listed, written};
 use crate::protocol::payload::Payload;
 use crate::protocol::request::{HatchRequest, PrefixRequest};
@@ -25,20 +27,20 @@ const FLAGS: [(u32, &str); 5] = [
 ];
 
 /// A hatch, each line with its end.
-pub fn hatch(item: &Item, request: &HatchRequest, typed: &TypedHatch<u64>, origin: Option<Point2D>) -> String {
+pub fn hatch(item: &Item, request: &HatchRequest, typed: &TypedHatch<u64>, wanted: &Wanted) -> String {
     let hatch = &typed.hatch;
     let mut page = titled(item, "hatch", request.release, [request.start, hatch.places.main], &request.payload);
     if let Some(strings) = &request.strings {
         let (start, end, length) = (strings.start, strings.end, grouped(strings.payload.bits()));
         page.line("strings", format_args!("bits {start} to {}, of bits {start} to {end}, of {length}", hatch.places.string));
     }
-    if let Some(Point2D { x, y }) = origin {
+    if let Some(Point2D { x, y }) = wanted.origin {
         page.line("origin", format_args!("({x:?}, {y:?}), taken off each coordinate below"));
     }
     if let Some((fill, name)) = hatch.gradient.as_ref().zip(typed.gradient_name.as_ref()) {
-        gradient(&mut page, fill, name);
+        gradient(&mut page, fill, &shown(name, wanted.spelling));
     }
-    record(&mut page, hatch, &typed.pattern_name);
+    record(&mut page, hatch, &shown(&typed.pattern_name, wanted.spelling));
     if typed.paths.iter().any(|path| path.flags & dwg_hatch::FLAG_DERIVED != 0) {
         page.line("pixel", format_args!("size {}", double(hatch.pixel_size)));
     }
@@ -82,7 +84,7 @@ fn titled(item: &Item, kind: &str, release: u64, [start, end]: [usize; 2], paylo
     Page::titled(format_args!("{}: {kind}, release {release} ({name}), bits {start} to {end} of {length}", item.origin))
 }
 
-fn gradient(page: &mut Page, fill: &GradientFill<u64>, name: &Name) {
+fn gradient(page: &mut Page, fill: &GradientFill<u64>, name: &impl Display) {
     let [angle, shift, tint] = [fill.angle, fill.shift, fill.tint].map(double);
     let (name, single) = (text(&fill.name, name), fill.is_single_color);
     page.line("gradient", format_args!("{name}; angle {angle}, shift {shift}, tint {tint}; single colour {single}"));
@@ -92,7 +94,7 @@ fn gradient(page: &mut Page, fill: &GradientFill<u64>, name: &Name) {
     }
 }
 
-fn record(page: &mut Page, hatch: &Hatch<u64>, name: &Name) {
+fn record(page: &mut Page, hatch: &Hatch<u64>, name: &impl Display) {
     let solid = if hatch.solid_fill { "solid" } else { "not solid" };
     let associative = if hatch.associative { "associative" } else { "not associative" };
     page.line("pattern", format_args!("{}; {solid}, {associative}", text(&hatch.pattern_name, name)));
@@ -116,20 +118,20 @@ fn named<'a>(number: u16, meanings: &'a [&str]) -> impl Display + 'a {
     })
 }
 
-/// A text, where it lies, and whether it is padded.
-fn text<'a>(text: &'a Text, name: &'a Name) -> impl Display + 'a {
+/// A text by its name, where it lies, and whether it is padded.
+fn text<'a>(text: &'a Text, name: &'a impl Display) -> impl Display + 'a {
     let payload = if text.source == Source::String { " of the string payload" } else { "" };
     let padded = if text.padded { ", padded" } else { "" };
     written(move |f| {
-        let (name, units) = (shown(name), counted(text.count, "unit"));
+        let units = counted(text.count, "unit");
         write!(f, "{name} ({units} of {} bits at bit {}{payload}{padded})", text.width, text.position)
     })
 }
 
 /// A name's characters, or its units where it is not known which these are.
-pub fn shown(name: &Name) -> impl Display + '_ {
-    written(move |f| match (name.as_str(), name) {
-        (Some(characters), _) => Debug::fmt(characters, f),
+pub fn shown(name: &Name, spelling: Spelling) -> impl Display + '_ {
+    written(move |f| match (spelling.of(name), name) {
+        (Some(characters), _) => Debug::fmt(&characters, f),
         (None, Name::Bytes(bytes)) => write!(f, "bytes {bytes:02x?}"),
         (None, Name::Characters(characters)) => Debug::fmt(characters, f),
     })
