@@ -48,8 +48,8 @@ pub fn first(count: u64) -> Vec<String> {
         lines.extend(at_each_place(way));
         lines.extend(rooms(way));
     }
-    // Zeros by their number: none, some, and more than there is memory for, which is refused all the same.
-    for list in ["z0", "z3", "z3 L 2", "z3 L 3", "z3 L 4", "z268435457 L 5", "z18446744073709551615 L 1000"] {
+    // Zeros by their number: none, some, and more than 16 bits count.
+    for list in ["z0", "z0 L 0", "z3", "z3 L 2", "z3 L 3", "z3 L 4", "z65537", "z65537 L 65536", "z65537 L 1"] {
         lines.push(format!("cp1252 {list}"));
     }
     lines.extend(NO_REQUESTS.map(str::to_string));
