@@ -2,7 +2,7 @@
  * the same. Payloads and lists lie against a page that may not be touched, behind them or in front of them, so that a read or a write
  * outside them ends the run; calls.h's claims are looked at on every input. Then every bit past the final places is turned over, and the
  * library must give the same line again (demand 3). A move is compared with the oracle's model, since the Rust has no such call, and of it the
- * entries past the lengths used are turned over. */
+ * entries past the lengths used are turned over. A conversion is compared with what the oracle has from iconv. */
 #include "input.h"
 
 #include <stdio.h>
@@ -80,7 +80,7 @@ static Request request_of(const uint8_t *input, size_t size) {
     Request r;
     size_t left = size - HEAD, string_bytes = two(input + AT_STRING_BYTES);
     memset(&r, 0, sizeof r);
-    r.kind = (Kind)(input[AT_KIND] % KINDS);
+    r.kind = (Kind)(input[AT_KIND] % FUZZ_KINDS);
     r.release = input[AT_RELEASE] % 9;
     r.start = two(input + AT_START);
     r.string_start = two(input + AT_STRING_START);
@@ -168,11 +168,28 @@ static void test_move(Request *r) {
     check_entries_past_the_lengths(r, &line);
 }
 
+static void test_conversion(const uint8_t *input, size_t size) {
+    static Line line, asked;
+    Conversion conversion;
+    size_t length = 0;
+    place_slots(input[AT_PLACEMENT]);
+    conversion_of(input, size, &conversion);
+    line.length = asked.length = 0;
+    answer_conversion(&conversion, &line);
+    put_conversion(&asked, &conversion);
+    uint8_t *judge = model_answer((const uint8_t *)asked.text, asked.length, &length);
+    compare(&line, judge, length);
+}
+
 int LLVMFuzzerTestOneInput(const uint8_t *input, size_t size) {
     static Line line;
     size_t length = 0;
     if (size < HEAD) {
         return -1;
+    }
+    if (input[AT_KIND] % FUZZ_KINDS > KIND_MOVE) {
+        test_conversion(input, size);
+        return 0;
     }
     Request request = request_of(input, size);
     if (request.kind == KIND_MOVE) {
