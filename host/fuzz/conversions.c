@@ -1,16 +1,42 @@
-/* Conversions by code page 1252, to units and back, of the bytes behind an input's head. The answer is looked at from all sides: the input afterwards, every
- * entry of the output before and after, the same call once more over an output that held something else, and the way back of what was converted. */
+/* Conversions by code page 1252: the output's length, the request line, and what is looked at beside what ../tests/c looks at. */
 #include "input.h"
 
 #include <string.h>
 
-/* How many bytes an entry of the list that is converted has, and one of the output. */
-static size_t width_from(const Conversion *c) {
-    return c->back ? 2 : 1;
+static bool is_back(const Request *r) {
+    return r->kind == KIND_UNCP1252;
 }
 
-static size_t width_to(const Conversion *c) {
-    return c->back ? 1 : 2;
+/* How many bytes an entry of the list that is converted has, and one of the output; how many entries there are. */
+static size_t width_from(const Request *r) {
+    return is_back(r) ? 2 : 1;
+}
+
+static size_t width_to(const Request *r) {
+    return is_back(r) ? 1 : 2;
+}
+
+static size_t length_of(const Request *r) {
+    return r->main.length / width_from(r);
+}
+
+bool is_conversion(const Request *r) {
+    return r->kind == KIND_CP1252 || r->kind == KIND_UNCP1252;
+}
+
+/* `more` is signed: so many entries more than needed, none below none; -128 stands for none. */
+void set_room(Request *r, uint8_t more) {
+    size_t length = length_of(r), less = 0x100u - more;
+    r->lent = true;
+    r->room = more < 0x80 ? length + more : more == 0x80 || less > length ? 0 : length - less;
+}
+
+void put_conversion(Line *line, const Request *r) {
+    put(line, is_back(r) ? "uncp1252 %s" : "cp1252 %s", r->main.length == 0 ? "-" : "");
+    for (size_t i = 0; i < r->main.length; i++) {
+        put_unit(line, r->main.bytes[is_back(r) ? i ^ 1 : i], 8); /* of a unit the high byte is written first */
+    }
+    put(line, " L %zu", r->room);
 }
 
 static DwgConversionAnswer convert(bool back, const void *from, size_t length, void *to, size_t room) {
@@ -18,71 +44,35 @@ static DwgConversionAnswer convert(bool back, const void *from, size_t length, v
                 : dwg_cp1252_to_units((const uint8_t *)from, length, (uint16_t *)to, room);
 }
 
-/* An odd byte behind whole units is left out. */
-void conversion_of(const uint8_t *input, size_t size, Conversion *c) {
-    c->back = input[AT_KIND] % FUZZ_KINDS == FUZZ_TO_BYTES;
-    c->list = input + HEAD;
-    c->length = (size - HEAD) / width_from(c);
-    int more = (int8_t)input[AT_SHORT];
-    c->room = more >= 0 ? c->length + (size_t)more : more == INT8_MIN || (size_t)-more > c->length ? 0 : c->length - (size_t)-more;
-    c->held = input[AT_FALLBACK];
-}
-
-/* A list's entries in hexadecimal, `-` for none. */
-static void put_entries(Line *line, const void *list, size_t length, size_t width) {
-    put(line, length == 0 ? "-" : "");
-    for (size_t i = 0; i < length; i++) {
-        uint16_t unit = 0;
-        memcpy(&unit, (const uint8_t *)list + width * i, width); /* low byte first, as the machine has it */
-        put(line, width == 2 ? "%04x" : "%02x", unit);
-    }
-}
-
-void put_conversion(Line *line, const Conversion *c) {
-    put(line, c->back ? "uncp1252 " : "cp1252 ");
-    put_entries(line, c->list, c->length, width_from(c));
-    put(line, " L %zu", c->room);
-}
-
-/* Converts into an output that holds nothing but `held`: the entries behind those that are written, and all of them on a refusal, still do. */
-static DwgConversionAnswer converted(const Conversion *c, const void *from, void *to, uint8_t held) {
-    size_t bytes = width_to(c) * c->room;
-    memset(to, held, bytes);
-    DwgConversionAnswer a = convert(c->back, from, c->length, to, c->room);
-    claim(a.place == 0 && a.string_place == 0, "a conversion has no places");
-    claim(a.count == (a.refusal == 0 ? c->length : 0) && a.count <= c->room, "a conversion writes one entry for each, or none");
-    for (size_t i = width_to(c) * a.count; i < bytes; i++) {
-        claim(((const uint8_t *)to)[i] == held, "an entry that is not written is as it was");
-    }
-    claim(memcmp(from, c->list, width_from(c) * c->length) == 0, "a list that is converted is as it was");
-    return a;
-}
-
 /* What was converted is converted back. */
-static void check_back(const Conversion *c, const void *to) {
-    uint8_t *again = (uint8_t *)lend(SLOT_WORDS, width_from(c) * c->length);
-    DwgConversionAnswer a = convert(!c->back, to, c->length, again, c->length);
-    claim(a.refusal == 0 && a.count == c->length, "what was converted can be converted back");
-    claim(memcmp(again, c->list, width_from(c) * c->length) == 0, "the way back gives what was converted");
+static void check_back(const Request *r, const void *to) {
+    uint8_t *again = (uint8_t *)lend(SLOT_WORDS, r->main.length);
+    DwgConversionAnswer a = convert(!is_back(r), to, length_of(r), again, length_of(r));
+    claim(a.refusal == 0 && a.count == length_of(r), "what was converted can be converted back");
+    claim(memcmp(again, r->main.bytes, r->main.length) == 0, "the way back gives what was converted");
     take_back(SLOT_WORDS, again);
 }
 
-void answer_conversion(const Conversion *c, Line *line) {
-    uint8_t *from = (uint8_t *)lend(SLOT_MAIN, width_from(c) * c->length);
-    uint8_t *to = (uint8_t *)lend(SLOT_BITS, width_to(c) * c->room);
-    uint8_t *more = (uint8_t *)lend(SLOT_DOUBLES, width_to(c) * c->room);
-    memcpy(from, c->list, width_from(c) * c->length);
-    DwgConversionAnswer a = converted(c, from, to, c->held);
-    DwgConversionAnswer b = converted(c, from, more, (uint8_t)~c->held);
-    claim(a.refusal == b.refusal && memcmp(to, more, width_to(c) * a.count) == 0, "what the output held does not matter");
-    if (a.refusal != 0) {
-        put_refusal(line, a.refusal, a.place, a.string_place);
-    } else {
-        check_back(c, to);
-        put(line, "ok %zu ", a.count);
-        put_entries(line, to, a.count, width_to(c));
+/* The list in place, and an output of all its length that holds `held` and nothing else: what is not written still does, and the line is the same. */
+void check_conversion(const Request *r, const Line *line, uint8_t held) {
+    static Line again;
+    uint8_t *to = (uint8_t *)lend(SLOT_BITS, width_to(r) * r->room);
+    memset(to, held, width_to(r) * r->room);
+    DwgConversionAnswer a = convert(is_back(r), r->main.bytes, length_of(r), to, r->room);
+    claim(a.count <= r->room, "no more is written than there is room for");
+    for (size_t i = width_to(r) * a.count; i < width_to(r) * r->room; i++) {
+        claim(to[i] == held, "an entry that is not written is as it was");
     }
-    take_back(SLOT_MAIN, from);
+    again.length = 0;
+    if (a.refusal != 0) {
+        put_refusal(&again, a.refusal, a.place, a.string_place);
+    } else {
+        check_back(r, to);
+        put(&again, "ok %zu %s", a.count, a.count == 0 ? "-" : "");
+        for (size_t i = 0; i < a.count; i++) {
+            put_unit(&again, is_back(r) ? to[i] : ((const uint16_t *)(const void *)to)[i], is_back(r) ? 8 : 16);
+        }
+    }
+    claim(strcmp(line->text, again.text) == 0, "what the output held, and its length where it is enough, do not matter");
     take_back(SLOT_BITS, to);
-    take_back(SLOT_DOUBLES, more);
 }

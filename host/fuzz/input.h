@@ -1,23 +1,20 @@
 /* How a request lies in an input of the fuzzer: a fixed head, little-endian, then the main payload and the string payload. Of a move the main payload
- * is a hatch body, and the string payload is edits of what it reads as. Of a conversion the list that is converted follows the head. */
+ * is a hatch body, and the string payload is edits of what it reads as. Of a conversion it is the list, units with their low byte first. */
 #ifndef INPUT_H
 #define INPUT_H
 
 #include <calls.h>
 
-/* The kinds of calls.h, up to moves, and the conversions. */
-enum { FUZZ_TO_UNITS = KIND_MOVE + 1, FUZZ_TO_BYTES, FUZZ_KINDS };
-
 /* Offsets in the head. */
 enum {
-    AT_KIND = 0,          /* one byte, modulo FUZZ_KINDS */
+    AT_KIND = 0,          /* one byte, modulo KINDS */
     AT_RELEASE = 1,       /* one byte, modulo 9 */
     AT_PLACEMENT = 2,     /* one byte: bit 0 guards the payloads in front and not behind, bit 1 the lists; bit 2: lists are short by AT_SHORT */
     AT_START = 3,         /* two bytes; ffff is the largest number there is, here and in the next two */
     AT_STRING_START = 5,  /* two bytes */
     AT_STRING_END = 7,    /* two bytes */
     AT_SHORT = 9,         /* one byte: bits 0 and 1 for the words, 2 and 3 for the numbers: so many less than needed, and one more at 3; of a conversion
-                           * a signed number, how many entries more than needed the output has; at -128 it has none */
+                           * signed, how many entries more than needed the output has, and none at -128 */
     AT_FALLBACK = 10,     /* eight bytes; of a conversion the first is what the output holds before */
     AT_STRING_BYTES = 18, /* two bytes: how many of the last bytes are the string payload */
     HEAD = 20
@@ -36,17 +33,10 @@ void given_of(const Request *request, Given *given);
 void put_move(Line *line, const Given *given);
 size_t turn_over_lists(Given *given);
 
-/* conversions.c: the list that an input hands over, its request line and its answer line, with every claim about the output looked at. */
-typedef struct Conversion {
-    bool back; /* to bytes, and not to units */
-    const uint8_t *list;
-    size_t length; /* entries of one byte or two */
-    size_t room;
-    uint8_t held; /* every byte of the output before the call */
-} Conversion;
-
-void conversion_of(const uint8_t *input, size_t size, Conversion *conversion);
-void put_conversion(Line *line, const Conversion *conversion);
-void answer_conversion(const Conversion *conversion, Line *line);
+/* conversions.c: the output's length by AT_SHORT, the request line, and the call once more with all that can be seen of it. */
+bool is_conversion(const Request *request);
+void set_room(Request *request, uint8_t more);
+void put_conversion(Line *line, const Request *request);
+void check_conversion(const Request *request, const Line *line, uint8_t held);
 
 #endif

@@ -11,10 +11,6 @@ DwgBodyAnswer __wrap_dwg_hatch_decode(const uint8_t *, size_t, size_t, uint64_t,
 DwgBodyBitsAnswer __wrap_dwg_hatch_decode_bits(const uint8_t *, size_t, size_t, uint64_t, uint64_t *, size_t, uint32_t *, size_t);
 DwgMoveAnswer __wrap_dwg_hatch_move_origin(DwgBodyAnswer, const uint32_t *, size_t, double *, size_t, double, double);
 DwgMoveAnswer __wrap_dwg_hatch_move_origin_bits(DwgBodyBitsAnswer, const uint32_t *, size_t, uint64_t *, size_t, uint64_t, uint64_t);
-DwgConversionAnswer __real_dwg_cp1252_to_units(const uint8_t *, size_t, uint16_t *, size_t);
-DwgConversionAnswer __real_dwg_cp1252_to_bytes(const uint16_t *, size_t, uint8_t *, size_t);
-DwgConversionAnswer __wrap_dwg_cp1252_to_units(const uint8_t *, size_t, uint16_t *, size_t);
-DwgConversionAnswer __wrap_dwg_cp1252_to_bytes(const uint16_t *, size_t, uint8_t *, size_t);
 
 /* 1: a count that is refused is refused one bit late, by all three functions alike. */
 static size_t late(uint64_t refusal, size_t place) {
@@ -104,31 +100,5 @@ DwgMoveAnswer __wrap_dwg_hatch_move_origin_bits(DwgBodyBitsAnswer hatch, const u
                                                 uint64_t y) {
     DwgMoveAnswer a = __real_dwg_hatch_move_origin_bits(hatch, words, nw, bits, nn, x, y);
     alter(a.refusal, bits, nn, hatch.fields.numbers_used);
-    return a;
-}
-
-/* 11: an entry is stored before a later one is found undefined. 12: the length is looked at before the entries are. 13: an entry past those written is altered. */
-DwgConversionAnswer __wrap_dwg_cp1252_to_units(const uint8_t *bytes, size_t length, uint16_t *units, size_t room) {
-    DwgConversionAnswer a = __real_dwg_cp1252_to_units(bytes, length, units, room);
-    if (MISTAKE == 11 && a.refusal == 14 && length > 1 && room > 0 && bytes[0] < 0x80) {
-        units[0] = bytes[0];
-    }
-    if (MISTAKE == 12 && a.refusal == 14 && room < length) {
-        a.refusal = 11;
-    }
-    if (MISTAKE == 13 && a.refusal == 0 && length < room) {
-        units[length] = 0;
-    }
-    return a;
-}
-
-/* 14: on the way back the mark of undefined bytes is taken for the unit of one of them. */
-DwgConversionAnswer __wrap_dwg_cp1252_to_bytes(const uint16_t *units, size_t length, uint8_t *bytes, size_t room) {
-    DwgConversionAnswer a = __real_dwg_cp1252_to_bytes(units, length, bytes, room);
-    if (MISTAKE == 14 && a.refusal == 14 && length == 1 && room > 0 && units[0] == 0xffff) {
-        bytes[0] = 0x81;
-        a.refusal = 0;
-        a.count = 1;
-    }
     return a;
 }

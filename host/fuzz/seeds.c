@@ -1,5 +1,5 @@
 /* Writes an input of the fuzzer for each request line on standard input: files 0, 1, .. of the folder that is named, and of a hatch one more that
- * moves it. Conversions are taken apart here, and the others by the tests' parser. A payload above 4,096 bytes is left out; a start that two bytes do not hold becomes the largest number. */
+ * moves it. A payload above 4,096 bytes is left out; a start that two bytes do not hold becomes the largest number. */
 #include "input.h"
 
 #include <stdio.h>
@@ -51,58 +51,38 @@ static size_t put_plain_edits(uint8_t *edits) {
     return put_edit(edits, at, EDIT_EXTRUSION_Z, 0x3ff0000000000000u);
 }
 
-static void write_file(const char *folder, unsigned index, const char *suffix, const uint8_t *head, const uint8_t *bytes, size_t length, const uint8_t *more,
-                       size_t more_length) {
-    char name[4096];
-    int made = snprintf(name, sizeof name, "%s/%u%s", folder, index, suffix);
-    FILE *file = made > 0 && (size_t)made < sizeof name ? fopen(name, "wb") : NULL;
-    claim(file != NULL, "the folder of the seeds can be written to");
-    fwrite(head, 1, HEAD, file);
-    fwrite(bytes, 1, length, file);
-    fwrite(more, 1, more_length, file);
-    claim(fclose(file) == 0, "a seed can be written");
+/* AT_SHORT of a conversion: how many entries more than needed the output has. */
+static uint8_t more_room(const Request *r) {
+    size_t length = r->kind == KIND_UNCP1252 ? r->main.length / 2 : r->main.length;
+    if (!r->lent || r->room >= length) {
+        size_t more = r->lent ? r->room - length : 0;
+        return (uint8_t)(more > 0x7f ? 0x7f : more);
+    }
+    return r->room == 0 || length - r->room > 0x7f ? 0x80 : (uint8_t)(0x100u - (length - r->room));
 }
 
 static void write_input(const Request *r, const char *folder, unsigned index, const char *suffix) {
     uint8_t head[HEAD] = {0};
+    char name[4096];
     head[AT_KIND] = (uint8_t)r->kind;
     head[AT_RELEASE] = (uint8_t)(r->release > 8 ? 8 : r->release);
     head[AT_PLACEMENT] = (uint8_t)((index & 3) | (r->lent ? 4 : 0));
     put_two(head + AT_START, r->start);
     put_two(head + AT_STRING_START, r->string_start);
     put_two(head + AT_STRING_END, r->string_end);
-    head[AT_SHORT] = (uint8_t)(index / 4 % 16);
+    head[AT_SHORT] = r->kind > KIND_MOVE ? more_room(r) : (uint8_t)(index / 4 % 16);
     memcpy(head + AT_FALLBACK, &r->fallback, 8);
     uint8_t edits[4096];
     size_t edited = r->kind != KIND_MOVE ? 0 : r->given == NULL ? put_plain_edits(edits) : put_edits(edits, r->given);
-    bool move = r->kind == KIND_MOVE;
-    put_two(head + AT_STRING_BYTES, move ? edited : r->string.length);
-    write_file(folder, index, suffix, head, r->main.bytes, r->main.length, move ? edits : r->string.bytes, move ? edited : r->string.length);
-}
-
-/* NAME LIST [L ROOM]: the list by so many digits an entry, low byte first in the input. What is no list is left out, and so are zeros by their number. */
-static void write_conversion(const char *text, const char *folder, unsigned index) {
-    static char list[16385];
-    uint8_t head[HEAD] = {0}, bytes[8192];
-    unsigned long long room = 0, entry;
-    bool back = text[0] == 'u';
-    int words = sscanf(text, "%*s %16384s L %llu", list, &room);
-    size_t digits = back ? 4 : 2, length = strcmp(list, "-") == 0 ? 0 : strlen(list) / digits;
-    if (words < 1 || (length > 0 && strspn(list, "0123456789abcdefABCDEF") != digits * length) || digits * length > 8192) {
-        return;
-    }
-    for (size_t i = 0; i < length; i++) {
-        char one[5] = {0};
-        memcpy(one, list + digits * i, digits);
-        entry = strtoull(one, NULL, 16);
-        memcpy(bytes + digits / 2 * i, &entry, digits / 2);
-    }
-    long long more = words < 2 ? 0 : room > length ? (long long)(room - length > 127 ? 127 : room - length) : -(long long)(length - room);
-    head[AT_KIND] = back ? FUZZ_TO_BYTES : FUZZ_TO_UNITS;
-    head[AT_PLACEMENT] = (uint8_t)(index & 3);
-    head[AT_SHORT] = (uint8_t)(more < -127 || (words == 2 && room == 0) ? -128 : more);
-    head[AT_FALLBACK] = (uint8_t)(0x5a + index);
-    write_file(folder, index, "", head, bytes, digits / 2 * length, bytes, 0);
+    put_two(head + AT_STRING_BYTES, r->kind == KIND_MOVE ? edited : r->string.length);
+    int made = snprintf(name, sizeof name, "%s/%u%s", folder, index, suffix);
+    FILE *file = made > 0 && (size_t)made < sizeof name ? fopen(name, "wb") : NULL;
+    claim(file != NULL, "the folder of the seeds can be written to");
+    fwrite(head, 1, HEAD, file);
+    fwrite(r->main.bytes, 1, r->main.length, file);
+    fwrite(r->string.bytes, 1, r->string.length, file);
+    fwrite(edits, 1, edited, file);
+    claim(fclose(file) == 0, "a seed can be written");
 }
 
 int main(int count, char **words) {
@@ -113,10 +93,6 @@ int main(int count, char **words) {
         return 2;
     }
     for (unsigned index = 0; getline(&text, &room, stdin) > 0; index++) {
-        if (strncmp(text, "cp1252 ", 7) == 0 || strncmp(text, "uncp1252 ", 9) == 0) {
-            write_conversion(text, words[1], index);
-            continue;
-        }
         Request request = {.kind = KINDS};
         bool good = parse(text, &request) && request.main.length <= 4096 && request.string.length <= 4096;
         if (good && (request.kind != KIND_MOVE || is_short(request.given))) {
