@@ -124,22 +124,28 @@ fn table(text: &str) -> Result<Table, String> {
     Ok(table)
 }
 
-/// Sixteen entries of the table in a row, as rt fmt leaves them.
-fn rows<'a>(table: &'a Table, between: &'a str) -> impl Iterator<Item = String> + 'a {
-    let shown = |unit: &Option<u16>| format!("0x{:04X}", unit.unwrap_or(UNDEFINED));
-    table.units.chunks(16).map(move |units| units.iter().map(shown).collect::<Vec<String>>().join(between))
+/// An entry as it stands in either text.
+fn entry(unit: &Option<u16>) -> String {
+    format!("0x{:04X}", unit.unwrap_or(UNDEFINED))
 }
 
+/// An entry a line, with its byte.
 fn code(table: &Table) -> Vec<String> {
     let first = format!("const CP1252: [u16; {BYTES}] = [");
-    let rows = rows(table, ", ").map(|row| format!("    {row},"));
+    let rows = table.units.iter().enumerate().map(|(byte, unit)| format!("    {}, // {byte:02X}", entry(unit)));
     [first].into_iter().chain(rows).chain(["];".to_string()]).collect()
 }
 
-/// A list by `∷`: it stands before every row but the first, and before the empty list at the end.
+/// Eight entries a line, with their bytes; `∷` stands behind each, and the empty list behind the last.
 fn specs(table: &Table) -> Vec<String> {
-    let list = format!("    {} ∷ []", rows(table, " ∷ ").collect::<Vec<String>>().join("\n    ∷ "));
-    ["unfoldable pub cp1252 : List ℕ", "cp1252 ="].into_iter().chain(list.lines()).map(str::to_string).collect()
+    let row = |(index, units): (usize, &[Option<u16>])| {
+        let (first, last) = (8 * index, 8 * index + 7);
+        let end = if last + 1 == BYTES { " ∷ []" } else { " ∷" };
+        let entries: Vec<String> = units.iter().map(entry).collect();
+        format!("    {}{end}  -- {first:02X} to {last:02X}", entries.join(" ∷ "))
+    };
+    let rows = table.units.chunks(8).enumerate().map(row);
+    ["unfoldable pub cp1252 : List ℕ", "cp1252 ="].map(str::to_string).into_iter().chain(rows).collect()
 }
 
 /// Compares the lines with those of a file of the source, from the one on that is the first of them.
