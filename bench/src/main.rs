@@ -3,6 +3,7 @@
 include!("rust_modules.rs");
 
 mod bodies;
+mod conversions;
 #[allow(dead_code)]
 mod ffi;
 mod moves;
@@ -19,7 +20,7 @@ use rows::{Rows, grouped};
 
 const USAGE: &str = "usage: bench ROUNDS
        bench rows                     the rows whose calls are counted, each looked at: name, bytes, sides
-       bench repeat ROW SIDE TIMES    calls a row's side (0 the Rust, 1 as f64, 2 as 64 bits, 3 plain) so many times";
+       bench repeat ROW SIDE TIMES    calls a row's side (0 the Rust, 1 as f64, 2 as 64 bits, 3 plain; of a conversion 0 plain, 1 the port) so many times";
 
 fn micro(_: usize, seconds: f64) -> String {
     let micros = seconds * 1.0e6;
@@ -28,6 +29,11 @@ fn micro(_: usize, seconds: f64) -> String {
 
 fn per_second(_: usize, seconds: f64) -> String {
     grouped(1.0 / seconds, 0)
+}
+
+fn nanos(_: usize, seconds: f64) -> String {
+    let nanos = seconds * 1.0e9;
+    grouped(nanos, usize::from(nanos < 100.0))
 }
 
 fn nanos_per_byte(bytes: usize, seconds: f64) -> String {
@@ -40,6 +46,7 @@ fn time(rounds: usize) -> Result<(), String> {
     rows::print("Body (microseconds of a call)", rows::large(), rounds, micro)?;
     rows::print("Origin moved (microseconds of a call)", rows::moves(), rounds, micro)?;
     rows::print("Small call (calls per second)", rows::small(), rounds, per_second)?;
+    rows::print_pairs("Names by code page 1252 (nanoseconds of a call)", rows::conversions(), rounds, nanos)?;
     rows::print("String payload of 16,777,216 bytes (microseconds of a call)", rows::string_starts(16_777_216), rounds, micro)?;
     let growth: Rows = [false, true].into_iter().flat_map(|bulges| rows::growth(&[1, 4, 16, 64], bulges)).collect();
     rows::print("Growth (nanoseconds per byte)", growth, rounds.div_ceil(3), nanos_per_byte)
@@ -48,7 +55,7 @@ fn time(rounds: usize) -> Result<(), String> {
 /// The rows whose calls are counted. The Rust looks for a string start bit by bit, so that the string payload is short here.
 fn counted() -> Rows {
     let growths = [false, true].map(|bulges| rows::growth(&[1, 4, 16], bulges));
-    [rows::large(), rows::small(), rows::string_starts(65_536)].into_iter().chain(growths).chain([rows::moves()]).flatten().collect()
+    [rows::large(), rows::small(), rows::string_starts(65_536)].into_iter().chain(growths).chain([rows::moves(), rows::conversions()]).flatten().collect()
 }
 
 fn names() -> Result<(), String> {

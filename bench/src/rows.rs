@@ -3,6 +3,7 @@
 use std::time::Instant;
 
 use crate::bodies::{self, Named};
+use crate::conversions::{self, NAME};
 use crate::moves;
 use crate::sides::{self, Repeat, Row};
 
@@ -41,6 +42,20 @@ pub fn moves() -> Rows {
 
 fn moved(list: &'static [Named]) -> Rows {
     list.iter().map(|(name, make)| Box::new(move |checked| moves::of_body(make(name), checked)) as Make).collect()
+}
+
+/// Conversions by code page 1252; a long list of names, and one of the byte that the way back finds last.
+pub fn conversions() -> Rows {
+    const LONG: usize = 65_535;
+    let row = |name: &'static str, bytes: fn() -> Vec<u8>, back: bool| Box::new(move |_| conversions::of_name(name, bytes(), back)) as Make;
+    let names = || NAME.iter().copied().cycle().take(LONG).collect();
+    vec![
+        row("a name of 12 bytes, to units", || NAME.to_vec(), false),
+        row("a name of 12 units, to bytes", || NAME.to_vec(), true),
+        row("65,535 bytes, to units", names, false),
+        row("65,535 units, to bytes", names, true),
+        row("65,535 units of byte 9F, to bytes", || vec![0x9f; LONG], true),
+    ]
 }
 
 pub fn growth(megabytes: &[u32], bulges: bool) -> Rows {
@@ -98,6 +113,18 @@ pub fn print(title: &str, rows: Rows, rounds: usize, shown: fn(usize, f64) -> St
             Some(plain) => println!("{line} {} | {} |", shown(row.bytes, *plain), grouped(times[2] / plain, 2)),
             None => println!("{line} | |"),
         }
+    }
+    Ok(())
+}
+
+/// The same of rows with two sides, a plain loop and the port.
+pub fn print_pairs(title: &str, rows: Rows, rounds: usize, shown: fn(usize, f64) -> String) -> Result<(), String> {
+    println!("\n| {title} | plain loop | port | times |\n|---|---|---|---|");
+    for make in rows {
+        let mut row = make(true)?;
+        let times = best(&mut row, rounds);
+        let (plain, port) = (shown(row.bytes, times[0]), shown(row.bytes, times[1]));
+        println!("| {} | {plain} | {port} | {} |", row.name, grouped(times[0] / times[1], 1));
     }
     Ok(())
 }

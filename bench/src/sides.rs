@@ -19,14 +19,14 @@ const VERSION: Version = Version::R2010;
 pub type Repeat = Box<dyn FnMut(u32)>;
 
 /// A row: the Rust, the port with doubles as f64, and as their 64 bits, all on the same bytes; and, of bodies of polylines, the plain Rust for
-/// these alone (src/plain.rs).
+/// these alone (src/plain.rs). Of a conversion a plain loop and the port, and no more.
 pub struct Row {
     pub name: String,
     pub bytes: usize,
     pub sides: Vec<Repeat>,
 }
 
-fn repeat(mut call: impl FnMut() + 'static) -> Repeat {
+pub fn repeat(mut call: impl FnMut() + 'static) -> Repeat {
     Box::new(move |times| {
         for _ in 0..times {
             call();

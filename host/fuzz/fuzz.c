@@ -2,7 +2,7 @@
  * the same. Payloads and lists lie against a page that may not be touched, behind them or in front of them, so that a read or a write
  * outside them ends the run; calls.h's claims are looked at on every input. Then every bit past the final places is turned over, and the
  * library must give the same line again (demand 3). A move is compared with the oracle's model, since the Rust has no such call, and of it the
- * entries past the lengths used are turned over. */
+ * entries past the lengths used are turned over. A conversion is compared with what iconv says, by the oracle. */
 #include "input.h"
 
 #include <stdio.h>
@@ -87,6 +87,7 @@ static Request request_of(const uint8_t *input, size_t size) {
     r.string_end = two(input + AT_STRING_END);
     memcpy(&r.fallback, input + AT_FALLBACK, 8);
     string_bytes = r.kind != KIND_HATCHS && r.kind != KIND_MOVE ? 0 : string_bytes < left ? string_bytes : left;
+    left -= r.kind == KIND_UNCP1252 ? left % 2 : 0; /* whole units */
     place_slots(input[AT_PLACEMENT]);
     r.main = lent_payload(SLOT_MAIN, input + HEAD, left - string_bytes);
     r.string = lent_payload(SLOT_STRING, input + size - string_bytes, string_bytes);
@@ -95,6 +96,9 @@ static Request request_of(const uint8_t *input, size_t size) {
     }
     if ((r.kind == KIND_HATCH || r.kind == KIND_HATCHS) && (input[AT_PLACEMENT] & 4)) {
         shorten_lists(&r, input[AT_SHORT]);
+    }
+    if (is_conversion(&r)) {
+        set_room(&r, input[AT_SHORT]);
     }
     return r;
 }
@@ -168,6 +172,18 @@ static void test_move(Request *r) {
     check_entries_past_the_lengths(r, &line);
 }
 
+static void test_conversion(const Request *r, const uint8_t *input) {
+    static Line line, asked;
+    size_t length = 0;
+    answer(r, &line);
+    asked.length = 0;
+    put_conversion(&asked, r);
+    uint8_t *judge = model_answer((const uint8_t *)asked.text, asked.length, &length);
+    compare(&line, judge, length);
+    check_conversion(r, &line, input[AT_FALLBACK]);
+    check_payload(r->main, input + HEAD);
+}
+
 int LLVMFuzzerTestOneInput(const uint8_t *input, size_t size) {
     static Line line;
     size_t length = 0;
@@ -177,6 +193,10 @@ int LLVMFuzzerTestOneInput(const uint8_t *input, size_t size) {
     Request request = request_of(input, size);
     if (request.kind == KIND_MOVE) {
         test_move(&request);
+        return 0;
+    }
+    if (is_conversion(&request)) {
+        test_conversion(&request, input);
         return 0;
     }
     answer(&request, &line);

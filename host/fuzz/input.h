@@ -1,5 +1,5 @@
 /* How a request lies in an input of the fuzzer: a fixed head, little-endian, then the main payload and the string payload. Of a move the main payload
- * is a hatch body, and the string payload is edits of what it reads as. */
+ * is a hatch body, and the string payload is edits of what it reads as. Of a conversion it is the list, units with their low byte first. */
 #ifndef INPUT_H
 #define INPUT_H
 
@@ -13,8 +13,9 @@ enum {
     AT_START = 3,         /* two bytes; ffff is the largest number there is, here and in the next two */
     AT_STRING_START = 5,  /* two bytes */
     AT_STRING_END = 7,    /* two bytes */
-    AT_SHORT = 9,         /* one byte: bits 0 and 1 for the words, 2 and 3 for the numbers: so many less than needed, and one more at 3 */
-    AT_FALLBACK = 10,     /* eight bytes */
+    AT_SHORT = 9,         /* one byte: bits 0 and 1 for the words, 2 and 3 for the numbers: so many less than needed, and one more at 3; of a conversion
+                           * signed, how many entries more than needed the output has, and none at -128 */
+    AT_FALLBACK = 10,     /* eight bytes; of a conversion the first is what the output holds before */
     AT_STRING_BYTES = 18, /* two bytes: how many of the last bytes are the string payload */
     HEAD = 20
 };
@@ -31,5 +32,11 @@ enum {
 void given_of(const Request *request, Given *given);
 void put_move(Line *line, const Given *given);
 size_t turn_over_lists(Given *given);
+
+/* conversions.c: the output's length by AT_SHORT, the request line, and the call once more with all that can be seen of it. */
+bool is_conversion(const Request *request);
+void set_room(Request *request, uint8_t more);
+void put_conversion(Line *line, const Request *request);
+void check_conversion(const Request *request, const Line *line, uint8_t held);
 
 #endif

@@ -10,6 +10,9 @@ mod answer_code;
 #[allow(dead_code)]
 mod answer_hatch;
 mod answer_prefix;
+#[allow(dead_code)]
+mod cp1252;
+mod cp1252_request;
 mod lists;
 mod move_model;
 mod move_request;

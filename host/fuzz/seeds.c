@@ -51,6 +51,16 @@ static size_t put_plain_edits(uint8_t *edits) {
     return put_edit(edits, at, EDIT_EXTRUSION_Z, 0x3ff0000000000000u);
 }
 
+/* AT_SHORT of a conversion: how many entries more than needed the output has. */
+static uint8_t more_room(const Request *r) {
+    size_t length = r->kind == KIND_UNCP1252 ? r->main.length / 2 : r->main.length;
+    if (!r->lent || r->room >= length) {
+        size_t more = r->lent ? r->room - length : 0;
+        return (uint8_t)(more > 0x7f ? 0x7f : more);
+    }
+    return r->room == 0 || length - r->room > 0x7f ? 0x80 : (uint8_t)(0x100u - (length - r->room));
+}
+
 static void write_input(const Request *r, const char *folder, unsigned index, const char *suffix) {
     uint8_t head[HEAD] = {0};
     char name[4096];
@@ -60,7 +70,7 @@ static void write_input(const Request *r, const char *folder, unsigned index, co
     put_two(head + AT_START, r->start);
     put_two(head + AT_STRING_START, r->string_start);
     put_two(head + AT_STRING_END, r->string_end);
-    head[AT_SHORT] = (uint8_t)(index / 4 % 16);
+    head[AT_SHORT] = r->kind > KIND_MOVE ? more_room(r) : (uint8_t)(index / 4 % 16);
     memcpy(head + AT_FALLBACK, &r->fallback, 8);
     uint8_t edits[4096];
     size_t edited = r->kind != KIND_MOVE ? 0 : r->given == NULL ? put_plain_edits(edits) : put_edits(edits, r->given);

@@ -4,7 +4,7 @@ use std::io::{self, BufRead, BufWriter, Write};
 
 use crate::request::{self, Request};
 use crate::show::Show;
-use crate::{answer_code, answer_hatch, answer_prefix, move_model};
+use crate::{answer_code, answer_hatch, answer_prefix, cp1252, move_model};
 
 /// The answer to one line.
 pub fn line(line: &str, show: Show) -> String {
@@ -13,6 +13,7 @@ pub fn line(line: &str, show: Show) -> String {
         Some(Request::Prefix { release, start, main }) => answer_prefix::answer(release, start, &main, show),
         Some(Request::Code { code, version, start, main }) => answer_code::answer(code, version, start, &main, show),
         Some(Request::Move(request)) => move_model::answer(&request, show),
+        Some(Request::CodePage(request)) => cp1252::answer(&request),
         None => "bad request".to_string(),
     }
 }

@@ -42,6 +42,15 @@ pub fn texts(answer: &str) -> Vec<(&str, &str)> {
     named.filter(|(_, value)| value.split(':').count() == 6).collect()
 }
 
+/// Who says what is right.
+fn judge(request: &str) -> &'static str {
+    match request.split(' ').next() {
+        Some("move") => "the model",
+        Some("cp1252" | "uncp1252") => "iconv",
+        _ => "the Rust",
+    }
+}
+
 impl Run {
     fn add(&mut self, request: &str, ours: &str, theirs: Option<&String>) {
         let differ = theirs.is_none_or(|line| line != ours);
@@ -61,8 +70,7 @@ impl Run {
         self.missing += usize::from(theirs.is_none());
         if differ && self.first.is_none() {
             let line = theirs.map_or("(no answer line)", String::as_str);
-            let judge = if request.starts_with("move ") { "the model" } else { "the Rust" };
-            self.first = Some(format!("{request}\n  {judge}: {ours}\n  the port: {line}"));
+            self.first = Some(format!("{request}\n  {}: {ours}\n  the port: {line}", judge(request)));
         }
     }
 

@@ -3,7 +3,7 @@
 use std::io::{self, BufWriter, Write};
 
 use crate::rng::Rng;
-use crate::{boundaries, gen_codes, gen_hatch, gen_move, gen_move_caps, gen_prefix};
+use crate::{boundaries, gen_codes, gen_cp1252, gen_hatch, gen_move, gen_move_caps, gen_prefix};
 
 #[derive(Clone, Copy, PartialEq)]
 pub enum Group {
@@ -12,10 +12,17 @@ pub enum Group {
     Prefix,
     Hatch,
     Move,
+    Cp1252,
 }
 
-const GROUPS: [(&str, Group); 5] =
-    [("codes", Group::Codes), ("tv", Group::Tv), ("prefix", Group::Prefix), ("hatch", Group::Hatch), ("move", Group::Move)];
+const GROUPS: [(&str, Group); 6] = [
+    ("codes", Group::Codes),
+    ("tv", Group::Tv),
+    ("prefix", Group::Prefix),
+    ("hatch", Group::Hatch),
+    ("move", Group::Move),
+    ("cp1252", Group::Cp1252),
+];
 
 /// The groups named, all if none is.
 pub fn groups(names: &[&str]) -> Result<Vec<Group>, String> {
@@ -36,7 +43,8 @@ pub struct Source {
 }
 
 impl Source {
-    pub fn new(group: Group, seed: u64, f64_entries: bool) -> Source {
+    /// With how many requests are asked for of this group alone; it is 0 where there are others.
+    pub fn new(group: Group, seed: u64, f64_entries: bool, count: u64) -> Source {
         let mut rng = Rng::new(seed ^ (group as u64 + 1) << 56);
         let first = match group {
             Group::Codes => Vec::new(), // the sweep, below
@@ -44,6 +52,7 @@ impl Source {
             Group::Prefix => boundaries::prefix(&mut rng),
             Group::Hatch => boundaries::hatch(&mut rng),
             Group::Move => gen_move_caps::all(),
+            Group::Cp1252 => gen_cp1252::first(count),
         };
         Source { group, rng, first, given: 0, f64_entries }
     }
@@ -61,11 +70,12 @@ impl Source {
             Group::Prefix => gen_prefix::any(&mut self.rng),
             Group::Hatch => gen_hatch::any(&mut self.rng),
             Group::Move => gen_move::any(&mut self.rng),
+            Group::Cp1252 => gen_cp1252::any(&mut self.rng),
         }
     }
 }
 
-/// Of twenty-three requests nine are codes, whose sweep is long, two texts, four prefixes, five hatches, three moves.
+/// Of twenty-five requests nine are codes, whose sweep is long, two texts, four prefixes, five hatches, three moves, two conversions.
 fn weight(group: Group) -> u64 {
     match group {
         Group::Codes => 9,
@@ -73,6 +83,7 @@ fn weight(group: Group) -> u64 {
         Group::Prefix => 4,
         Group::Hatch => 5,
         Group::Move => 3,
+        Group::Cp1252 => 2,
     }
 }
 
@@ -91,12 +102,13 @@ fn choose(rng: &mut Rng, groups: &[Group]) -> usize {
 
 pub fn run(args: &[&str], f64_entries: bool) -> Result<bool, String> {
     let [seed, count, names @ ..] = args else {
-        return Err("usage: oracle generate [--f64] SEED N [codes|tv|prefix|hatch|move]...".to_string());
+        return Err("usage: oracle generate [--f64] SEED N [codes|tv|prefix|hatch|move|cp1252]...".to_string());
     };
     let seed: u64 = seed.parse().map_err(|_| format!("no seed: {seed}"))?;
     let count: u64 = count.parse().map_err(|_| format!("no number of requests: {count}"))?;
     let groups = groups(names)?;
-    let mut sources: Vec<Source> = groups.iter().map(|group| Source::new(*group, seed, f64_entries)).collect();
+    let alone = if groups.len() == 1 { count } else { 0 };
+    let mut sources: Vec<Source> = groups.iter().map(|group| Source::new(*group, seed, f64_entries, alone)).collect();
     let mut rng = Rng::new(seed);
     let mut out = BufWriter::new(io::stdout().lock());
     for _ in 0..count {

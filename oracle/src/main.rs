@@ -6,6 +6,8 @@ mod answer;
 mod answer_code;
 mod answer_hatch;
 mod answer_prefix;
+mod cp1252;
+mod cp1252_request;
 mod lists;
 mod move_model;
 mod move_request;
@@ -25,6 +27,7 @@ mod encode_text;
 mod examples;
 mod examples_text;
 mod gen_codes;
+mod gen_cp1252;
 mod gen_hatch;
 mod gen_long;
 mod gen_move;
@@ -44,7 +47,7 @@ mod ways;
 use std::process::ExitCode;
 
 const USAGE: &str = "usage: oracle answer [--f64] < REQUESTS
-       oracle generate [--f64] SEED N [codes|tv|prefix|hatch|move]...
+       oracle generate [--f64] SEED N [codes|tv|prefix|hatch|move|cp1252]...
        oracle stored [--seed SEED] [codes|tv|prefix|hatch]...
        oracle compare-lines REQUESTS ORACLE-ANSWERS PORT-ANSWERS
        oracle examples

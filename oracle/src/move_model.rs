@@ -273,6 +273,6 @@ pub fn answer(request: &MoveRequest, show: Show) -> String {
     }
 }
 
-fn number_of(why: Why) -> u32 {
+pub fn number_of(why: Why) -> u32 {
     WAYS.iter().find(|(_, known)| *known == why).map(|(number, _)| *number).expect("a way of the table")
 }

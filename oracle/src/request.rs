@@ -1,5 +1,6 @@
 //! A line of the protocol as a request.
 
+use crate::cp1252_request::{self, CodePageRequest};
 use crate::move_request::{self, MoveRequest};
 use crate::version::Version;
 
@@ -70,6 +71,7 @@ pub enum Request {
     Prefix { release: u64, start: u64, main: Payload },
     Code { code: Code, version: Version, start: u64, main: Payload },
     Move(MoveRequest),
+    CodePage(CodePageRequest),
 }
 
 /// Releases as document 01 numbers them.
@@ -99,6 +101,8 @@ pub fn parse(line: &str) -> Option<Request> {
             Some(Request::Prefix { release: number(release)?, start: number(start)?, main: payload(main)? })
         }
         ["move", fields @ ..] => move_request::parse(fields).map(Request::Move),
+        ["cp1252", words @ ..] => cp1252_request::bytes(words).map(Request::CodePage),
+        ["uncp1252", words @ ..] => cp1252_request::units(words).map(Request::CodePage),
         ["dd", release, start, main, default] => one_code(Code::Dd(pattern(default)?), release, start, main),
         [name, release, start, main] => one_code(code(name)?, release, start, main),
         _ => None,

@@ -22,7 +22,7 @@ pub fn run(args: &[&str]) -> Result<bool, String> {
         names => (1, names),
     };
     let mut groups = generate::groups(names)?;
-    groups.retain(|group| *group != Group::Move); // the Rust has no such call
+    groups.retain(|group| ![Group::Move, Group::Cp1252].contains(group)); // the Rust has no such calls
     let mut seen = BTreeSet::new();
     for (request, _) in examples::all() {
         if !request.is_empty() && groups.contains(&group_of(&request)) && seen.insert(request.clone()) {
@@ -53,13 +53,14 @@ fn group_of(request: &str) -> Group {
         Some("prefix") => Group::Prefix,
         Some("hatch" | "hatchs") => Group::Hatch,
         Some("move") => Group::Move,
+        Some("cp1252" | "uncp1252") => Group::Cp1252,
         _ => Group::Codes,
     }
 }
 
 /// A few requests of each kind, each outcome and, where releases matter, each release.
 fn selection(group: Group, seed: u64) -> Vec<String> {
-    let mut source = Source::new(group, seed, false);
+    let mut source = Source::new(group, seed, false, 0);
     let mut taken: BTreeMap<String, usize> = BTreeMap::new();
     let mut lines = Vec::new();
     for _ in 0..LOOKED_THROUGH {
