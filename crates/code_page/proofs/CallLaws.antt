@@ -12,9 +12,8 @@ use Rattle.code_page.specs.declared.ConversionOutcome.the-variants.{Writ
 use Rattle.code_page.specs.declared.ConversionRefusal.the-variants.{UndefinedCharacter, OutputTooShort}
 use Rattle.code_page.specs.Mapping.{Mapped}
 use Rattle.code_page.specs.Conversion.{AllMapped, all, not-all, mappedAll, Conversion, converts, refuses, withRoom, conversion, after, answerOf, Converts}
-use Rattle.code_page.specs.Passes.{isAll, entriesOf}
+use Rattle.code_page.specs.Passes.{isAll}
 use Rattle.code_page.specs.MappedLists.{all-length}
-use Rattle.code_page.proofs.PassLaws.{all-of}
 
 module _ (f : ℕ → Mapped) (xs out : List ℕ) where
   -- an outcome, and the answer and the output that go with it
@@ -30,17 +29,13 @@ module _ (f : ℕ → Mapped) (xs out : List ℕ) where
       go not-all e = refl
       go (all ys) e = absurd (let w : _≡_ {A = ℕ} 0 1 = cc in omega arith)
 
-  module _ (judged : isAll (mappedAll f xs) ≡ true) where
-    mapped : mappedAll f xs ≡ all (entriesOf (mappedAll f xs))
-    mapped = all-of (mappedAll f xs) judged
-
+  module _ (ys : List ℕ) (mapped : mappedAll f xs ≡ all ys) where
     pub gives-too-short : length out < length xs → Converts f xs (Refused OutputTooShort) out out
     unfolding conversion
     gives-too-short h = given (refuses OutputTooShort) (Refused OutputTooShort) out (rw (mapped, lt-ltb (length out) (length xs) h)) refl refl
 
-    pub gives-written : (out′ : List ℕ) → length xs ≤ length out → out′ ≡ after (converts (entriesOf (mappedAll f xs))) out
-        → Converts f xs (Written (length xs)) out out′
+    pub gives-written : (out′ : List ℕ) → length xs ≤ length out → out′ ≡ after (converts ys) out → Converts f xs (Written (length xs)) out out′
     unfolding conversion
     gives-written out′ h e =
-        let ys = entriesOf (mappedAll f xs) in
-        given (converts ys) (Written (length xs)) out′ (rw (mapped, le-ltb (length out) (length xs) h)) (ap Written (sym (all-length f xs ys mapped))) e
+        let number : Written (length xs) ≡ Written (length ys) = ap Written (sym (all-length f xs ys mapped)) in
+        given (converts ys) (Written (length xs)) out′ (rw (mapped, le-ltb (length out) (length xs) h)) number e

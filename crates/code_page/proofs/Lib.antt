@@ -1,2 +1,3 @@
 pub mod PassLaws
+pub mod OwnLaws
 pub mod CallLaws

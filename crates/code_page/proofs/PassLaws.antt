@@ -59,34 +59,31 @@ set-next (y ∷ ys) [] i h g = absurd (not-suc-le-zero g)
 set-next (y ∷ ys) (x ∷ l) zero h g = refl
 set-next (y ∷ ys) (x ∷ l) (suc i) h g = ap (λ (t : List ℕ). y ∷ t) (set-next ys l i (le-of-suc-le-suc h) (le-of-suc-le-suc g))
 
-module _ (f : ℕ → Mapped) (xs out : List ℕ) where
-  abbrev pub Stored : ℕ → List ℕ → Type 0
-  Stored i out′ = (i ≤ length xs) × (out′ ≡ take i (entriesOf (mappedAll f xs)) ++ drop i out) × (length out′ ≡ length out)
+-- the first i entries of a list stand in front of what the output was
+module _ (ys out : List ℕ) where
+  abbrev pub Laid : ℕ → List ℕ → Type 0
+  Laid i out′ = (i ≤ length ys) × (out′ ≡ take i ys ++ drop i out) × (length out′ ≡ length out)
 
-  module _ (judged : isAll (mappedAll f xs) ≡ true) where
-    abbrev entries : List ℕ
-    entries = entriesOf (mappedAll f xs)
+  pub laid-more : (i y : ℕ) (out′ : List ℕ) → Laid i out′ → i < length ys → length ys ≤ length out → y ≡ getD ys i 0 → Laid (i + 1) (set out′ i y)
+  laid-more i y out′ l h room e = (omega arith, rw (add-one i, l .1, e) (set-next ys out i h (omega arith)), length-set out′ i y ∙ l .2)
 
-    mapped : mappedAll f xs ≡ all entries
-    mapped = all-of (mappedAll f xs) judged
+  pub laid-all : (i : ℕ) (out′ : List ℕ) → Laid i out′ → length ys ≤ i → out′ ≡ after (converts ys) out
+  laid-all i out′ l h =
+      let end : i ≡ length ys = omega (arith, l .0) in
+      l .1 ∙ rw (end, take-length ys)
 
-    pub entry-stored : (i : ℕ) → i < length xs → f (getD xs i 0) ≡ defined (getD entries i 0)
-    entry-stored i h = all-entries f 0 0 xs entries mapped i h
+module _ (f : ℕ → Mapped) (xs : List ℕ) (judged : isAll (mappedAll f xs) ≡ true) where
+  abbrev entries : List ℕ
+  entries = entriesOf (mappedAll f xs)
 
-    pub as-many : length entries ≡ length xs
-    as-many = all-length f xs entries mapped
+  mapped : mappedAll f xs ≡ all entries
+  mapped = all-of (mappedAll f xs) judged
 
-    pub stored-more : (i y : ℕ) (out′ : List ℕ) → Stored i out′ → i < length xs → length xs ≤ length out → f (getD xs i 0) ≡ defined y
-        → Stored (i + 1) (set out′ i y)
-    stored-more i y out′ s h room e = (omega arith, laid, length-set out′ i y ∙ s .2)
-      where
-        value : y ≡ getD entries i 0
-        value = let same : defined y ≡ defined (getD entries i 0) = sym e ∙ entry-stored i h in cc
+  pub as-many : length entries ≡ length xs
+  as-many = all-length f xs entries mapped
 
-        laid : set out′ i y ≡ take (i + 1) entries ++ drop (i + 1) out
-        laid = rw (add-one i, s .1, value) (set-next entries out i (omega (arith, as-many)) (omega arith))
+  pub entry-stored : (i : ℕ) → i < length xs → f (getD xs i 0) ≡ defined (getD entries i 0)
+  entry-stored i h = all-entries f 0 0 xs entries mapped i h
 
-    pub stored-all : (i : ℕ) (out′ : List ℕ) → Stored i out′ → length xs ≤ i → out′ ≡ after (converts entries) out
-    stored-all i out′ s h =
-        let end : i ≡ length entries = omega (arith, s .0, as-many) in
-        s .1 ∙ rw (end, take-length entries)
+  pub same-entry : (i y : ℕ) → i < length xs → f (getD xs i 0) ≡ defined y → y ≡ getD entries i 0
+  same-entry i y h e = let same : defined y ≡ defined (getD entries i 0) = sym e ∙ entry-stored i h in cc

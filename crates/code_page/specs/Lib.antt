@@ -6,6 +6,7 @@ pub mod Everywhere
 pub mod Facts
 pub mod Inverse
 pub mod MappedLists
+pub mod Own
 pub mod Answers
 pub mod ThereAndBack
 pub mod Cases

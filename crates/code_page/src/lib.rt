@@ -4,7 +4,9 @@
 ghost use Rattle.code_page.specs.Mapping.{unitOf, byteOf};
 ghost use Rattle.code_page.specs.Conversion.{Converts};
 
+pub mod by_table;
 pub mod bytes;
+pub mod own;
 pub mod table;
 pub mod units;
 
@@ -20,36 +22,22 @@ pub enum ConversionOutcome {
     Refused(ConversionRefusal),
 }
 
-// The units of 8-bit text, one for each byte.
+// The units of 8-bit text, one for each byte. Where every byte is its own unit, the table is not needed.
 pub fn to_units(bytes: &[u8], units: &mut [u16]) -> ConversionOutcome
     ensures { λ r. ⌜ Converts unitOf (now (bytes .entry)) r (now (units .entry)) (now (units .exit)) ⌝ }
 {
-    let table = table::cp1252();
-    let defined = units::are_defined(&table, bytes);
-    let short = units.len() < bytes.len();
-    if !defined {
-        return ConversionOutcome::Refused(ConversionRefusal::UndefinedCharacter);
+    if own::are_own_bytes(bytes) {
+        return own::to_units(bytes, units);
     }
-    if short {
-        return ConversionOutcome::Refused(ConversionRefusal::OutputTooShort);
-    }
-    units::put_units(&table, bytes, units);
-    ConversionOutcome::Written(bytes.len())
+    by_table::to_units(bytes, units)
 }
 
 // The way back: the bytes of 16-bit units.
 pub fn to_bytes(units: &[u16], bytes: &mut [u8]) -> ConversionOutcome
     ensures { λ r. ⌜ Converts byteOf (now (units .entry)) r (now (bytes .entry)) (now (bytes .exit)) ⌝ }
 {
-    let table = table::cp1252();
-    let defined = bytes::are_units(&table, units);
-    let short = bytes.len() < units.len();
-    if !defined {
-        return ConversionOutcome::Refused(ConversionRefusal::UndefinedCharacter);
+    if own::are_own_units(units) {
+        return own::to_bytes(units, bytes);
     }
-    if short {
-        return ConversionOutcome::Refused(ConversionRefusal::OutputTooShort);
-    }
-    bytes::put_bytes(&table, units, bytes);
-    ConversionOutcome::Written(units.len())
+    by_table::to_bytes(units, bytes)
 }

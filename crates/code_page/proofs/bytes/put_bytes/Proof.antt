@@ -6,12 +6,14 @@ use lib.ListN.{length, getD}
 use denote.Ref.{now}
 use borrow.Author.Needs.{needs}
 use Rattle.code_page.specs.Mapping.{byteOf, defined, undefined}
-use Rattle.code_page.proofs.PassLaws.{found-byte, found-none, Stored, entry-stored, stored-more, stored-all}
+use Rattle.code_page.specs.Conversion.{mappedAll}
+use Rattle.code_page.specs.Passes.{entriesOf}
+use Rattle.code_page.proofs.PassLaws.{found-byte, found-none, Laid, laid-more, laid-all, as-many, entry-stored, same-entry}
 use Rattle.code_page.proofs.bytes.put_bytes.Statement.{statement}
 use Rattle.code_page.proofs.bytes.put_bytes.Tie as tie
 
 abbrev Inv-loop : tie.InvT-loop
-Inv-loop table units bytes₀ i₀ bytes i = Stored byteOf units bytes₀ i bytes
+Inv-loop table units bytes₀ i₀ bytes i = Laid (entriesOf (mappedAll byteOf units)) bytes₀ i bytes
 
 abbrev μ-loop : tie.MeasureT-loop
 μ-loop table units bytes₀ i₀ bytes i = length units - i
@@ -59,7 +61,7 @@ returns c =
     let start = head .before .before .before in
     let units = now (start .args .units) in
     let none = found-none (byteOf (getD units (head .loop .i) 0)) (sym (found .byte-of .ensures) ∙ c .enum-told .given .1) in
-    let some = entry-stored byteOf units (now (start .args .bytes)) (start .pre .judged) (head .loop .i) (turn .loop-test .taken) in
+    let some = entry-stored byteOf units (start .pre .judged) (head .loop .i) (turn .loop-test .taken) in
     absurd (nothing (sym none ∙ some))
   where
     nothing : {n : ℕ} → undefined ≡ defined n → ⊥
@@ -79,8 +81,11 @@ loop-again c =
     let start = head .before .before .before in
     let units = now (start .args .units) in
     let some = found-byte (byteOf (getD units (head .loop .i) 0)) _ (sym (found .byte-of .ensures) ∙ c .before .byte .given .1) in
-    stored-more byteOf units (now (start .args .bytes)) (start .pre .judged) (head .loop .i) _ (head .loop .bytes) (head .loop .inv)
-    (turn .loop-test .taken) (start .pre .room) some
+    let more = turn .loop-test .taken in
+    let judged = start .pre .judged in
+    laid-more _ (now (start .args .bytes)) (head .loop .i) _ (head .loop .bytes) (head .loop .inv)
+    (omega (arith, more, as-many byteOf units judged)) (omega (arith, start .pre .room, as-many byteOf units judged))
+    (same-entry byteOf units judged (head .loop .i) _ more some)
 
 same-length-2 : tie.Need-same-length-2 Inv-loop μ-loop
 same-length-2 c = let head = c .before in head .loop .inv .2
@@ -89,8 +94,8 @@ returns-2 : tie.Need-returns-2 Inv-loop μ-loop
 returns-2 c =
     let head = c .before in
     let start = head .before .before .before in
-    stored-all byteOf (now (start .args .units)) (now (start .args .bytes)) (start .pre .judged) (head .loop .i) (head .loop .bytes) (head .loop .inv)
-    (c .loop-test .left)
+    laid-all _ (now (start .args .bytes)) (head .loop .i) (head .loop .bytes) (head .loop .inv)
+    (omega (arith, c .loop-test .left, as-many byteOf (now (start .args .units)) (start .pre .judged)))
 
 pub put-bytes-spec : {M : Type 1} → statement M
 put-bytes-spec =

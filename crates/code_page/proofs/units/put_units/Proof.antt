@@ -9,12 +9,12 @@ use Rattle.code_page.specs.Mapping.{unitOf, defined}
 use Rattle.code_page.specs.Conversion.{mappedAll}
 use Rattle.code_page.specs.Passes.{entriesOf}
 use Rattle.code_page.specs.Facts.{unit-entry, looked-up}
-use Rattle.code_page.proofs.PassLaws.{Stored, entry-stored, stored-more, stored-all}
+use Rattle.code_page.proofs.PassLaws.{Laid, laid-more, laid-all, as-many, entry-stored}
 use Rattle.code_page.proofs.units.put_units.Statement.{statement}
 use Rattle.code_page.proofs.units.put_units.Tie as tie
 
 abbrev Inv-loop : tie.InvT-loop
-Inv-loop table bytes units₀ i₀ units i = Stored unitOf bytes units₀ i units
+Inv-loop table bytes units₀ i₀ units i = Laid (entriesOf (mappedAll unitOf bytes)) units₀ i units
 
 abbrev μ-loop : tie.MeasureT-loop
 μ-loop table bytes units₀ i₀ units i = length bytes - i
@@ -60,12 +60,13 @@ loop-again c =
     let bytes = now (start .args .bytes) in
     let byte = getD bytes (head .loop .i) 0 in
     let small : byte < 256 = omega (arith, known .shared-slice-known .given (head .loop .i)) in
-    let unit = getD (entriesOf (mappedAll unitOf bytes)) (head .loop .i) 0 in
     let more = known .before .loop-test .taken in
-    let is : unitOf byte ≡ defined unit = entry-stored unitOf bytes (now (start .args .units)) (start .pre .judged) (head .loop .i) more in
+    let judged = start .pre .judged in
+    let unit = getD (entriesOf (mappedAll unitOf bytes)) (head .loop .i) 0 in
+    let is : unitOf byte ≡ defined unit = entry-stored unitOf bytes judged (head .loop .i) more in
     let read : getD (now (start .args .table)) byte 0 ≡ unit = rw (start .pre .lent) (sym (looked-up byte small) ∙ unit-entry byte unit is) in
-    stored-more unitOf bytes (now (start .args .units)) (start .pre .judged) (head .loop .i) _ (head .loop .units) (head .loop .inv)
-    more (start .pre .room) (rw read is)
+    laid-more _ (now (start .args .units)) (head .loop .i) _ (head .loop .units) (head .loop .inv)
+    (omega (arith, more, as-many unitOf bytes judged)) (omega (arith, start .pre .room, as-many unitOf bytes judged)) read
 
 same-length : tie.Need-same-length Inv-loop μ-loop
 same-length c = let head = c .before in head .loop .inv .2
@@ -74,8 +75,9 @@ returns : tie.Need-returns Inv-loop μ-loop
 returns c =
     let head = c .before in
     let start = head .before in
-    stored-all unitOf (now (start .args .bytes)) (now (start .args .units)) (start .pre .judged) (head .loop .i) (head .loop .units) (head .loop .inv)
-    (c .loop-test .left)
+    let bytes = now (start .args .bytes) in
+    laid-all _ (now (start .args .units)) (head .loop .i) (head .loop .units) (head .loop .inv)
+    (omega (arith, c .loop-test .left, as-many unitOf bytes (start .pre .judged)))
 
 pub put-units-spec : {M : Type 1} → statement M
 put-units-spec =

@@ -7,9 +7,10 @@ use borrow.Author.Tests.{not-true, not-false, ltb-true, ltb-false}
 use Rattle.code_page.specs.Mapping.{byteOf}
 use Rattle.code_page.specs.Conversion.{mappedAll}
 use Rattle.code_page.specs.Passes.{isAll}
+use Rattle.code_page.proofs.PassLaws.{all-of}
 use Rattle.code_page.proofs.CallLaws.{gives-undefined, gives-too-short, gives-written}
-use Rattle.code_page.proofs.to_bytes.Statement.{statement}
-use Rattle.code_page.proofs.to_bytes.Tie as tie
+use Rattle.code_page.proofs.by_table.to_bytes.Statement.{statement}
+use Rattle.code_page.proofs.by_table.to_bytes.Tie as tie
 
 cp1252-requires : tie.Need-cp1252-requires
 cp1252-requires c κs = search needs
@@ -31,7 +32,7 @@ returns-2 c =
     let called = judged .before .before in
     let start = called .before .before .before in
     let yes : isAll (mappedAll byteOf (now (start .args .units))) ≡ true = sym (judged .are-units .ensures) ∙ not-false _ (c .before .if1 .left) in
-    gives-too-short byteOf (now (start .args .units)) (now (start .args .bytes)) yes (ltb-true _ _ (c .if2 .taken))
+    gives-too-short byteOf (now (start .args .units)) (now (start .args .bytes)) _ (all-of _ yes) (ltb-true _ _ (c .if2 .taken))
 
 put-bytes-requires : tie.Need-put-bytes-requires
 put-bytes-requires c κs =
@@ -55,7 +56,8 @@ returns-3 c =
     let called = judged .before .before in
     let start = called .before .before .before in
     let yes : isAll (mappedAll byteOf (now (start .args .units))) ≡ true = sym (judged .are-units .ensures) ∙ not-false _ (passed .before .if1 .left) in
-    gives-written byteOf (now (start .args .units)) (now (start .args .bytes)) yes _ (ltb-false _ _ (passed .if2 .left)) (stored .put-bytes .ensures)
+    let room = ltb-false _ _ (passed .if2 .left) in
+    gives-written byteOf (now (start .args .units)) (now (start .args .bytes)) _ (all-of _ yes) _ room (stored .put-bytes .ensures)
 
 pub to-bytes-spec : {M : Type 1} → statement M
 to-bytes-spec =

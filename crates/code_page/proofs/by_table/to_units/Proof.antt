@@ -7,9 +7,10 @@ use borrow.Author.Tests.{not-true, not-false, ltb-true, ltb-false}
 use Rattle.code_page.specs.Mapping.{unitOf}
 use Rattle.code_page.specs.Conversion.{mappedAll}
 use Rattle.code_page.specs.Passes.{isAll}
+use Rattle.code_page.proofs.PassLaws.{all-of}
 use Rattle.code_page.proofs.CallLaws.{gives-undefined, gives-too-short, gives-written}
-use Rattle.code_page.proofs.to_units.Statement.{statement}
-use Rattle.code_page.proofs.to_units.Tie as tie
+use Rattle.code_page.proofs.by_table.to_units.Statement.{statement}
+use Rattle.code_page.proofs.by_table.to_units.Tie as tie
 
 cp1252-requires : tie.Need-cp1252-requires
 cp1252-requires c κs = search needs
@@ -31,7 +32,7 @@ returns-2 c =
     let called = judged .before .before in
     let start = called .before .before .before in
     let yes : isAll (mappedAll unitOf (now (start .args .bytes))) ≡ true = sym (judged .are-defined .ensures) ∙ not-false _ (c .before .if1 .left) in
-    gives-too-short unitOf (now (start .args .bytes)) (now (start .args .units)) yes (ltb-true _ _ (c .if2 .taken))
+    gives-too-short unitOf (now (start .args .bytes)) (now (start .args .units)) _ (all-of _ yes) (ltb-true _ _ (c .if2 .taken))
 
 put-units-requires : tie.Need-put-units-requires
 put-units-requires c κs =
@@ -55,7 +56,8 @@ returns-3 c =
     let called = judged .before .before in
     let start = called .before .before .before in
     let yes : isAll (mappedAll unitOf (now (start .args .bytes))) ≡ true = sym (judged .are-defined .ensures) ∙ not-false _ (passed .before .if1 .left) in
-    gives-written unitOf (now (start .args .bytes)) (now (start .args .units)) yes _ (ltb-false _ _ (passed .if2 .left)) (stored .put-units .ensures)
+    let room = ltb-false _ _ (passed .if2 .left) in
+    gives-written unitOf (now (start .args .bytes)) (now (start .args .units)) _ (all-of _ yes) _ room (stored .put-units .ensures)
 
 pub to-units-spec : {M : Type 1} → statement M
 to-units-spec =

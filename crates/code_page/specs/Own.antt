@@ -1,0 +1,52 @@
+-- Entries that are mapped to themselves, either way: below 80 and from A0 to FF (hexadecimal). Assumes nothing.
+use mathlib.Core.Path.{_≡_, refl, sym, ap, _∙_}
+use mathlib.Core.Bool.{Bool, true, false, _&&_, _||_, or-true}
+use mathlib.Core.List.{List, [], _∷_}
+use Prim.Native.Nat.{ℕ, _<_, _≤_}
+use native.Mathlib.Omega.{arith}
+use lib.Dec.{ltb, leb}
+use borrow.Author.Tests.{ltb-true, leb-true}
+use Rattle.code_page.specs.Mapping.{Mapped, defined, unitOf, byteOf}
+use Rattle.code_page.specs.Conversion.{all, mappedAll}
+use Rattle.code_page.specs.Facts.{low-own, high-own}
+use Rattle.code_page.specs.Inverse.{back}
+
+abbrev pub isOwn : ℕ → Bool
+isOwn x = ltb x 0x80 || (leb 0xA0 x && ltb x 0x100)
+
+abbrev pub allOwn : List ℕ → Bool
+allOwn [] = true
+allOwn (x ∷ xs) = isOwn x && allOwn xs
+
+both : (a b : Bool) → a && b ≡ true → (a ≡ true) × (b ≡ true)
+both true b e = (refl, e)
+both false b e = absurd (let w : _≡_ {A = ℕ} 0 1 = cc in omega arith)
+
+pub own-unit : (x : ℕ) → isOwn x ≡ true → unitOf x ≡ defined x
+own-unit x e = go (ltb x 0x80) refl
+  where
+    go : (t : Bool) → ltb x 0x80 ≡ t → unitOf x ≡ defined x
+    go true f = let l = ltb-true x 0x80 f in low-own x (omega arith) l
+    go false f =
+        let rest : leb 0xA0 x && ltb x 0x100 ≡ true = rw f at e in
+        let parts = both (leb 0xA0 x) (ltb x 0x100) rest in
+        high-own x (ltb-true x 0x100 (parts .1)) (leb-true 0xA0 x (parts .0))
+
+pub own-byte : (x : ℕ) → isOwn x ≡ true → byteOf x ≡ defined x
+own-byte x e = back x x (own-unit x e)
+
+-- a list of such entries is mapped to itself
+pub own-mapped : (f : ℕ → Mapped) → ((x : ℕ) → isOwn x ≡ true → f x ≡ defined x) → (xs : List ℕ) → allOwn xs ≡ true → mappedAll f xs ≡ all xs
+own-mapped f own [] e = refl
+own-mapped f own (x ∷ xs) e =
+    let parts = both (isOwn x) (allOwn xs) e in
+    rw (own x (parts .0), own-mapped f own xs (parts .1))
+
+pub own-small : (x : ℕ) → isOwn x ≡ true → x < 0x100
+own-small x e = go (ltb x 0x80) refl
+  where
+    go : (t : Bool) → ltb x 0x80 ≡ t → x < 0x100
+    go true f = let l = ltb-true x 0x80 f in omega arith
+    go false f =
+        let rest : leb 0xA0 x && ltb x 0x100 ≡ true = rw f at e in
+        ltb-true x 0x100 (both (leb 0xA0 x) (ltb x 0x100) rest .1)
