@@ -7,8 +7,11 @@ use std::sync::OnceLock;
 use crate::ffi;
 use crate::sides::{Repeat, Row, repeat};
 
-/// Twelve bytes, two of them accented letters, and one from 80 to 9F (hexadecimal), whose units are other numbers: "Ø 80 – Küche".
-pub const NAME: &[u8; 12] = b"\xd8 80 \x96 K\xfcche";
+/// Twelve bytes, two of them accented letters: "Ø 80 / Küche". All are their own units.
+pub const NAME: &[u8; 12] = b"\xd8 80 / K\xfcche";
+
+/// The same with a byte from 80 to 9F (hexadecimal), whose unit is another number: "Ø 80 – Küche".
+pub const WITH_DASH: &[u8; 12] = b"\xd8 80 \x96 K\xfcche";
 
 /// What stands in the loop's table for a byte without a unit.
 const UNDEFINED: u16 = 0xffff;

@@ -3,7 +3,7 @@
 use std::time::Instant;
 
 use crate::bodies::{self, Named};
-use crate::conversions::{self, NAME};
+use crate::conversions::{self, NAME, WITH_DASH};
 use crate::moves;
 use crate::sides::{self, Repeat, Row};
 
@@ -49,11 +49,16 @@ pub fn conversions() -> Rows {
     const LONG: usize = 65_535;
     let row = |name: &'static str, bytes: fn() -> Vec<u8>, back: bool| Box::new(move |_| conversions::of_name(name, bytes(), back)) as Make;
     let names = || NAME.iter().copied().cycle().take(LONG).collect();
+    let dashes = || WITH_DASH.iter().copied().cycle().take(LONG).collect();
     vec![
         row("a name of 12 bytes, to units", || NAME.to_vec(), false),
         row("a name of 12 units, to bytes", || NAME.to_vec(), true),
+        row("a name of 12 bytes with a dash, to units", || WITH_DASH.to_vec(), false),
+        row("a name of 12 units with a dash, to bytes", || WITH_DASH.to_vec(), true),
         row("65,535 bytes, to units", names, false),
         row("65,535 units, to bytes", names, true),
+        row("65,535 bytes with dashes, to units", dashes, false),
+        row("65,535 units with dashes, to bytes", dashes, true),
         row("65,535 units of byte 9F, to bytes", || vec![0x9f; LONG], true),
     ]
 }

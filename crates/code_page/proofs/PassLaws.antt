@@ -12,7 +12,7 @@ use lib.Seq.{drop-cons, take-length}
 use Rattle.code_page.specs.Mapping.{Mapped, defined, undefined}
 use Rattle.code_page.specs.Conversion.{AllMapped, all, not-all, joined, mappedAll, converts, after}
 use Rattle.code_page.specs.declared.bytes.Found.the-variants.{Byte, None}
-use Rattle.code_page.specs.Passes.{isAll, entriesOf, foundOf}
+use Rattle.code_page.specs.Passes.{isAll, entriesOf, isDefined, foundOf}
 use Rattle.code_page.specs.MappedLists.{all-length, all-entries}
 
 -- ---- what the byte that was found says of its unit
@@ -23,6 +23,14 @@ found-byte undefined b e = absurd (let w : _≡_ {A = ℕ} 0 1 = cc in omega ari
 pub found-none : (m : Mapped) → foundOf m ≡ None → m ≡ undefined
 found-none (defined a) e = absurd (let w : _≡_ {A = ℕ} 0 1 = cc in omega arith)
 found-none undefined e = refl
+
+pub is-defined : (m : Mapped) → isDefined m ≡ true → (b : ℕ) × (m ≡ defined b)
+is-defined (defined b) e = (b, refl)
+is-defined undefined e = absurd (let w : _≡_ {A = ℕ} 0 1 = cc in omega arith)
+
+pub is-undefined : (m : Mapped) → isDefined m ≡ false → m ≡ undefined
+is-undefined (defined b) e = absurd (let w : _≡_ {A = ℕ} 0 1 = cc in omega arith)
+is-undefined undefined e = refl
 
 -- ---- what was judged is all there
 pub all-of : (m : AllMapped) → isAll m ≡ true → m ≡ all (entriesOf m)

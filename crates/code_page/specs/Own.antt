@@ -5,10 +5,10 @@ use mathlib.Core.List.{List, [], _∷_}
 use Prim.Native.Nat.{ℕ, _<_, _≤_}
 use native.Mathlib.Omega.{arith}
 use lib.Dec.{ltb, leb}
-use borrow.Author.Tests.{ltb-true, leb-true}
+use borrow.Author.Tests.{ltb-true, ltb-false, leb-true, leb-false, lt-ltb}
 use Rattle.code_page.specs.Mapping.{Mapped, defined, unitOf, byteOf}
 use Rattle.code_page.specs.Conversion.{all, mappedAll}
-use Rattle.code_page.specs.Facts.{low-own, high-own}
+use Rattle.code_page.specs.Facts.{low-own, high-own, below-own, above-between}
 use Rattle.code_page.specs.Inverse.{back}
 
 abbrev pub isOwn : ℕ → Bool
@@ -50,3 +50,28 @@ own-small x e = go (ltb x 0x80) refl
     go false f =
         let rest : leb 0xA0 x && ltb x 0x100 ≡ true = rw f at e in
         ltb-true x 0x100 (both (leb 0xA0 x) (ltb x 0x100) rest .1)
+
+-- ---- a unit that is not own can only be a byte's from 80 to 9F
+unlike : true ≡ false → ⊥
+unlike e = let w : _≡_ {A = ℕ} 0 1 = cc in omega arith
+
+not-own-between : (x : ℕ) → isOwn x ≡ false → x < 0x100 → (0x80 ≤ x) × (x < 0xA0)
+not-own-between x n h = (low (ltb x 0x80) refl, high (leb 0xA0 x) refl)
+  where
+    low : (t : Bool) → ltb x 0x80 ≡ t → 0x80 ≤ x
+    low true f = absurd (unlike (rw f at n))
+    low false f = ltb-false x 0x80 f
+
+    high : (t : Bool) → leb 0xA0 x ≡ t → x < 0xA0
+    high true f = absurd (unlike (sym (or-true (ltb x 0x80)) ∙ (rw (f, lt-ltb x 0x100 h) at n)))
+    high false f = leb-false 0xA0 x f
+
+pub other-between : (b u : ℕ) → unitOf b ≡ defined u → isOwn u ≡ false → (0x80 ≤ b) × (b < 0xA0)
+other-between b u e n = go (ltb u 0x100) refl
+  where
+    go : (t : Bool) → ltb u 0x100 ≡ t → (0x80 ≤ b) × (b < 0xA0)
+    go true f =
+        let small = ltb-true u 0x100 f in
+        let same : b ≡ u = below-own b u e small in
+        rw same (not-own-between u n small)
+    go false f = above-between b u e (ltb-false u 0x100 f)

@@ -24,6 +24,10 @@ pub record Storing (f : ℕ → Mapped) (table xs out : List ℕ) : Type 0 where
   pub judged : isAll (mappedAll f xs) ≡ true
   pub room : length xs ≤ length out
 
+abbrev pub isDefined : Mapped → Bool
+isDefined (defined b) = true
+isDefined undefined = false
+
 abbrev pub foundOf : Mapped → Found
 foundOf (defined b) = Byte b
 foundOf undefined = None

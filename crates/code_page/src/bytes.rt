@@ -1,10 +1,12 @@
 // From units back to bytes: every unit is judged first, and only then is a byte stored.
 ghost use mathlib.Core.Path.{_≡_};
-ghost use Prim.Native.Nat.{_≤_};
+ghost use mathlib.Core.Bool.{false};
 ghost use Rattle.code_page.specs.Cp1252.{cp1252};
-ghost use Rattle.code_page.specs.Mapping.{byteOf, mark};
+ghost use Rattle.code_page.specs.Mapping.{byteOf};
 ghost use Rattle.code_page.specs.Conversion.{mappedAll, converts, after};
-ghost use Rattle.code_page.specs.Passes.{isAll, entriesOf, Storing, foundOf};
+ghost use Rattle.code_page.specs.Own.{isOwn};
+ghost use Rattle.code_page.specs.Passes.{isAll, entriesOf, Storing, isDefined, foundOf};
+use crate::own::is_own_unit;
 use crate::table::UNDEFINED;
 
 // The byte that has a unit, if one has.
@@ -13,11 +15,14 @@ pub enum Found {
     None,
 }
 
-// Among bytes 80 to 9F (hexadecimal), where every unit from 100 up stands: at most 32 comparisons.
+// The byte of a unit that is not its own byte: among bytes 80 to 9F (hexadecimal), by at most 32 comparisons.
 fn byte_80_to_9f(table: &[u16; 256], unit: u16) -> Found
-    requires { ⌜ (now table ≡ cp1252) × (256 ≤ unit) × (unit ≡ mark → ⊥) ⌝ }
+    requires { ⌜ (now table ≡ cp1252) × (isOwn unit ≡ false) ⌝ }
     ensures { λ r. ⌜ r ≡ foundOf (byteOf unit) ⌝ }
 {
+    if unit == UNDEFINED {
+        return Found::None;
+    }
     let mut byte: usize = 128;
     while byte < 160 {
         if table[byte] == unit {
@@ -28,20 +33,27 @@ fn byte_80_to_9f(table: &[u16; 256], unit: u16) -> Found
     Found::None
 }
 
-// The byte of any unit. One below 100 is its own byte or nobody's: one look.
-pub fn byte_of(table: &[u16; 256], unit: u16) -> Found
+// Whether a unit is one of the table.
+fn is_unit(table: &[u16; 256], unit: u16) -> bool
+    requires { ⌜ now table ≡ cp1252 ⌝ }
+    ensures { λ r. ⌜ r ≡ isDefined (byteOf unit) ⌝ }
+{
+    if is_own_unit(unit) {
+        return true;
+    }
+    match byte_80_to_9f(table, unit) {
+        Found::Byte(_) => true,
+        Found::None => false,
+    }
+}
+
+// The byte of any unit.
+fn byte_of(table: &[u16; 256], unit: u16) -> Found
     requires { ⌜ now table ≡ cp1252 ⌝ }
     ensures { λ r. ⌜ r ≡ foundOf (byteOf unit) ⌝ }
 {
-    if unit < 256 {
-        let byte = unit as usize;
-        if table[byte] == unit {
-            return Found::Byte(unit as u8);
-        }
-        return Found::None;
-    }
-    if unit == UNDEFINED {
-        return Found::None;
+    if is_own_unit(unit) {
+        return Found::Byte(unit as u8);
     }
     byte_80_to_9f(table, unit)
 }
@@ -53,11 +65,8 @@ pub fn are_units(table: &[u16; 256], units: &[u16]) -> bool
 {
     let mut k = 0;
     while k < units.len() {
-        match byte_of(table, units[k]) {
-            Found::Byte(_) => {}
-            Found::None => {
-                return false;
-            }
+        if !is_unit(table, units[k]) {
+            return false;
         }
         k += 1;
     }

@@ -6,7 +6,7 @@ ghost use Prim.Native.Nat.{_≤_};
 ghost use lib.ListN.{length};
 ghost use Rattle.code_page.specs.Mapping.{unitOf, byteOf};
 ghost use Rattle.code_page.specs.Conversion.{converts, after, Converts};
-ghost use Rattle.code_page.specs.Own.{allOwn};
+ghost use Rattle.code_page.specs.Own.{isOwn, allOwn};
 use crate::ConversionOutcome;
 use crate::ConversionRefusal;
 
@@ -23,6 +23,13 @@ pub fn are_own_bytes(bytes: &[u8]) -> bool
     own
 }
 
+// Whether a unit is its own byte.
+pub fn is_own_unit(unit: u16) -> bool
+    ensures { λ r. ⌜ r ≡ isOwn unit ⌝ }
+{
+    (unit < 0x80) | ((0xA0 <= unit) & (unit < 0x100))
+}
+
 // Whether every unit is its own byte.
 pub fn are_own_units(units: &[u16]) -> bool
     ensures { λ r. ⌜ r ≡ allOwn (now (units .entry)) ⌝ }
@@ -30,7 +37,7 @@ pub fn are_own_units(units: &[u16]) -> bool
     let mut own = true;
     let mut k = 0;
     while k < units.len() {
-        own = own & ((units[k] < 0x80) | ((0xA0 <= units[k]) & (units[k] < 0x100)));
+        own = own & is_own_unit(units[k]);
         k += 1;
     }
     own

@@ -4,8 +4,9 @@ use mathlib.Core.Path.{refl, sym, _∙_}
 use lib.ListN.{length, getD}
 use denote.Ref.{now}
 use borrow.Author.Needs.{needs}
+use borrow.Author.Tests.{not-true, not-false}
 use Rattle.code_page.specs.Mapping.{byteOf}
-use Rattle.code_page.proofs.PassLaws.{found-byte, found-none, JudgedTo, judged-more, judged-undefined, judged-all}
+use Rattle.code_page.proofs.PassLaws.{is-defined, is-undefined, JudgedTo, judged-more, judged-undefined, judged-all}
 use Rattle.code_page.proofs.bytes.are_units.Statement.{statement}
 use Rattle.code_page.proofs.bytes.are_units.Tie as tie
 
@@ -18,28 +19,22 @@ abbrev μ-loop : tie.MeasureT-loop
 loop-holds : tie.Need-loop-holds Inv-loop μ-loop
 loop-holds c = (search needs, refl)
 
-mul-byte-of : tie.Need-mul-byte-of Inv-loop μ-loop
-mul-byte-of c = search needs
+mul-is-unit : tie.Need-mul-is-unit Inv-loop μ-loop
+mul-is-unit c = search needs
 
-shared-slice-read-byte-of : tie.Need-shared-slice-read-byte-of Inv-loop μ-loop
-shared-slice-read-byte-of c = search needs
+shared-slice-read-is-unit : tie.Need-shared-slice-read-is-unit Inv-loop μ-loop
+shared-slice-read-is-unit c = search needs
 
-byte-of-requires : tie.Need-byte-of-requires Inv-loop μ-loop
-byte-of-requires c κs = search needs
-
-enum-told : tie.Need-enum-told Inv-loop μ-loop
-enum-told c = search needs
-
-enum-told-2 : tie.Need-enum-told-2 Inv-loop μ-loop
-enum-told-2 c = search needs
+is-unit-requires : tie.Need-is-unit-requires Inv-loop μ-loop
+is-unit-requires c κs = search needs
 
 returns : tie.Need-returns Inv-loop μ-loop
 returns c =
-    let found = c .before .before in
-    let turn = found .before .before in
+    let judged = c .before in
+    let turn = judged .before .before in
     let head = turn .before in
     let units = now (head .before .before .args .units) in
-    let none = found-none (byteOf (getD units (head .loop .k) 0)) (sym (found .byte-of .ensures) ∙ c .enum-told2 .given .1) in
+    let none = is-undefined (byteOf (getD units (head .loop .k) 0)) (sym (judged .is-unit .ensures) ∙ not-true _ (c .if1 .taken)) in
     sym (judged-undefined byteOf units (head .loop .k) (head .loop .inv) (turn .loop-test .taken) none)
 
 add-k : tie.Need-add-k Inv-loop μ-loop
@@ -50,12 +45,12 @@ loop-less c = search needs
 
 loop-again : tie.Need-loop-again Inv-loop μ-loop
 loop-again c =
-    let found = c .before .before in
-    let turn = found .before .before in
+    let judged = c .before in
+    let turn = judged .before .before in
     let head = turn .before in
     let units = now (head .before .before .args .units) in
-    let some = found-byte (byteOf (getD units (head .loop .k) 0)) _ (sym (found .byte-of .ensures) ∙ c .enum-told .given .1) in
-    judged-more byteOf units (head .loop .k) _ (head .loop .inv) (turn .loop-test .taken) some
+    let some = is-defined (byteOf (getD units (head .loop .k) 0)) (sym (judged .is-unit .ensures) ∙ not-false _ (c .if1 .left)) in
+    judged-more byteOf units (head .loop .k) (some .0) (head .loop .inv) (turn .loop-test .taken) (some .1)
 
 returns-2 : tie.Need-returns-2 Inv-loop μ-loop
 returns-2 c =
@@ -69,11 +64,9 @@ are-units-spec =
     Inv-loop
     μ-loop
     loop-holds
-    mul-byte-of
-    shared-slice-read-byte-of
-    byte-of-requires
-    enum-told
-    enum-told-2
+    mul-is-unit
+    shared-slice-read-is-unit
+    is-unit-requires
     returns
     add-k
     loop-less

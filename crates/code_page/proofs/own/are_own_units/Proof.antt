@@ -1,10 +1,10 @@
 -- Every unit is looked at: those passed and those left come to the whole.
-use Prim.Native.Nat.{ℕ, _-_}
+use Prim.Native.Nat.{_-_}
 use mathlib.Core.Path.{refl}
 use lib.ListN.{length}
 use denote.Ref.{now}
-use Rattle.code_page.proofs.OwnLaws.{SeenTo, seen-more, seen-all}
 use borrow.Author.Needs.{needs}
+use Rattle.code_page.proofs.OwnLaws.{SeenTo, seen-more, seen-all}
 use Rattle.code_page.proofs.own.are_own_units.Statement.{statement}
 use Rattle.code_page.proofs.own.are_own_units.Tie as tie
 
@@ -17,23 +17,14 @@ abbrev μ-loop : tie.MeasureT-loop
 loop-holds : tie.Need-loop-holds Inv-loop μ-loop
 loop-holds c = (search needs, refl)
 
-mul-own : tie.Need-mul-own Inv-loop μ-loop
-mul-own c = search needs
+mul-is-own-unit : tie.Need-mul-is-own-unit Inv-loop μ-loop
+mul-is-own-unit c = search needs
 
-shared-slice-read-own : tie.Need-shared-slice-read-own Inv-loop μ-loop
-shared-slice-read-own c = search needs
+shared-slice-read-is-own-unit : tie.Need-shared-slice-read-is-own-unit Inv-loop μ-loop
+shared-slice-read-is-own-unit c = search needs
 
-mul-own-2 : tie.Need-mul-own-2 Inv-loop μ-loop
-mul-own-2 c = search needs
-
-shared-slice-read-own-2 : tie.Need-shared-slice-read-own-2 Inv-loop μ-loop
-shared-slice-read-own-2 c = search needs
-
-mul-own-3 : tie.Need-mul-own-3 Inv-loop μ-loop
-mul-own-3 c = search needs
-
-shared-slice-read-own-3 : tie.Need-shared-slice-read-own-3 Inv-loop μ-loop
-shared-slice-read-own-3 c = search needs
+is-own-unit-requires : tie.Need-is-own-unit-requires Inv-loop μ-loop
+is-own-unit-requires c κs = search needs
 
 add-k : tie.Need-add-k Inv-loop μ-loop
 add-k c = search needs
@@ -43,14 +34,15 @@ loop-less c = search needs
 
 loop-again : tie.Need-loop-again Inv-loop μ-loop
 loop-again c =
-    let turn = c .before .before .before in
+    let turn = c .before .before in
     let head = turn .before in
-    seen-more (now (head .before .args .units)) (head .loop .k) (head .loop .own) (head .loop .inv) (turn .loop-test .taken)
+    let units = now (head .before .before .args .units) in
+    rw (c .is-own-unit .ensures) (seen-more units (head .loop .k) (head .loop .own) (head .loop .inv) (turn .loop-test .taken))
 
 returns : tie.Need-returns Inv-loop μ-loop
 returns c =
     let head = c .before in
-    seen-all (now (head .before .args .units)) (head .loop .k) (head .loop .own) (head .loop .inv) (c .loop-test .left)
+    seen-all (now (head .before .before .args .units)) (head .loop .k) (head .loop .own) (head .loop .inv) (c .loop-test .left)
 
 pub are-own-units-spec : {M : Type 1} → statement M
 are-own-units-spec =
@@ -59,12 +51,9 @@ are-own-units-spec =
     Inv-loop
     μ-loop
     loop-holds
-    mul-own
-    shared-slice-read-own
-    mul-own-2
-    shared-slice-read-own-2
-    mul-own-3
-    shared-slice-read-own-3
+    mul-is-own-unit
+    shared-slice-read-is-own-unit
+    is-own-unit-requires
     add-k
     loop-less
     loop-again
