@@ -11,19 +11,10 @@ use lib.ListN.{length, getD, set, take, drop, drop-of-length-le, length-set}
 use lib.Seq.{drop-cons, take-length}
 use Rattle.code_page.specs.Mapping.{Mapped, defined, undefined}
 use Rattle.code_page.specs.Conversion.{AllMapped, all, not-all, joined, mappedAll, converts, after}
-use Rattle.code_page.specs.declared.bytes.Found.the-variants.{Byte, None}
-use Rattle.code_page.specs.Passes.{isAll, entriesOf, isDefined, foundOf}
+use Rattle.code_page.specs.Passes.{isAll, entriesOf, isDefined}
 use Rattle.code_page.specs.MappedLists.{all-length, all-entries}
 
--- ---- what the byte that was found says of its unit
-pub found-byte : (m : Mapped) (b : ℕ) → foundOf m ≡ Byte b → m ≡ defined b
-found-byte (defined a) b e = let same : a ≡ b = cc in ap defined same
-found-byte undefined b e = absurd (let w : _≡_ {A = ℕ} 0 1 = cc in omega arith)
-
-pub found-none : (m : Mapped) → foundOf m ≡ None → m ≡ undefined
-found-none (defined a) e = absurd (let w : _≡_ {A = ℕ} 0 1 = cc in omega arith)
-found-none undefined e = refl
-
+-- ---- whether an entry is defined
 pub is-defined : (m : Mapped) → isDefined m ≡ true → (b : ℕ) × (m ≡ defined b)
 is-defined (defined b) e = (b, refl)
 is-defined undefined e = absurd (let w : _≡_ {A = ℕ} 0 1 = cc in omega arith)
@@ -92,6 +83,3 @@ module _ (f : ℕ → Mapped) (xs : List ℕ) (judged : isAll (mappedAll f xs) �
 
   pub entry-stored : (i : ℕ) → i < length xs → f (getD xs i 0) ≡ defined (getD entries i 0)
   entry-stored i h = all-entries f 0 0 xs entries mapped i h
-
-  pub same-entry : (i y : ℕ) → i < length xs → f (getD xs i 0) ≡ defined y → y ≡ getD entries i 0
-  same-entry i y h e = let same : defined y ≡ defined (getD entries i 0) = sym e ∙ entry-stored i h in cc

@@ -1,11 +1,9 @@
--- The two passes of a call: judging every entry, then storing what each is mapped to. And the byte of one unit. Assumes nothing.
+-- The two passes of a call: judging every entry, then storing what each is mapped to. And what one unit is mapped to. Assumes nothing.
 use mathlib.Core.Path.{_≡_}
 use mathlib.Core.Bool.{Bool, true, false}
 use mathlib.Core.List.{List, []}
 use Prim.Native.Nat.{ℕ, _≤_}
 use lib.ListN.{length}
-use Rattle.code_page.specs.declared.bytes.Found.{Found}
-use Rattle.code_page.specs.declared.bytes.Found.the-variants.{Byte, None}
 use Rattle.code_page.specs.Cp1252.{cp1252}
 use Rattle.code_page.specs.Mapping.{Mapped, defined, undefined}
 use Rattle.code_page.specs.Conversion.{AllMapped, all, not-all, mappedAll}
@@ -28,6 +26,7 @@ abbrev pub isDefined : Mapped → Bool
 isDefined (defined b) = true
 isDefined undefined = false
 
-abbrev pub foundOf : Mapped → Found
-foundOf (defined b) = Byte b
-foundOf undefined = None
+-- 0 stands for none where no own byte is looked for
+abbrev pub byteOrZero : Mapped → ℕ
+byteOrZero (defined b) = b
+byteOrZero undefined = 0

@@ -5,32 +5,28 @@ ghost use Rattle.code_page.specs.Cp1252.{cp1252};
 ghost use Rattle.code_page.specs.Mapping.{byteOf};
 ghost use Rattle.code_page.specs.Conversion.{mappedAll, converts, after};
 ghost use Rattle.code_page.specs.Own.{isOwn};
-ghost use Rattle.code_page.specs.Passes.{isAll, entriesOf, Storing, isDefined, foundOf};
+ghost use Rattle.code_page.specs.Passes.{isAll, entriesOf, Storing, isDefined, byteOrZero};
 use crate::own::is_own_unit;
 use crate::table::UNDEFINED;
 
-// The byte that has a unit, if one has.
-pub enum Found {
-    Byte(u8),
-    None,
-}
-
-// The byte of a unit that is not its own byte: among bytes 80 to 9F (hexadecimal), by at most 32 comparisons.
-fn byte_80_to_9f(table: &[u16; 256], unit: u16) -> Found
+// The byte of a unit that is not its own byte, or 0 if there is none: among bytes 80 to 9F (hexadecimal), by 32 comparisons.
+// There is no way out before the last, so that the compiler makes many at once.
+fn byte_80_to_9f(table: &[u16; 256], unit: u16) -> u8
     requires { ⌜ (now table ≡ cp1252) × (isOwn unit ≡ false) ⌝ }
-    ensures { λ r. ⌜ r ≡ foundOf (byteOf unit) ⌝ }
+    ensures { λ r. ⌜ r ≡ byteOrZero (byteOf unit) ⌝ }
 {
     if unit == UNDEFINED {
-        return Found::None;
+        return 0;
     }
+    let mut found: usize = 0;
     let mut byte: usize = 128;
     while byte < 160 {
         if table[byte] == unit {
-            return Found::Byte(byte as u8);
+            found = byte;
         }
         byte += 1;
     }
-    Found::None
+    found as u8
 }
 
 // Whether a unit is one of the table.
@@ -41,19 +37,16 @@ fn is_unit(table: &[u16; 256], unit: u16) -> bool
     if is_own_unit(unit) {
         return true;
     }
-    match byte_80_to_9f(table, unit) {
-        Found::Byte(_) => true,
-        Found::None => false,
-    }
+    byte_80_to_9f(table, unit) != 0
 }
 
-// The byte of any unit.
-fn byte_of(table: &[u16; 256], unit: u16) -> Found
+// The byte of a unit of the table.
+fn byte_of(table: &[u16; 256], unit: u16) -> u8
     requires { ⌜ now table ≡ cp1252 ⌝ }
-    ensures { λ r. ⌜ r ≡ foundOf (byteOf unit) ⌝ }
+    ensures { λ r. ⌜ r ≡ byteOrZero (byteOf unit) ⌝ }
 {
     if is_own_unit(unit) {
-        return Found::Byte(unit as u8);
+        return unit as u8;
     }
     byte_80_to_9f(table, unit)
 }
@@ -80,14 +73,7 @@ pub fn put_bytes(table: &[u16; 256], units: &[u16], bytes: &mut [u8])
 {
     let mut i = 0;
     while i < units.len() {
-        match byte_of(table, units[i]) {
-            Found::Byte(byte) => {
-                bytes[i] = byte;
-            }
-            Found::None => {
-                return;
-            }
-        }
+        bytes[i] = byte_of(table, units[i]);
         i += 1;
     }
 }

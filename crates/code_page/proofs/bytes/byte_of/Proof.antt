@@ -2,7 +2,7 @@
 use mathlib.Core.Path.{sym, ap, _∙_}
 use native.Mathlib.Omega.{arith}
 use borrow.Author.Needs.{needs}
-use Rattle.code_page.specs.Passes.{foundOf}
+use Rattle.code_page.specs.Passes.{byteOrZero}
 use Rattle.code_page.specs.Own.{own-byte, own-small}
 use Rattle.code_page.proofs.bytes.byte_of.Statement.{statement}
 use Rattle.code_page.proofs.bytes.byte_of.Tie as tie
@@ -10,15 +10,15 @@ use Rattle.code_page.proofs.bytes.byte_of.Tie as tie
 is-own-unit-requires : tie.Need-is-own-unit-requires
 is-own-unit-requires c κs = search needs
 
-cast-t4 : tie.Need-cast-t4
-cast-t4 c =
+cast-result : tie.Need-cast-result
+cast-result c =
     let judged = c .before in
     omega (arith, own-small (judged .before .args .unit) (sym (judged .is-own-unit .ensures) ∙ c .if1 .taken))
 
 returns : tie.Need-returns
 returns c =
     let judged = c .before in
-    sym (ap foundOf (own-byte (judged .before .args .unit) (sym (judged .is-own-unit .ensures) ∙ c .if1 .taken)))
+    sym (ap byteOrZero (own-byte (judged .before .args .unit) (sym (judged .is-own-unit .ensures) ∙ c .if1 .taken)))
 
 byte-80-to-9f-requires : tie.Need-byte-80-to-9f-requires
 byte-80-to-9f-requires c κs =
@@ -30,4 +30,4 @@ returns-2 c = search needs
 
 pub byte-of-spec : {M : Type 1} → statement M
 byte-of-spec =
-    tie.close (tie.spec is-own-unit-requires cast-t4 returns byte-80-to-9f-requires returns-2)
+    tie.close (tie.spec is-own-unit-requires cast-result returns byte-80-to-9f-requires returns-2)

@@ -1,12 +1,26 @@
--- A unit is its own byte, or is looked for between 80 and 9F; it is one of the table where a byte is found.
-use mathlib.Core.Path.{sym, ap, _∙_}
+-- A unit is its own byte, or is looked for between 80 and 9F, where no byte is 0.
+use mathlib.Core.Path.{_≡_, refl, sym, ap, _∙_}
+use mathlib.Core.Bool.{Bool, not, false}
+use Prim.Native.Nat.{ℕ}
+use native.Mathlib.Omega.{arith}
+use lib.Dec.{eqb}
 use borrow.Author.Needs.{needs}
-use Rattle.code_page.specs.Mapping.{byteOf}
-use Rattle.code_page.specs.Passes.{isDefined}
-use Rattle.code_page.specs.Own.{own-byte}
-use Rattle.code_page.proofs.PassLaws.{found-byte, found-none}
+use borrow.Author.Tests.{ne-eqb}
+use Rattle.code_page.specs.Mapping.{Mapped, defined, undefined, byteOf}
+use Rattle.code_page.specs.Passes.{isDefined, byteOrZero}
+use Rattle.code_page.specs.Inverse.{there}
+use Rattle.code_page.specs.Own.{isOwn, own-byte, other-between}
 use Rattle.code_page.proofs.bytes.is_unit.Statement.{statement}
 use Rattle.code_page.proofs.bytes.is_unit.Tie as tie
+
+not-zero : (unit : ℕ) → isOwn unit ≡ false → not (eqb (byteOrZero (byteOf unit)) 0) ≡ isDefined (byteOf unit)
+not-zero unit other = go (byteOf unit) refl
+  where
+    go : (m : Mapped) → byteOf unit ≡ m → not (eqb (byteOrZero m) 0) ≡ isDefined m
+    go undefined e = refl
+    go (defined b) e =
+        let place = other-between b unit (there unit b e) other in
+        rw (ne-eqb b 0 (λ z. omega (arith, place .0)))
 
 is-own-unit-requires : tie.Need-is-own-unit-requires
 is-own-unit-requires c κs = search needs
@@ -21,32 +35,11 @@ byte-80-to-9f-requires c κs =
     let judged = c .before in
     (judged .before .pre, sym (judged .is-own-unit .ensures) ∙ c .if1 .left)
 
-enum-told : tie.Need-enum-told
-enum-told c = search needs
-
-enum-told-2 : tie.Need-enum-told-2
-enum-told-2 c = search needs
-
 returns-2 : tie.Need-returns-2
 returns-2 c =
-    let found = c .before .before in
-    let start = found .before .before .before in
-    sym (ap isDefined (found-byte (byteOf (start .args .unit)) _ (sym (found .byte-80-to-9f .ensures) ∙ c .enum-told .given .1)))
-
-returns-3 : tie.Need-returns-3
-returns-3 c =
-    let found = c .before .before in
-    let start = found .before .before .before in
-    sym (ap isDefined (found-none (byteOf (start .args .unit)) (sym (found .byte-80-to-9f .ensures) ∙ c .enum-told2 .given .1)))
+    let judged = c .before .before in
+    let other : isOwn (judged .before .args .unit) ≡ false = sym (judged .is-own-unit .ensures) ∙ c .before .if1 .left in
+    ap (λ (b : ℕ). not (eqb b 0)) (c .byte-80-to-9f .ensures) ∙ not-zero (judged .before .args .unit) other
 
 pub is-unit-spec : {M : Type 1} → statement M
-is-unit-spec =
-    tie.close
-    (tie.spec
-    is-own-unit-requires
-    returns
-    byte-80-to-9f-requires
-    enum-told
-    enum-told-2
-    returns-2
-    returns-3)
+is-unit-spec = tie.close (tie.spec is-own-unit-requires returns byte-80-to-9f-requires returns-2)

@@ -1,14 +1,14 @@
 -- Each turn stores the byte of the next unit, which has one since all were judged.
-use Prim.Native.Nat.{ℕ, _-_}
-use mathlib.Core.Path.{_≡_, refl, sym, _∙_}
+use Prim.Native.Nat.{_-_}
+use mathlib.Core.Path.{_≡_, refl, sym, ap, _∙_}
 use native.Mathlib.Omega.{arith}
 use lib.ListN.{length, getD}
 use denote.Ref.{now}
 use borrow.Author.Needs.{needs}
-use Rattle.code_page.specs.Mapping.{byteOf, defined, undefined}
+use Rattle.code_page.specs.Mapping.{byteOf}
 use Rattle.code_page.specs.Conversion.{mappedAll}
-use Rattle.code_page.specs.Passes.{entriesOf}
-use Rattle.code_page.proofs.PassLaws.{found-byte, found-none, Laid, laid-more, laid-all, as-many, entry-stored, same-entry}
+use Rattle.code_page.specs.Passes.{entriesOf, byteOrZero}
+use Rattle.code_page.proofs.PassLaws.{Laid, laid-more, laid-all, as-many, entry-stored}
 use Rattle.code_page.proofs.bytes.put_bytes.Statement.{statement}
 use Rattle.code_page.proofs.bytes.put_bytes.Tie as tie
 
@@ -33,39 +33,12 @@ byte-of-requires c κs =
     let start = head .before .before .before in
     start .pre .lent
 
-enum-known-byte : tie.Need-enum-known-byte Inv-loop μ-loop
-enum-known-byte c = search needs
-
 slice-write-bytes : tie.Need-slice-write-bytes Inv-loop μ-loop
 slice-write-bytes c =
-    let found = c .before .before .before in
-    let turn = found .before .before in
+    let turn = c .before .before in
     let head = turn .before in
     let start = head .before .before .before in
     omega (arith, head .loop .inv .2, start .pre .room, turn .loop-test .taken)
-
-enum-told : tie.Need-enum-told Inv-loop μ-loop
-enum-told c = search needs
-
-same-length : tie.Need-same-length Inv-loop μ-loop
-same-length c =
-    let turn = c .before .before .before in
-    let head = turn .before .before in
-    head .loop .inv .2
-
-returns : tie.Need-returns Inv-loop μ-loop
-returns c =
-    let found = c .before .before in
-    let turn = found .before .before in
-    let head = turn .before in
-    let start = head .before .before .before in
-    let units = now (start .args .units) in
-    let none = found-none (byteOf (getD units (head .loop .i) 0)) (sym (found .byte-of .ensures) ∙ c .enum-told .given .1) in
-    let some = entry-stored byteOf units (start .pre .judged) (head .loop .i) (turn .loop-test .taken) in
-    absurd (nothing (sym none ∙ some))
-  where
-    nothing : {n : ℕ} → undefined ≡ defined n → ⊥
-    nothing e = let w : _≡_ {A = ℕ} 0 1 = cc in omega arith
 
 add-i : tie.Need-add-i Inv-loop μ-loop
 add-i c = search needs
@@ -75,23 +48,21 @@ loop-less c = search needs
 
 loop-again : tie.Need-loop-again Inv-loop μ-loop
 loop-again c =
-    let found = c .before .before .before in
-    let turn = found .before .before in
+    let turn = c .before .before in
     let head = turn .before in
     let start = head .before .before .before in
     let units = now (start .args .units) in
-    let some = found-byte (byteOf (getD units (head .loop .i) 0)) _ (sym (found .byte-of .ensures) ∙ c .before .byte .given .1) in
     let more = turn .loop-test .taken in
     let judged = start .pre .judged in
+    let byte = c .byte-of .ensures ∙ ap byteOrZero (entry-stored byteOf units judged (head .loop .i) more) in
     laid-more _ (now (start .args .bytes)) (head .loop .i) _ (head .loop .bytes) (head .loop .inv)
-    (omega (arith, more, as-many byteOf units judged)) (omega (arith, start .pre .room, as-many byteOf units judged))
-    (same-entry byteOf units judged (head .loop .i) _ more some)
+    (omega (arith, more, as-many byteOf units judged)) (omega (arith, start .pre .room, as-many byteOf units judged)) byte
 
-same-length-2 : tie.Need-same-length-2 Inv-loop μ-loop
-same-length-2 c = let head = c .before in head .loop .inv .2
+same-length : tie.Need-same-length Inv-loop μ-loop
+same-length c = let head = c .before in head .loop .inv .2
 
-returns-2 : tie.Need-returns-2 Inv-loop μ-loop
-returns-2 c =
+returns : tie.Need-returns Inv-loop μ-loop
+returns c =
     let head = c .before in
     let start = head .before .before .before in
     laid-all _ (now (start .args .bytes)) (head .loop .i) (head .loop .bytes) (head .loop .inv)
@@ -107,13 +78,9 @@ put-bytes-spec =
     mul-byte-of
     shared-slice-read-byte-of
     byte-of-requires
-    enum-known-byte
     slice-write-bytes
-    enum-told
-    same-length
-    returns
     add-i
     loop-less
     loop-again
-    same-length-2
-    returns-2)
+    same-length
+    returns)
