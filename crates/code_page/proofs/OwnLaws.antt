@@ -10,6 +10,7 @@ use lib.Dec.{ltb, leb}
 use lib.ListN.{length, getD, drop, drop-of-length-le}
 use lib.Seq.{drop-cons}
 use borrow.Author.Tests.{lt-ltb}
+use Rattle.code_page.specs.Everywhere.{unlike}
 use Rattle.code_page.specs.Own.{isOwn, allOwn}
 
 module _ (xs : List ℕ) where
@@ -33,11 +34,8 @@ pub own-at : (xs : List ℕ) (i : ℕ) → allOwn xs ≡ true → i < length xs 
 own-at [] i e h = absurd (omega arith)
 own-at (x ∷ xs) i e h = go (isOwn x) refl i h (own-at xs)
   where
-    unlike : false ≡ true → ⊥
-    unlike f = let w : _≡_ {A = ℕ} 0 1 = cc in omega arith
-
     go : (t : Bool) → isOwn x ≡ t → (i : ℕ) → i < length (x ∷ xs) → ((j : ℕ) → allOwn xs ≡ true → j < length xs → isOwn (getD xs j 0) ≡ true)
         → isOwn (getD (x ∷ xs) i 0) ≡ true
-    go false f i h later = absurd (unlike (rw f at e))
+    go false f i h later = absurd (unlike (sym (rw f at e)))
     go true f zero h later = f
     go true f (suc j) h later = later j (rw f at e) (le-of-suc-le-suc h)

@@ -4,9 +4,13 @@ use mathlib.Core.Bool.{Bool, true, false, not, _&&_, _||_}
 use mathlib.Core.List.{List, [], _∷_}
 use Prim.Native.Nat.{ℕ, zero, suc, _+_, _<_}
 use native.Mathlib.Nat.{add-zero, zero-add, add-suc, suc-add, le-of-suc-le-suc, not-suc-le-zero}
+use native.Mathlib.Omega.{arith}
 use lib.Dec.{T, eqb}
 use lib.ListN.{length, getD}
 use borrow.Author.Tests.{eq-eqb, ne-eqb}
+
+pub unlike : true ≡ false → ⊥
+unlike e = let w : _≡_ {A = ℕ} 0 1 = cc in omega arith
 
 pub first-holds : (a b : Bool) → T (a && b) → T a
 first-holds true b t = tt

@@ -11,7 +11,7 @@ use lib.ListN.{length, getD, List·getD-eq-default}
 use borrow.Author.Tests.{lt-ltb, le-leb, le-ltb, lt-leb, ltb-true, ltb-false, leb-false, eq-eqb, ne-eqb}
 use Rattle.code_page.specs.Cp1252.{cp1252}
 use Rattle.code_page.specs.Mapping.{Mapped, defined, undefined, mark, unmarked, unitOf}
-use Rattle.code_page.specs.Everywhere.{every, everywhere, distinct, not-twice}
+use Rattle.code_page.specs.Everywhere.{unlike, every, everywhere, distinct, not-twice}
 
 pub entries-256 : length cp1252 ≡ 256
 unfolding cp1252
@@ -26,10 +26,7 @@ entry-defined x u e = go (eqb x mark) refl
   where
     go : (t : Bool) → eqb x mark ≡ t → (x ≡ u) × (x ≡ mark → ⊥)
     go true f = let z : undefined ≡ defined u = rw f at e in let w : _≡_ {A = ℕ} 0 1 = cc in absurd (omega arith)
-    go false f = let z : defined x ≡ defined u = rw f at e in (cc, λ m. unlike (sym f ∙ eq-eqb x mark m))
-      where
-        unlike : false ≡ true → ⊥
-        unlike h = let w : _≡_ {A = ℕ} 0 1 = cc in omega arith
+    go false f = let z : defined x ≡ defined u = rw f at e in (cc, λ m. unlike (sym (eq-eqb x mark m) ∙ f))
 
 module _ (b u : ℕ) (e : unitOf b ≡ defined u) where
   pub unit-entry : getD cp1252 b mark ≡ u
@@ -137,7 +134,7 @@ or-left true b f = f
 or-left false b f = refl
 
 or-right : (a b : Bool) → a || b ≡ false → b ≡ false
-or-right true b f = absurd (let w : _≡_ {A = ℕ} 0 1 = cc in omega arith)
+or-right true b f = absurd (unlike f)
 or-right false b f = f
 
 pub below-own : (b u : ℕ) → unitOf b ≡ defined u → u < 0x100 → b ≡ u

@@ -10,13 +10,11 @@ use lib.ListN.{length, getD}
 use borrow.Author.Tests.{eqb-true, eq-eqb, ne-eqb}
 use Rattle.code_page.specs.Cp1252.{cp1252}
 use Rattle.code_page.specs.Mapping.{Mapped, defined, undefined, mark, unitOf, byteOf, firstFrom}
+use Rattle.code_page.specs.Everywhere.{unlike}
 use Rattle.code_page.specs.Facts.{entries-256, unmarked-entry, unit-entry, unit-unmarked, unit-of-byte, one-byte}
 
 nothing : {n : ℕ} → undefined ≡ defined n → ⊥
 nothing e = let w : _≡_ {A = ℕ} 0 1 = cc in omega arith
-
-unlike : true ≡ false → ⊥
-unlike e = let w : _≡_ {A = ℕ} 0 1 = cc in omega arith
 
 -- ---- where a unit first stands, it stands
 module _ (u d : ℕ) where

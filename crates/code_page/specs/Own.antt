@@ -1,5 +1,5 @@
 -- Entries that are mapped to themselves, either way: below 80 and from A0 to FF (hexadecimal). Assumes nothing.
-use mathlib.Core.Path.{_≡_, refl, sym, ap, _∙_}
+use mathlib.Core.Path.{_≡_, refl, sym, _∙_}
 use mathlib.Core.Bool.{Bool, true, false, _&&_, _||_, or-true}
 use mathlib.Core.List.{List, [], _∷_}
 use Prim.Native.Nat.{ℕ, _<_, _≤_}
@@ -8,6 +8,7 @@ use lib.Dec.{ltb, leb}
 use borrow.Author.Tests.{ltb-true, ltb-false, leb-true, leb-false, lt-ltb}
 use Rattle.code_page.specs.Mapping.{Mapped, defined, unitOf, byteOf}
 use Rattle.code_page.specs.Conversion.{all, mappedAll}
+use Rattle.code_page.specs.Everywhere.{unlike}
 use Rattle.code_page.specs.Facts.{low-own, high-own, below-own, above-between}
 use Rattle.code_page.specs.Inverse.{back}
 
@@ -20,7 +21,7 @@ allOwn (x ∷ xs) = isOwn x && allOwn xs
 
 both : (a b : Bool) → a && b ≡ true → (a ≡ true) × (b ≡ true)
 both true b e = (refl, e)
-both false b e = absurd (let w : _≡_ {A = ℕ} 0 1 = cc in omega arith)
+both false b e = absurd (unlike (sym e))
 
 pub own-unit : (x : ℕ) → isOwn x ≡ true → unitOf x ≡ defined x
 own-unit x e = go (ltb x 0x80) refl
@@ -52,9 +53,6 @@ own-small x e = go (ltb x 0x80) refl
         ltb-true x 0x100 (both (leb 0xA0 x) (ltb x 0x100) rest .1)
 
 -- ---- a unit that is not own can only be a byte's from 80 to 9F
-unlike : true ≡ false → ⊥
-unlike e = let w : _≡_ {A = ℕ} 0 1 = cc in omega arith
-
 not-own-between : (x : ℕ) → isOwn x ≡ false → x < 0x100 → (0x80 ≤ x) × (x < 0xA0)
 not-own-between x n h = (low (ltb x 0x80) refl, high (leb 0xA0 x) refl)
   where

@@ -4,11 +4,11 @@
 ghost use Rattle.code_page.specs.Mapping.{unitOf, byteOf};
 ghost use Rattle.code_page.specs.Conversion.{Converts};
 
-pub mod by_table;
-pub mod bytes;
-pub mod own;
+mod by_table;
+mod bytes;
+mod own;
 pub mod table;
-pub mod units;
+mod units;
 
 // Why a list is not converted: an entry stands for nothing in the code page, or the output is shorter than the input.
 pub enum ConversionRefusal {

@@ -1,6 +1,6 @@
 -- A unit is its own byte, or is looked for between 80 and 9F, where no byte is 0.
 use mathlib.Core.Path.{_≡_, refl, sym, ap, _∙_}
-use mathlib.Core.Bool.{Bool, not, false}
+use mathlib.Core.Bool.{not, false}
 use Prim.Native.Nat.{ℕ}
 use native.Mathlib.Omega.{arith}
 use lib.Dec.{eqb}
