@@ -1,5 +1,5 @@
 // Bytes below 80 and from A0 up (hexadecimal) are their own units: where there are no others, nothing is undefined and no table is needed.
-// Neither loop has a way out before its end, so that the compiler takes many entries at once.
+// No loop here has a way out before its end, so that the compiler takes many entries at once.
 ghost use mathlib.Core.Path.{_≡_};
 ghost use mathlib.Core.Bool.{true};
 ghost use Prim.Native.Nat.{_≤_};
