@@ -15,9 +15,8 @@ use Rattle.bitcursor.specs.Stops.{low_there}
 use Rattle.bitcursor.specs.Doubles.{BD, BD_read, one_pattern}
 use Rattle.bitcursor.proofs.Steps.{tag_00, tag_01, tag_10, tag_11}
 use Rattle.loads.proofs.LoadLaws.{top, top_two}
-use borrow.Author.Rules.{rules}
-use Rattle.bitcursor.proofs.within.read_bd_there.Statement.{statement}
-use Rattle.bitcursor.proofs.within.read_bd_there.Tie as tie
+use Rattle.std.proofs.Common.{rules}
+use Rattle.bitcursor.proofs.within.read_bd_there.Goals as goal
 
 -- x is the word with the tag on top; its two bits pick
 module _ (s : List ℕ) (at x : ℕ) (fits : at / 8 + 10 ≤ length s) (e : x ≡ top s at) where
@@ -43,62 +42,27 @@ module _ (s : List ℕ) (at x : ℕ) (fits : at / 8 + 10 ≤ length s) (e : x �
   unfolding BD tabled BD_read refuse
   reserved h₀ h₁ h₂ = tag_11 (low_first 8) (give one_pattern) (give 0) (refuse ReservedTag tt) s at tag_read refl h₀ h₁ h₂
 
-top-at-requires : tie.Need-top-at-requires
-top-at-requires c κs = search rules
+pub returns-in-0 : goal.returns-in-0
+returns-in-0 c =
+    let word = c.top_at-top in
+    let a = c.args in
+    ap (λ (v : ℕ). Value v (a.at + 66)) c.low_behind.ensures
+    ∙ sym (ap as_read (full a.s.now a.at word.result (omega arith) word.ensures c.in-0.is))
 
-low-behind-requires : tie.Need-low-behind-requires
-low-behind-requires c κs = search rules
+pub returns-in-1 : goal.returns-in-1
+returns-in-1 c =
+    let word = c.top_at-top in
+    let a = c.args in
+    sym (ap as_read (one a.s.now a.at word.result (omega arith) word.ensures c.in-1.is))
 
-add-t7 : tie.Need-overflow-add-t7
-add-t7 c = search rules
+pub returns-in-2 : goal.returns-in-2
+returns-in-2 c =
+    let word = c.top_at-top in
+    let a = c.args in
+    sym (ap as_read (none a.s.now a.at word.result (omega arith) word.ensures c.in-2.is))
 
-add-t8 : tie.Need-overflow-add-t8
-add-t8 c = search rules
-
-add-t9 : tie.Need-overflow-add-t9
-add-t9 c = search rules
-
-add-t11 : tie.Need-overflow-add-t11
-add-t11 c = search rules
-
-returns : tie.Need-returns
-returns c =
-    let picked = c.before in
-    let word = picked.before.top-at in
-    let a = picked.before.before.before.args in
-    ap (λ (v : ℕ). Value v (a.at + 66)) c.low-behind.ensures
-    ∙ sym (ap as_read (full a.s.now a.at word.result (omega arith) word.ensures picked.match.keys1))
-
-returns-2 : tie.Need-returns-2
-returns-2 c =
-    let word = c.before.top-at in
-    let a = c.before.before.before.args in
-    sym (ap as_read (one a.s.now a.at word.result (omega arith) word.ensures c.match.keys2))
-
-returns-3 : tie.Need-returns-3
-returns-3 c =
-    let word = c.before.top-at in
-    let a = c.before.before.before.args in
-    sym (ap as_read (none a.s.now a.at word.result (omega arith) word.ensures c.match.keys3))
-
-returns-4 : tie.Need-returns-4
-returns-4 c =
-    let word = c.before.top-at in
-    let a = c.before.before.before.args in
-    let other = c.match.rest in
-    sym (ap as_read (reserved a.s.now a.at word.result (omega arith) word.ensures other.0.0.1 other.0.1 other.1))
-
-pub read-bd-there-spec : {M : Type 1} → statement M
-read-bd-there-spec =
-    tie.close
-    (tie.spec
-    top-at-requires
-    low-behind-requires
-    add-t7
-    add-t8
-    add-t9
-    add-t11
-    returns
-    returns-2
-    returns-3
-    returns-4)
+pub returns-in_default : goal.returns-in_default
+returns-in_default c =
+    let word = c.top_at-top in
+    let a = c.args in
+    sym (ap as_read (reserved a.s.now a.at word.result (omega arith) word.ensures (search rules) (search rules) (search rules)))
