@@ -1,5 +1,5 @@
 -- A value before is gone on from; a refusal stays.
-use mathlib.Core.Path.{◌≡◌, sym, ap, ◌∙◌}
+use mathlib.Core.Path.{sym, ap, ◌∙◌}
 use Rattle.bitcursor.specs.Doubles.{BD}
 use Rattle.sequence.specs.Sequence.{then_read}
 use Rattle.sequence.proofs.then_bd_bits.Goals as goal

@@ -1,7 +1,6 @@
 -- A value before is gone on from, by the field's reader or by the value that stands for it; a refusal stays.
-use mathlib.Core.Path.{◌≡◌, sym, ap, ◌∙◌}
+use mathlib.Core.Path.{sym, ap, ◌∙◌}
 use Prim.Native.Nat.{ℕ}
-use mathlib.Core.Bool.{Bool}
 use Rattle.bitcursor.specs.Bytes.{low_first}
 use Rattle.bitcursor.specs.Code.{Code, give}
 use Rattle.bitcursor.specs.Answers.{as_read}
