@@ -1,3 +1,4 @@
 pub mod PassLaws
 pub mod OwnLaws
 pub mod CallLaws
+pub mod SearchLaws

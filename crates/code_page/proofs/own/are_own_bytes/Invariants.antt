@@ -1,0 +1,12 @@
+use Prim.Native.Nat.{◌-◌, ◌<◌}
+use mathlib.Core.Path.{refl}
+use native.Mathlib.Omega.{arith}
+use lib.ListN.{length, get_or}
+use Rattle.code_page.proofs.OwnLaws.{SeenTo, seen_more, seen_all, own_of_byte}
+use Rattle.code_page.proofs.own.are_own_bytes.Given as goal
+
+abbrev pub invariant-loop-k : goal.invariant-loop-k
+invariant-loop-k l = SeenTo l.bytes l.k l.own
+
+abbrev pub decreases-loop-k : goal.decreases-loop-k
+decreases-loop-k l = length l.bytes - l.k
