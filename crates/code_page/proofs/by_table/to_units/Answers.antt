@@ -1,7 +1,6 @@
 -- Every byte is judged and the room is tested before the first store; then each unit is stored.
 use mathlib.Core.Path.{◌≡◌, sym, ◌∙◌}
 use mathlib.Core.Bool.{true, false}
-use borrow.Author.Tests.{not-true, not-false, ltb-true, ltb-false}
 use Rattle.code_page.specs.Mapping.{unit_of}
 use Rattle.code_page.specs.Conversion.{mapped_all}
 use Rattle.code_page.specs.Passes.{is_all}

@@ -1,10 +1,8 @@
 -- From each unit on, all are of the table exactly if all are.
-use Prim.Native.Nat.{◌-◌}
 use mathlib.Core.Path.{refl, sym, ◌∙◌}
-use lib.ListN.{length, get_or}
-use borrow.Author.Tests.{not-true, not-false}
+use lib.ListN.{get_or}
 use Rattle.code_page.specs.Mapping.{byte_of}
-use Rattle.code_page.proofs.PassLaws.{is_defined_lem, is_undefined, JudgedTo, judged_more, judged_undefined, judged_all}
+use Rattle.code_page.proofs.PassLaws.{is_defined_lem, is_undefined, judged_more, judged_undefined, judged_all}
 use borrow.Author.Rules.{rules}
 use Rattle.code_page.proofs.bytes.are_units.Goals as goal
 

@@ -1,12 +1,9 @@
 -- Each turn stores the byte of the next unit, which has one since all were judged.
-use Prim.Native.Nat.{◌-◌}
 use mathlib.Core.Path.{refl, ap, ◌∙◌}
 use native.Mathlib.Omega.{arith}
-use lib.ListN.{length}
 use Rattle.code_page.specs.Mapping.{byte_of}
-use Rattle.code_page.specs.Conversion.{mapped_all}
-use Rattle.code_page.specs.Passes.{entries_of, byte_or_zero}
-use Rattle.code_page.proofs.PassLaws.{Laid, laid_more, laid_all, as_many, entry_stored}
+use Rattle.code_page.specs.Passes.{byte_or_zero}
+use Rattle.code_page.proofs.PassLaws.{laid_more, laid_all, as_many, entry_stored}
 use borrow.Author.Rules.{rules}
 use Rattle.code_page.proofs.bytes.put_bytes.Goals as goal
 

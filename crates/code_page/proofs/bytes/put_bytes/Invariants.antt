@@ -1,11 +1,9 @@
 use Prim.Native.Nat.{◌-◌}
-use mathlib.Core.Path.{refl, ap, ◌∙◌}
-use native.Mathlib.Omega.{arith}
 use lib.ListN.{length}
 use Rattle.code_page.specs.Mapping.{byte_of}
 use Rattle.code_page.specs.Conversion.{mapped_all}
-use Rattle.code_page.specs.Passes.{entries_of, byte_or_zero}
-use Rattle.code_page.proofs.PassLaws.{Laid, laid_more, laid_all, as_many, entry_stored}
+use Rattle.code_page.specs.Passes.{entries_of}
+use Rattle.code_page.proofs.PassLaws.{Laid}
 use Rattle.code_page.proofs.bytes.put_bytes.Given as goal
 
 abbrev pub invariant-loop-i : goal.invariant-loop-i

@@ -1,9 +1,9 @@
 -- Every byte is looked at: those passed and those left come to the whole.
-use Prim.Native.Nat.{◌-◌, ◌<◌}
+use Prim.Native.Nat.{◌<◌}
 use mathlib.Core.Path.{refl}
 use native.Mathlib.Omega.{arith}
-use lib.ListN.{length, get_or}
-use Rattle.code_page.proofs.OwnLaws.{SeenTo, seen_more, seen_all, own_of_byte}
+use lib.ListN.{get_or}
+use Rattle.code_page.proofs.OwnLaws.{seen_more, seen_all, own_of_byte}
 use borrow.Author.Rules.{rules}
 use Rattle.code_page.proofs.own.are_own_bytes.Goals as goal
 

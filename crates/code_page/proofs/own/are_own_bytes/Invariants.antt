@@ -1,8 +1,6 @@
-use Prim.Native.Nat.{◌-◌, ◌<◌}
-use mathlib.Core.Path.{refl}
-use native.Mathlib.Omega.{arith}
-use lib.ListN.{length, get_or}
-use Rattle.code_page.proofs.OwnLaws.{SeenTo, seen_more, seen_all, own_of_byte}
+use Prim.Native.Nat.{◌-◌}
+use lib.ListN.{length}
+use Rattle.code_page.proofs.OwnLaws.{SeenTo}
 use Rattle.code_page.proofs.own.are_own_bytes.Given as goal
 
 abbrev pub invariant-loop-k : goal.invariant-loop-k

@@ -1,8 +1,6 @@
 -- Every unit is looked at: those passed and those left come to the whole.
-use Prim.Native.Nat.{◌-◌}
 use mathlib.Core.Path.{refl}
-use lib.ListN.{length}
-use Rattle.code_page.proofs.OwnLaws.{SeenTo, seen_more, seen_all}
+use Rattle.code_page.proofs.OwnLaws.{seen_more, seen_all}
 use borrow.Author.Rules.{rules}
 use Rattle.code_page.proofs.own.are_own_units.Goals as goal
 

@@ -1,7 +1,6 @@
 use Prim.Native.Nat.{◌-◌}
-use mathlib.Core.Path.{refl}
 use lib.ListN.{length}
-use Rattle.code_page.proofs.OwnLaws.{SeenTo, seen_more, seen_all}
+use Rattle.code_page.proofs.OwnLaws.{SeenTo}
 use Rattle.code_page.proofs.own.are_own_units.Given as goal
 
 abbrev pub invariant-loop-k : goal.invariant-loop-k

@@ -1,11 +1,10 @@
 -- Each turn stores the next unit, which is below 100 since all are own.
-use Prim.Native.Nat.{◌-◌}
 use mathlib.Core.Path.{refl}
 use native.Mathlib.Omega.{arith}
-use lib.ListN.{length, get_or}
+use lib.ListN.{get_or}
 use Rattle.code_page.specs.Own.{own_small}
 use Rattle.code_page.proofs.OwnLaws.{own_at}
-use Rattle.code_page.proofs.PassLaws.{Laid, laid_more, laid_all}
+use Rattle.code_page.proofs.PassLaws.{laid_more, laid_all}
 use borrow.Author.Rules.{rules}
 use Rattle.code_page.proofs.own.narrow.Goals as goal
 

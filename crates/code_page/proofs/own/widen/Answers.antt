@@ -1,9 +1,7 @@
 -- Each turn stores the next byte, as it is.
-use Prim.Native.Nat.{◌-◌}
 use mathlib.Core.Path.{refl}
 use native.Mathlib.Omega.{arith}
-use lib.ListN.{length}
-use Rattle.code_page.proofs.PassLaws.{Laid, laid_more, laid_all}
+use Rattle.code_page.proofs.PassLaws.{laid_more, laid_all}
 use borrow.Author.Rules.{rules}
 use Rattle.code_page.proofs.own.widen.Goals as goal
 

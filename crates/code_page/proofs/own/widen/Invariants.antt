@@ -1,8 +1,6 @@
 use Prim.Native.Nat.{◌-◌}
-use mathlib.Core.Path.{refl}
-use native.Mathlib.Omega.{arith}
 use lib.ListN.{length}
-use Rattle.code_page.proofs.PassLaws.{Laid, laid_more, laid_all}
+use Rattle.code_page.proofs.PassLaws.{Laid}
 use Rattle.code_page.proofs.own.widen.Given as goal
 
 abbrev pub invariant-loop-i : goal.invariant-loop-i

@@ -1,12 +1,12 @@
 -- From each byte on, all are defined exactly if all are; the mark stands where one is not.
-use Prim.Native.Nat.{◌-◌, ◌<◌}
+use Prim.Native.Nat.{◌<◌}
 use mathlib.Core.Path.{◌≡◌, refl, sym, ◌∙◌}
 use native.Mathlib.Omega.{arith}
-use lib.ListN.{length, get_or}
+use lib.ListN.{get_or}
 use Rattle.code_page.specs.Cp1252.{cp1252}
 use Rattle.code_page.specs.Mapping.{unit_of, mark}
 use Rattle.code_page.specs.Facts.{found_marked, found_unit}
-use Rattle.code_page.proofs.PassLaws.{JudgedTo, judged_more, judged_undefined, judged_all}
+use Rattle.code_page.proofs.PassLaws.{judged_more, judged_undefined, judged_all}
 use borrow.Author.Rules.{rules}
 use Rattle.code_page.proofs.units.are_defined.Goals as goal
 

@@ -1,11 +1,7 @@
-use Prim.Native.Nat.{◌-◌, ◌<◌}
-use mathlib.Core.Path.{◌≡◌, refl, sym, ◌∙◌}
-use native.Mathlib.Omega.{arith}
-use lib.ListN.{length, get_or}
-use Rattle.code_page.specs.Cp1252.{cp1252}
-use Rattle.code_page.specs.Mapping.{unit_of, mark}
-use Rattle.code_page.specs.Facts.{found_marked, found_unit}
-use Rattle.code_page.proofs.PassLaws.{JudgedTo, judged_more, judged_undefined, judged_all}
+use Prim.Native.Nat.{◌-◌}
+use lib.ListN.{length}
+use Rattle.code_page.specs.Mapping.{unit_of}
+use Rattle.code_page.proofs.PassLaws.{JudgedTo}
 use Rattle.code_page.proofs.units.are_defined.Given as goal
 
 abbrev pub invariant-loop-k : goal.invariant-loop-k

@@ -1,13 +1,13 @@
 -- Each turn stores the unit of the next byte, which is defined since all were judged.
-use Prim.Native.Nat.{◌-◌, ◌<◌}
+use Prim.Native.Nat.{◌<◌}
 use mathlib.Core.Path.{◌≡◌, refl, sym, ◌∙◌}
 use native.Mathlib.Omega.{arith}
-use lib.ListN.{length, get_or}
+use lib.ListN.{get_or}
 use Rattle.code_page.specs.Mapping.{unit_of, defined}
 use Rattle.code_page.specs.Conversion.{mapped_all}
 use Rattle.code_page.specs.Passes.{entries_of}
 use Rattle.code_page.specs.Facts.{unit_entry, looked_up}
-use Rattle.code_page.proofs.PassLaws.{Laid, laid_more, laid_all, as_many, entry_stored}
+use Rattle.code_page.proofs.PassLaws.{laid_more, laid_all, as_many, entry_stored}
 use borrow.Author.Rules.{rules}
 use Rattle.code_page.proofs.units.put_units.Goals as goal
 

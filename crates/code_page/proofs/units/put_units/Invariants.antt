@@ -1,12 +1,9 @@
-use Prim.Native.Nat.{◌-◌, ◌<◌}
-use mathlib.Core.Path.{◌≡◌, refl, sym, ◌∙◌}
-use native.Mathlib.Omega.{arith}
-use lib.ListN.{length, get_or}
-use Rattle.code_page.specs.Mapping.{unit_of, defined}
+use Prim.Native.Nat.{◌-◌}
+use lib.ListN.{length}
+use Rattle.code_page.specs.Mapping.{unit_of}
 use Rattle.code_page.specs.Conversion.{mapped_all}
 use Rattle.code_page.specs.Passes.{entries_of}
-use Rattle.code_page.specs.Facts.{unit_entry, looked_up}
-use Rattle.code_page.proofs.PassLaws.{Laid, laid_more, laid_all, as_many, entry_stored}
+use Rattle.code_page.proofs.PassLaws.{Laid}
 use Rattle.code_page.proofs.units.put_units.Given as goal
 
 abbrev pub invariant-loop-i : goal.invariant-loop-i
