@@ -11,8 +11,10 @@ use Rattle.code_page.specs.Cp1252.{cp1252}
 use Rattle.code_page.specs.Mapping.{unit_of, byte_of, defined, mark}
 use Rattle.code_page.specs.Passes.{byte_or_zero}
 use Rattle.code_page.specs.Facts.{unit_entry, looked_up, found_unit, unit_of_byte}
-use Rattle.code_page.specs.Inverse.{back, no_byte}
-use Rattle.code_page.specs.Own.{is_own, other_between}
+use Rattle.code_page.specs.Inverse.{no_byte}
+use Rattle.code_page.proofs.Inverse.{back}
+use Rattle.code_page.specs.Own.{is_own}
+use Rattle.code_page.proofs.OwnEntries.{other_between}
 
 -- from 128 to a place the unit stands nowhere, and 0 was found, or it stands where it was found
 pub data Searched (table : List ℕ) (unit to : ℕ) : ℕ → Type 0 where

@@ -2,7 +2,8 @@
 use mathlib.Core.Path.{sym, ap, ◌∙◌}
 use native.Mathlib.Omega.{arith}
 use Rattle.code_page.specs.Passes.{byte_or_zero}
-use Rattle.code_page.specs.Own.{own_byte, own_small}
+use Rattle.code_page.specs.Own.{own_small}
+use Rattle.code_page.proofs.OwnEntries.{own_byte}
 use Rattle.code_page.proofs.bytes.byte_of.Goals as goal
 
 pub overflow_cast-result : goal.overflow_cast-result

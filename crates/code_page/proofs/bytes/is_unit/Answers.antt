@@ -8,7 +8,8 @@ use borrow.Author.Tests.{ne_eqb}
 use Rattle.code_page.specs.Mapping.{Mapped, defined, undefined, byte_of}
 use Rattle.code_page.specs.Passes.{is_defined, byte_or_zero}
 use Rattle.code_page.specs.Inverse.{there}
-use Rattle.code_page.specs.Own.{is_own, own_byte, other_between}
+use Rattle.code_page.specs.Own.{is_own}
+use Rattle.code_page.proofs.OwnEntries.{own_byte, other_between}
 use Rattle.code_page.proofs.bytes.is_unit.Goals as goal
 
 not_zero : (unit : ℕ) → is_own unit ≡ false → not (eqb (byte_or_zero (byte_of unit)) 0) ≡ is_defined (byte_of unit)

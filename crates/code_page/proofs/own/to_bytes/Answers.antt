@@ -1,6 +1,7 @@
 -- Units that are their own bytes are all of the table; what is stored is the units themselves.
 use Rattle.code_page.specs.Mapping.{byte_of}
-use Rattle.code_page.specs.Own.{own_byte, own_mapped}
+use Rattle.code_page.specs.Own.{own_mapped}
+use Rattle.code_page.proofs.OwnEntries.{own_byte}
 use Rattle.code_page.proofs.CallLaws.{gives_too_short, gives_written}
 use Rattle.code_page.proofs.own.to_bytes.Goals as goal
 

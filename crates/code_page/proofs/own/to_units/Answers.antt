@@ -1,6 +1,7 @@
 -- Bytes that are their own units are all defined; what is stored is the bytes themselves.
 use Rattle.code_page.specs.Mapping.{unit_of}
-use Rattle.code_page.specs.Own.{own_unit, own_mapped}
+use Rattle.code_page.specs.Own.{own_mapped}
+use Rattle.code_page.proofs.OwnEntries.{own_unit}
 use Rattle.code_page.proofs.CallLaws.{gives_too_short, gives_written}
 use Rattle.code_page.proofs.own.to_units.Goals as goal
 
