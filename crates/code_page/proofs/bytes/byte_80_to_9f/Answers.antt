@@ -2,15 +2,11 @@
 use Prim.Native.Nat.{◌+◌}
 use mathlib.Core.Path.{◌≡◌}
 use native.Mathlib.Omega.{arith}
-use Rattle.code_page.specs.Mapping.{byte_of, mark}
+use Rattle.code_page.specs.Mapping.{mark}
 use Rattle.code_page.proofs.SearchLaws.{Searched, nowhere, somewhere, further, small, searched}
 use borrow.Author.Rules.{rules}
 use Rattle.code_page.proofs.bytes.byte_80_to_9f.Goals as goal
 use Rattle.code_page.proofs.bytes.byte_80_to_9f.Goals.{then-table-byte, else-table-byte}
-
-pub returns-then-unit-eq-UNDEFINED : goal.returns-then-unit-eq-UNDEFINED
-unfolding byte_of
-returns-then-unit-eq-UNDEFINED c = let marked : c.args.unit ≡ mark = c.if-unit-eq-UNDEFINED.true in rw marked
 
 pub loop-byte-init : goal.loop-byte-init
 loop-byte-init c = (search rules, search rules, nowhere (λ k l h. absurd (omega arith)))
@@ -37,4 +33,5 @@ returns c =
     let unit = c.args.unit in
     let end : c.loop-byte.byte ≡ 160 = omega (arith, c.loop-byte.invariant.1, c.loop-byte-test.false) in
     let all : Searched table unit 160 c.loop-byte.found = rw end at c.loop-byte.invariant.2 in
-    searched table unit c.loop-byte.found c.requires.0 c.requires.1 c.if-unit-eq-UNDEFINED.false all
+    let unmarked : unit ≡ mark → ⊥ = λ m. omega arith in
+    searched table unit c.loop-byte.found c.requires.0 c.requires.1 unmarked all
