@@ -1,6 +1,8 @@
 // What crosses the C boundary in place of enums: structs of numbers, and each answer of the calls as such a struct.
 // No file of the Rust and no section of the public document: the fields' names are the Rust's and document 01's.
 // specs/ promise that each struct has the answer's numbers: refusal 0 and the value, or the refusal's number and its place and 0.
+#![tactic(auto)]
+
 pub mod answers;
 pub mod bodies;
 pub mod conversions;
@@ -11,7 +13,7 @@ pub mod prefixes;
 
 // What one code gives: the refusal's number or 0, the final place, and the value or 0.
 #[repr(C)]
-#[derive(Drop)]
+#[derive(Clone, Copy)]
 pub struct CodeAnswer {
     pub refusal: u64,
     pub place: usize,
@@ -19,7 +21,7 @@ pub struct CodeAnswer {
 }
 
 #[repr(C)]
-#[derive(Drop)]
+#[derive(Clone, Copy)]
 pub struct SignedAnswer {
     pub refusal: u64,
     pub place: usize,
@@ -27,7 +29,7 @@ pub struct SignedAnswer {
 }
 
 #[repr(C)]
-#[derive(Drop)]
+#[derive(Clone, Copy)]
 pub struct DoubleAnswer {
     pub refusal: u64,
     pub place: usize,
@@ -35,7 +37,7 @@ pub struct DoubleAnswer {
 }
 
 #[repr(C)]
-#[derive(Drop)]
+#[derive(Clone, Copy)]
 pub struct HandleAnswer {
     pub refusal: u64,
     pub place: usize,
@@ -48,7 +50,7 @@ pub struct HandleAnswer {
 // the bits of a unit, the bit position of the first unit and the unit count, or 0 for each; and whether a closing zero was dropped.
 // That stands behind the width, where nothing stood, so that every other field stands where it did.
 #[repr(C)]
-#[derive(Drop)]
+#[derive(Clone, Copy)]
 pub struct TextAnswer {
     pub refusal: u64,
     pub place: usize,
@@ -61,7 +63,7 @@ pub struct TextAnswer {
 
 // The fields of a prefix but its linetype scale, under the Rust's names; a number that may be absent has its `has` beside it.
 #[repr(C)]
-#[derive(Drop)]
+#[derive(Clone, Copy)]
 pub struct PrefixFields {
     pub raw_mode: u8,
     pub mode: u8,
@@ -94,7 +96,7 @@ pub struct PrefixFields {
 // What a prefix gives: the refusal's number or 0, the final place, and the fields or 0 for each. The mode's number is 0 by layer,
 // 1 by the previous entity, 2 in a block, 3 reserved.
 #[repr(C)]
-#[derive(Drop)]
+#[derive(Clone, Copy)]
 pub struct PrefixAnswer {
     pub refusal: u64,
     pub place: usize,
@@ -103,7 +105,7 @@ pub struct PrefixAnswer {
 }
 
 #[repr(C)]
-#[derive(Drop)]
+#[derive(Clone, Copy)]
 pub struct PrefixBitsAnswer {
     pub refusal: u64,
     pub place: usize,

@@ -1,6 +1,8 @@
 // A hatch body's parts: what follows its front measured and, where both lists are long enough, filled. src/entities/hatch.rs of dwg-rs.
 // Section 20.4.75 of the specification, from the solid fill bit on; refusal 11 is document 01's.
 // specs/ promise the parts or the refusal, and the lists afterwards, as hatch_format's `rest` reads them.
+#![tactic(auto)]
+
 ghost use Rattle.std.specs.Prelude.{◌≡◌, ◌*◌, ◌≤◌, length};
 ghost use Rattle.loads.specs.Bits.{limit};
 ghost use Rattle.hatch_format.specs.Caps.{document_caps, NowhereAbove};
@@ -21,7 +23,7 @@ use text::Places;
 use text::version::Version;
 
 // What a readable body gives but for its list entries: its parts, the lengths used of the lists and its final places.
-#[derive(Drop)]
+#[derive(Clone, Copy)]
 pub struct Parts {
     pub front: Front,
     pub rest: Rest,
@@ -29,7 +31,7 @@ pub struct Parts {
     pub places: Places,
 }
 
-#[derive(Drop)]
+#[derive(Clone, Copy)]
 pub enum BodyRead {
     Done(Parts),
     Refused(Refusal, Places),

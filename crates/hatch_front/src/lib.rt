@@ -1,6 +1,8 @@
 // The fields of a hatch body up to its pattern's name: decode_gradient and the fields behind it in src/entities/hatch.rs of dwg-rs.
 // Section 20.4.75 of the specification.
 // specs/ promise that the front is read as hatch_format's `hatch` reads it, and that its colours stand where it says, so that they can be read again.
+#![tactic(auto)]
+
 ghost use Rattle.std.specs.Prelude.{◌≡◌, ◌≤◌, length};
 ghost use Rattle.loads.specs.Bits.{limit};
 ghost use Rattle.text.specs.Answers.{payloads, places_of};
@@ -17,7 +19,7 @@ pub mod colors;
 mod gradients;
 
 // A gradient without its colours, which stand from `colors_at` on; zero throughout where there is none.
-#[derive(Drop)]
+#[derive(Clone, Copy)]
 pub struct Gradient {
     pub present: bool,
     pub angle: u64,
@@ -29,7 +31,7 @@ pub struct Gradient {
     pub name: Text,
 }
 
-#[derive(Drop)]
+#[derive(Clone, Copy)]
 pub struct Plane {
     pub elevation: u64,
     pub x: u64,
@@ -37,20 +39,20 @@ pub struct Plane {
     pub z: u64,
 }
 
-#[derive(Drop)]
+#[derive(Clone, Copy)]
 pub enum PlaneRead {
     Done(Plane, usize),
     Refused(Refusal, usize),
 }
 
-#[derive(Drop)]
+#[derive(Clone, Copy)]
 pub struct Front {
     pub gradient: Gradient,
     pub plane: Plane,
     pub name: Text,
 }
 
-#[derive(Drop)]
+#[derive(Clone, Copy)]
 pub enum FrontRead {
     Done(Front, Places),
     Refused(Refusal, Places),

@@ -1,6 +1,8 @@
 // The record and the lengths of a hatch, made of the parts that were read: src/entities/hatch.rs of dwg-rs.
 // Section 20.4.75 of the specification; sixteen colours, and zero but for the places on a refusal, as document 01 has it.
 // specs/ promise the record field by field from the parts, with each double as its 64 bits or as the double that it is, and its lengths.
+#![tactic(auto)]
+
 ghost use Rattle.std.specs.Prelude.{◌≡◌};
 ghost use Rattle.hatch_record.specs.Records.{zero_parts, parts_in, outcome_in, num_colors, lengths_of};
 
@@ -16,28 +18,28 @@ use text::{Places, Source, Text};
 pub mod bits;
 pub mod doubles;
 
-#[derive(Drop)]
+#[derive(Clone, Copy)]
 pub enum Outcome {
     Read,
     Refused(Refusal),
 }
 
 // What a call hands over by value; on a refusal the record is zero but for the places.
-#[derive(Drop)]
+#[derive(Clone, Copy)]
 pub struct HatchAnswer {
     pub outcome: Outcome,
     pub hatch: Hatch,
 }
 
 // The same with each double as its 64 bits.
-#[derive(Drop)]
+#[derive(Clone, Copy)]
 pub struct HatchBitsAnswer {
     pub outcome: Outcome,
     pub hatch: HatchBits,
 }
 
 // The lengths that the lists must have for a readable hatch, and its final places; zero and the refusal's places else.
-#[derive(Drop)]
+#[derive(Clone, Copy)]
 pub struct Lengths {
     pub outcome: Outcome,
     pub words: usize,

@@ -1,12 +1,14 @@
 // The entity prefix, defined: src/common_entity.rs of dwg-rs; section 20.4.1 of the specification. The functions that read it are in crate common_entity.
 // Which release has which field is one table (`rows`); the readers and their definition both look there, and nowhere else.
 // specs/ has its layouts, the format that reads them and the record; specs/Call defines a whole call, and specs/Demand3 proves of it the third demand.
+#![tactic(auto)]
+
 use bitcursor::Refusal;
 
 pub mod table;
 
 // The entity's mode, from its two bits.
-#[derive(Drop)]
+#[derive(Clone, Copy)]
 pub enum EntityMode {
     ByLayer,
     ByPreviousEntity,
@@ -15,14 +17,14 @@ pub enum EntityMode {
 }
 
 // A field with whether it was present.
-#[derive(Drop)]
+#[derive(Clone, Copy)]
 pub struct MaybeLong {
     pub present: bool,
     pub value: u32,
 }
 
 // All that a prefix holds, with the names of the Rust.
-#[derive(Drop)]
+#[derive(Clone, Copy)]
 pub struct CommonEntityData {
     pub raw_mode: u8,
     pub mode: EntityMode,
@@ -49,7 +51,7 @@ pub struct CommonEntityData {
 }
 
 // The same with the linetype scale as its 64 bits.
-#[derive(Drop)]
+#[derive(Clone, Copy)]
 pub struct CommonEntityBits {
     pub raw_mode: u8,
     pub mode: EntityMode,
@@ -76,21 +78,21 @@ pub struct CommonEntityBits {
 }
 
 // Whether a call gave a reading.
-#[derive(Drop)]
+#[derive(Clone, Copy)]
 pub enum Outcome {
     Read,
     Refused(Refusal),
 }
 
 // What a prefix call gives: on a refusal the record is zero throughout, and the place is the refusal's.
-#[derive(Drop)]
+#[derive(Clone, Copy)]
 pub struct Prefix {
     pub outcome: Outcome,
     pub place: usize,
     pub fields: CommonEntityData,
 }
 
-#[derive(Drop)]
+#[derive(Clone, Copy)]
 pub struct PrefixBits {
     pub outcome: Outcome,
     pub place: usize,
