@@ -5,13 +5,12 @@ use Rattle.std.proofs.Common.{sym, ap, ◌∙◌}
 use Rattle.std.proofs.Math.Bool.{true, false, not-not}
 use Rattle.std.proofs.Math.Dec.{eqb}
 use Rattle.loads.specs.Bits.{bit}
-use Rattle.bitcursor.specs.Code.{Code, Laid, mapped, tabled}
-use Rattle.bitcursor.specs.Codes.{RC, RL, BB, BS, BL, signed, signed_BS}
+use Rattle.bitcursor.specs.Code.{Laid}
+use Rattle.bitcursor.specs.Codes.{RC, RL, BB, BL, signed}
 use Rattle.bitcursor.specs.Format.{Format, relay}
 use Rattle.bitcursor.specs.Inputs.{one}
 use Rattle.bitcursor.specs.Fields.{coded}
 use Rattle.text.specs.declared.version.Version.{Version}
-use Rattle.prefix_format.specs.declared.MaybeLong.{MaybeLong}
 use Rattle.prefix_format.specs.declared.CommonEntityBits.{CommonEntityBits}
 use Rattle.prefix_format.specs.declared.table.Row.{Row}
 use Rattle.prefix_format.specs.Rows.{row_of}
