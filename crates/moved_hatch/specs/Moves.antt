@@ -13,7 +13,7 @@ use Rattle.hatch_lists.specs.Holding.{Holding, held_words}
 use Rattle.hatch_lists.specs.Whole.{Whole, Held, whole, not_whole, held}
 use Rattle.hatch_lists.specs.Items.{points_item, gathered, held_items}
 use Rattle.hatch_lists.specs.Coordinates.{Role, item_roles, held_roles}
-use Rattle.hatch_lists.specs.CoordinateLaws.{roles_of_items, roles_long}
+use Rattle.hatch_lists.proofs.CoordinateLaws.{roles_of_items, roles_long}
 use Rattle.hatch_lists.specs.WholeLaws.{held_whole, numbers_altered, same_words}
 use Rattle.moved_hatch.specs.Moving.{moved, all_in_range, moves, Arithmetic, patterns, judged, outcome_of, outcome, after}
 use Rattle.moved_hatch.specs.Doubles.{of_doubles, of_bits}

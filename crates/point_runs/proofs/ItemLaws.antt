@@ -7,7 +7,7 @@ use native.Mathlib.Omega.{arith}
 use lib.ListN.{length, drop, length-replicate}
 use Rattle.hatch_lists.specs.declared.Item.{Item}
 use Rattle.hatch_lists.specs.Coordinates.{Role, other, others, point_run, item_roles}
-use Rattle.hatch_lists.specs.CoordinateLaws.{run_long}
+use Rattle.hatch_lists.proofs.CoordinateLaws.{run_long}
 use Rattle.moved_hatch.specs.Moving.{all_in_range}
 use Rattle.moved_hatch.specs.Parts.{moved_from, in_range_from, Movable}
 use Rattle.point_runs.proofs.PartLaws.{others_in_range, in_range_behind, others_from, moved_from_length, moved_behind, stays_behind}

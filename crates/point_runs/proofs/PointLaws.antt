@@ -12,7 +12,7 @@ use lib.ListN.{length, get_or, set, take, drop, take-append-drop, length-set, le
 use lib.Seq.{drop-cons, get_or-set_other, sets-eq, drop-set-lt}
 use Rattle.differences.specs.Limits.{below}
 use Rattle.hatch_lists.specs.Coordinates.{Role, x, y, others, point_run}
-use Rattle.hatch_lists.specs.CoordinateLaws.{run_long}
+use Rattle.hatch_lists.proofs.CoordinateLaws.{run_long}
 use Rattle.moved_hatch.specs.Moving.{moved, all_in_range}
 use Rattle.moved_hatch.specs.MovedLists.{moved_others}
 use Rattle.moved_hatch.specs.Parts.{moved_from, in_range_from}
