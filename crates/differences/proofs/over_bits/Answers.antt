@@ -4,12 +4,10 @@ use mathlib.Core.Bool.{Bool, true, false}
 use Prim.Native.Nat.{ℕ, ◌+◌, ◌%◌}
 use native.Mathlib.Omega.{arith}
 use lib.Dec.{leb}
-use borrow.Author.Rules.{rules}
 use borrow.Author.Tests.{leb-true, leb-false, lt-ltb, le-ltb}
 use Rattle.differences.specs.Limits.{below}
 use Rattle.differences.specs.LimitBits.{within_pattern}
-use Rattle.differences.proofs.over_bits.Statement.{statement}
-use Rattle.differences.proofs.over_bits.Tie as tie
+use Rattle.differences.proofs.over_bits.Goals as goal
 
 top_bit : (n : ℕ) → below (n + 0x3d8f_ffff_ffff_ffff) ≡ leb n 0x4270_0000_0000_0000
 top_bit n = go (leb n 0x4270_0000_0000_0000) refl
@@ -18,11 +16,5 @@ top_bit n = go (leb n 0x4270_0000_0000_0000) refl
     go true e = let low = leb-true n 0x4270_0000_0000_0000 e in lt-ltb (n + 0x3d8f_ffff_ffff_ffff) 0x8000_0000_0000_0000 (omega (arith, low))
     go false e = let high = leb-false n 0x4270_0000_0000_0000 e in le-ltb (n + 0x3d8f_ffff_ffff_ffff) 0x8000_0000_0000_0000 (omega (arith, high))
 
-add-result : tie.Need-overflow-add-result
-add-result c = search rules
-
-returns : tie.Need-returns
+pub returns : goal.returns
 returns c = let x = c.args.x in top_bit (x % 0x8000_0000_0000_0000) ∙ sym (within_pattern x)
-
-pub over-bits-spec : {M : Type 1} → statement M
-over-bits-spec = tie.close (tie.spec add-result returns)
