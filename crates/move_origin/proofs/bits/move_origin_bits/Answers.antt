@@ -1,5 +1,6 @@
 -- Each test in turn decides the definition's outcome: whole, upright, the origin, every coordinate; only behind all of them are the numbers moved.
-use mathlib.Core.Path.{sym, ap, subst, ◌∙◌}
+use mathlib.Core.Path.{◌≡◌, sym, ap, subst, ◌∙◌}
+use mathlib.Core.Bool.{true, false}
 use lib.ListN.{length, take}
 use lib.Seq.{length-take-le}
 use Rattle.differences.specs.Difference.{difference_bits}
@@ -26,7 +27,7 @@ returns-then-not-upright c =
     let a = c.args in
     let held = holds_where of_bits a.c a.words.now a.bits.now c.is_whole.ensures c.if-not-is_whole.false in
     let upright = is_upright_bits a.extrusion.x a.extrusion.y a.extrusion.z in
-    let no = sym c.is_upright_bits-upright.ensures ∙ c.if-not-upright.true in
+    let no : upright ≡ false = cc in
     let e = refused_12 of_bits a.c a.words.now a.bits.now upright a.x a.y held no in
     (sym (ap answer_of e), sym (ap (λ (o : Outcome). after of_bits o a.x a.y a.bits.now) e))
 
@@ -35,7 +36,7 @@ returns-then-not-origin c =
     let a = c.args in
     let held = holds_where of_bits a.c a.words.now a.bits.now c.is_whole.ensures c.if-not-is_whole.false in
     let upright = is_upright_bits a.extrusion.x a.extrusion.y a.extrusion.z in
-    let is = sym c.is_upright_bits-upright.ensures ∙ c.if-not-upright.false in
+    let is : upright ≡ true = cc in
     let no = sym c.is_origin-origin.ensures ∙ c.if-not-origin.true in
     let e = refused_origin of_bits a.c a.words.now a.bits.now upright a.x a.y held is no in
     (sym (ap answer_of e), sym (ap (λ (o : Outcome). after of_bits o a.x a.y a.bits.now) e))
@@ -57,7 +58,7 @@ returns-then-not-are_within c =
     let a = c.args in
     let held = holds_where of_bits a.c a.words.now a.bits.now c.is_whole.ensures c.if-not-is_whole.false in
     let upright = is_upright_bits a.extrusion.x a.extrusion.y a.extrusion.z in
-    let is = sym c.is_upright_bits-upright.ensures ∙ c.if-not-upright.false in
+    let is : upright ≡ true = cc in
     let origin = sym c.is_origin-origin.ensures ∙ c.if-not-origin.false in
     let range = range_from of_bits a.c a.words.now a.bits.now c.start_of.ensures c.are_within.ensures in
     let e = refused_13 of_bits a.c a.words.now a.bits.now upright a.x a.y held is origin (range ∙ c.if-not-are_within.true) in
@@ -91,7 +92,7 @@ returns c =
     let a = c.args in
     let held = holds_where of_bits a.c a.words.now a.bits.now c.is_whole.ensures c.if-not-is_whole.false in
     let upright = is_upright_bits a.extrusion.x a.extrusion.y a.extrusion.z in
-    let is = sym c.is_upright_bits-upright.ensures ∙ c.if-not-upright.false in
+    let is : upright ≡ true = cc in
     let origin = sym c.is_origin-origin.ensures ∙ c.if-not-origin.false in
     let range = range_from of_bits a.c a.words.now a.bits.now c.start_of.ensures c.are_within.ensures in
     let e = moves_all of_bits a.c a.words.now a.bits.now upright a.x a.y held is origin (range ∙ c.if-not-are_within.false) in
