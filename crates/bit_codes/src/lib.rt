@@ -1,6 +1,8 @@
 // The bit codes of DWG, read from bytes at any bit by value: src/bitcursor.rs of dwg-rs, section 2 of the ODA's specification.
 // The specs/ of crate `bitcursor` promise, for every payload and place, the value and place of a layout by the code's table, or document 01's
 // refusal. Each call takes any bytes and any place; the readers of `bitcursor::within` do the work once the payload is known to be within the limit.
+#![tactic(auto)]
+
 ghost use Rattle.std.specs.Prelude.{◌≡◌};
 ghost use Rattle.std.specs.Float.Ieee.{to_bits};
 ghost use Rattle.std.specs.Float.{binary64};

@@ -15,7 +15,7 @@ use Rattle.bitcursor.specs.declared.Read.TheVariants.{Value, Refused}
 use Rattle.bitcursor.specs.declared.Passed.{Passed}
 use Rattle.bitcursor.specs.declared.Passed.TheVariants.{To, Refused as RefusedPassed}
 use Rattle.loads.specs.Bits.{size, limit}
-use Rattle.bitcursor.specs.Reading.{Out, got, refused, and_then, never}
+use Rattle.bitcursor.specs.Reading.{Out, got, refused}
 use Rattle.bitcursor.specs.Code.{Code, raw, ◌>>=◌, mapped, tabled, give}
 use Rattle.bitcursor.specs.Codes.{by_tag, tagged}
 use Rattle.bitcursor.specs.Ranges.{raw_below, read_below}

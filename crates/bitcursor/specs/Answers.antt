@@ -1,6 +1,6 @@
 -- What a reading is as the calls' answers, and what a call on any payload gives: refusal 10 above document 01's limit.
 -- Assumes nothing.
-use Rattle.std.specs.Prelude.{Bool, true, false, List, ℕ, ◌^◌, ◌<◌, leb, eqb, Float, ℤ, length}
+use Rattle.std.specs.Prelude.{Bool, true, false, List, ℕ, ◌^◌, ◌<◌, leb, eqb, ℤ, length}
 use Rattle.std.specs.Float.Ieee.{of_bits}
 use Rattle.std.specs.Float.{binary64}
 use Rattle.loads.specs.Bits.{limit}

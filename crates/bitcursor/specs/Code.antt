@@ -1,10 +1,10 @@
 -- Certified codes of one payload: how a value is read at a place, which bits are its codes, and the proofs that the two say the
 -- same, that reading only goes on, that no bit past the final place matters, and that a longer payload reads the same unless bits were
 -- lacking. Assumes nothing.
-use Rattle.std.specs.Prelude.{◌≡◌, refl, Bool, true, false, not, ℕ, ◌+◌, ◌-◌, ◌*◌, ◌/◌, ◌^◌, ◌≤◌, ◌<◌, max, length, leb}
+use Rattle.std.specs.Prelude.{◌≡◌, refl, Bool, true, false, not, ℕ, ◌+◌, ◌-◌, ◌*◌, ◌^◌, ◌≤◌, ◌<◌, max, length, leb}
 use Rattle.std.proofs.Math.Path.{sym, ap, subst⁻¹}
-use Rattle.std.proofs.Common.{ap₂, subst, ◌∙◌, add-zero, add_assoc, mod-eq_of_lt, arith, length-append, leb→le, le-leb, leb-true}
-use mathlib.Core.List.{List, [], ◌∷◌, ◌++◌, append-nil}
+use Rattle.std.proofs.Common.{ap₂, subst, ◌∙◌, add-zero, mod-eq_of_lt, arith, length-append, leb→le, le-leb, leb-true}
+use mathlib.Core.List.{List, [], ◌++◌, append-nil}
 use Rattle.std.proofs.lemmas.Bool.{not-false}
 use Rattle.bitcursor.specs.declared.Refusal.{Refusal}
 use Rattle.bitcursor.specs.declared.Refusal.TheVariants.{TooFewBits}

@@ -1,16 +1,14 @@
 -- The codes of the specification's section 2, each with the table of its codes: tag, what follows, value. Doubles (RD, BD, DD)
 -- are their 64 bits. A signed reading is the unsigned one with `signed` as its last step. Assumes nothing.
-use Rattle.std.specs.Prelude.{◌≡◌, refl, Bool, true, false, ℤ, pos, negsuc, leb, ltb, eqb}
-use Rattle.std.proofs.Common.{sym, ap, ap₂, subst, ◌∙◌, leb→le, le-leb}
+use Rattle.std.specs.Prelude.{◌≡◌, refl, Bool, true, false, ℤ, pos, negsuc, ltb, eqb}
 use Rattle.std.proofs.Math.Path.{subst⁻¹}
-use mathlib.Core.List.{List, [], ◌∷◌, ◌++◌, append_assoc, append-nil}
-use Prim.Native.Nat.{ℕ, zero, suc, ◌+◌, ◌-◌, ◌*◌, ◌/◌, ◌%◌, ◌^◌, ◌≤◌, ◌<◌}
+use mathlib.Core.List.{List, [], ◌∷◌, ◌++◌}
+use Prim.Native.Nat.{ℕ, zero, suc, ◌-◌, ◌^◌, ◌<◌}
 use native.Mathlib.Omega.{arith}
-use Rattle.bitcursor.specs.declared.Refusal.TheVariants.{ReservedTag, HandleCounter}
-use Rattle.bitcursor.specs.declared.Handle.{Handle}
+use Rattle.bitcursor.specs.declared.Refusal.TheVariants.{ReservedTag}
 use Rattle.loads.specs.Bits.{bits_of, digits}
 use Rattle.bitcursor.specs.Code.{Code, give, refuse, raw, ◌>>=◌, tabled, mapped}
-use Rattle.bitcursor.specs.Bytes.{low_first, high_first}
+use Rattle.bitcursor.specs.Bytes.{low_first}
 use Rattle.loads.specs.Bytes.{low_bytes}
 
 -- the two bits, as the specification writes them

@@ -1,7 +1,5 @@
 -- BD and DD, the codes of doubles, as 64-bit patterns: the tables of the specification's section 2.5. Assumes nothing.
-use Rattle.std.specs.Prelude.{◌≡◌, refl, Bool, List, [], ◌∷◌, ◌++◌, ℕ, ◌+◌, ◌*◌, ◌/◌, ◌^◌, ◌<◌}
-use Rattle.std.proofs.Common.{sym, ap, ap₂, subst, ◌∙◌, append-nil, arith}
-use Rattle.std.proofs.Math.Path.{subst⁻¹}
+use Rattle.std.specs.Prelude.{refl, Bool, List, [], ◌∷◌, ◌++◌, ℕ, ◌+◌, ◌*◌, ◌/◌, ◌^◌, ◌<◌}
 use Rattle.bitcursor.specs.declared.Refusal.TheVariants.{ReservedTag}
 use Rattle.loads.specs.Bits.{bits_of}
 use Rattle.bitcursor.specs.Code.{Code, give, refuse, ◌>>=◌, tabled, mapped}

@@ -2,7 +2,7 @@
 -- payload. The layouts are the code's table, or the part's layouts, at the place in that payload; the other's place stays. Assumes nothing.
 use Rattle.std.specs.Prelude.{◌≡◌, Bool, true, false, not, List, ℕ, ◌-◌, ◌*◌, ◌≤◌, ◌<◌, leb}
 use Rattle.std.proofs.Math.Path.{refl}
-use Rattle.std.proofs.Common.{sym, ap, ap₂, subst, ◌∙◌, arith, le-leb, leb-true}
+use Rattle.std.proofs.Common.{sym, ap, ◌∙◌, arith, le-leb, leb-true}
 use Rattle.std.proofs.lemmas.Bool.{lt-leb, not-false}
 use Rattle.bitcursor.specs.declared.Refusal.TheVariants.{CountTooLarge}
 use Rattle.loads.specs.Bits.{size, Alike, Begins}

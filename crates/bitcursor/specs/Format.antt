@@ -3,7 +3,7 @@
 -- (specs/Inputs). `pure`, `refuse`, `>>=`, `peek`, `relay` and `either` here, and `coded`, `at_least_lem`, `part_in` and `field` of specs/Fields,
 -- build every format. Assumes nothing.
 use Rattle.std.specs.Prelude.{◌≡◌, refl, Bool, true, false}
-use Rattle.std.proofs.Common.{sym, ap₂, subst, ◌∙◌}
+use Rattle.std.proofs.Common.{sym, ap₂}
 use Rattle.std.proofs.Math.Path.{ap}
 use Rattle.bitcursor.specs.declared.Refusal.{Refusal}
 use Rattle.bitcursor.specs.Refusals.{OfFields}

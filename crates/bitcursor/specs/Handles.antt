@@ -1,12 +1,11 @@
 -- Codes that say how many bytes follow: BLL (three bits, then that many bytes) and handles (code, counter, then counter bytes
 -- with the high one first; a counter above 8 is refused). Assumes nothing.
-use Rattle.std.specs.Prelude.{◌≡◌, refl, Bool, true, false, List, [], ◌∷◌, ◌++◌, ℕ, ◌*◌, ◌^◌, ◌≤◌, ◌<◌, leb}
-use Rattle.std.proofs.Common.{sym, ap, ap₂, subst, ◌∙◌, append-nil, arith, leb→le, le-leb}
-use Rattle.std.proofs.Math.Path.{subst⁻¹}
+use Rattle.std.specs.Prelude.{◌≡◌, refl, Bool, true, false, List, ◌++◌, ℕ, ◌*◌, ◌^◌, ◌≤◌, ◌<◌, leb}
+use Rattle.std.proofs.Common.{arith, leb→le, le-leb}
 use Rattle.bitcursor.specs.declared.Refusal.TheVariants.{HandleCounter}
 use Rattle.bitcursor.specs.declared.Handle.{Handle}
 use Rattle.loads.specs.Bits.{bits_of, digits}
-use Rattle.bitcursor.specs.Code.{Code, give, refuse, raw, ◌>>=◌, tabled, mapped}
+use Rattle.bitcursor.specs.Code.{Code, refuse, raw, ◌>>=◌, tabled, mapped}
 use Rattle.bitcursor.specs.Bytes.{low_first, high_first}
 use Rattle.loads.specs.Bytes.{low_bytes}
 

@@ -1,6 +1,6 @@
 -- The range of each code's values, from its table of codes. Assumes nothing.
-use Rattle.std.specs.Prelude.{◌≡◌, refl, Bool, List, ℕ, zero, suc, ◌+◌, ◌*◌, ◌/◌, ◌^◌, ◌≤◌, ◌<◌}
-use Rattle.std.proofs.Common.{ap, subst, sym, ◌∙◌, lt_of_lt_of_le, pow-suc, arith, pow-add, pow_mono}
+use Rattle.std.specs.Prelude.{◌≡◌, refl, Bool, List, ℕ, zero, suc, ◌+◌, ◌*◌, ◌^◌, ◌≤◌, ◌<◌}
+use Rattle.std.proofs.Common.{subst, ◌∙◌, lt_of_lt_of_le, pow-suc, arith, pow-add, pow_mono}
 use Rattle.bitcursor.specs.Reading.{got}
 use Rattle.bitcursor.specs.Code.{Code, raw, tabled}
 use Rattle.bitcursor.specs.Bytes.{low_first, high_first}

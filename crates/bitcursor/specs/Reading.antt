@@ -1,7 +1,7 @@
 -- What a reading gives: a value and the place after it, or a refusal and its place. A place, P here, is a bit number in one
 -- payload (codes), or one in each of two (formats). Assumes nothing.
-use Rattle.std.specs.Prelude.{◌≡◌, refl, Bool, true, false, ℕ}
-use Rattle.std.proofs.Common.{sym, ap, subst, ◌∙◌, arith}
+use Rattle.std.specs.Prelude.{◌≡◌, refl, Bool, true, false}
+use Rattle.std.proofs.Common.{ap, subst, ◌∙◌}
 use Rattle.bitcursor.specs.declared.Refusal.{Refusal}
 use Rattle.bitcursor.specs.declared.Refusal.TheVariants.{TooFewBits, CountTooLarge}
 use Rattle.bitcursor.specs.Refusals.{OfFields}

@@ -1,11 +1,10 @@
 -- Where codes end and where they stop when cut short: bits test the bits left, bytes stop after the last whole one. Assumes nothing.
-use Rattle.std.specs.Prelude.{◌≡◌, refl, Bool, true, false, ◌⊎◌, ℕ, zero, suc, ◌+◌, ◌-◌, ◌*◌, ◌/◌, ◌^◌, ◌≤◌, ◌<◌, leb, length}
-use Rattle.std.proofs.Common.{sym, ap₂, subst, ◌∙◌, ⊎_elim, inl, inr, add-zero, arith}
+use Rattle.std.specs.Prelude.{◌≡◌, refl, Bool, true, false, ◌⊎◌, ℕ, zero, suc, ◌+◌, ◌-◌, ◌*◌, ◌/◌, ◌≤◌, ◌<◌, leb}
+use Rattle.std.proofs.Common.{sym, ap₂, subst, ◌∙◌, ⊎_elim, inl, inr, arith}
 use Rattle.std.proofs.Math.Path.{ap}
-use mathlib.Core.List.{List, [], ◌∷◌, ◌++◌}
+use mathlib.Core.List.{List, ◌++◌}
 use Rattle.bitcursor.specs.declared.Refusal.{Refusal}
 use Rattle.bitcursor.specs.declared.Refusal.TheVariants.{TooFewBits, ReservedTag, HandleCounter}
-use Rattle.bitcursor.specs.declared.Handle.{Handle}
 use Rattle.loads.specs.Bits.{bits_of, size, window, number, digits}
 use Rattle.loads.specs.BitLaws.{digits_number, window_whole, window_add}
 use Rattle.bitcursor.specs.Refusals.{OfFields}
@@ -13,7 +12,7 @@ use Rattle.bitcursor.specs.Reading.{Out, got, refused, place, and_then, never}
 use Rattle.bitcursor.specs.Code.{Code, Moves, give, refuse, raw, ◌>>=◌, tabled, mapped}
 use Rattle.bitcursor.specs.Bytes.{bytes, low_first, high_first, skip, raw_there, raw_short, bytes_there, bytes_short, le_or_lt}
 use Rattle.loads.specs.Bytes.{low_number, bytes_at}
-use Rattle.bitcursor.specs.Codes.{RC, RL, RD, by_tag, tagged, BS, BS_read, BL, BL_read}
+use Rattle.bitcursor.specs.Codes.{by_tag, tagged, BS, BS_read, BL, BL_read}
 use Rattle.bitcursor.specs.Doubles.{one_pattern, BD, BD_read, DD, DD_read, low4, low6, four, six}
 use Rattle.bitcursor.specs.Handles.{BLL, BLL_read, checked, handle, HANDLE, HANDLE_value, HANDLE_read}
 

@@ -1,6 +1,6 @@
 -- What holds of every format, and so of every prefix and hatch: demand 3's sentences, proved once. Assumes nothing.
 use Rattle.std.specs.Prelude.{◌≡◌, refl, Bool, true, false, ◌↔◌}
-use Rattle.std.proofs.Common.{sym, ap, subst, ◌∙◌}
+use Rattle.std.proofs.Common.{sym, subst, ◌∙◌}
 use Rattle.bitcursor.specs.declared.Refusal.{Refusal}
 use Rattle.bitcursor.specs.Refusals.{OfFields}
 use Rattle.bitcursor.specs.Reading.{Out, got, refused, place, never, ForBits, Lacking, got_enough, Fielded}

@@ -1,6 +1,8 @@
 // What the bit codes of DWG are, and their readers for callers that know the payload's limit: src/bitcursor.rs of dwg-rs, section 2 of
 // the ODA's specification. Crate `bit_codes` has the calls on any bytes.
 // specs/ has codes and formats and what holds of each; it promises the value and place of a layout by the code's table, or document 01's refusal.
+#![tactic(auto)]
+
 ghost use Rattle.std.specs.Prelude.{◌≡◌};
 ghost use Rattle.bitcursor.specs.Refusals.{refusal_number};
 

@@ -1,6 +1,8 @@
 // What crosses the C boundary in place of enums: structs of numbers, and each answer of the calls as such a struct.
 // No file of the Rust and no section of the public document: the fields' names are the Rust's and document 01's.
 // specs/ promise that each struct has the answer's numbers: refusal 0 and the value, or the refusal's number and its place and 0.
+#![tactic(auto)]
+
 pub mod answers;
 pub mod bodies;
 pub mod conversions;

@@ -1,6 +1,8 @@
 // The entity prefix (`read_common_entity_data`): src/common_entity.rs of dwg-rs, section 20.4.1 of the ODA's specification.
 // The parts that prefix_parts reads, one behind the other, their record, and the calls on any input.
 // specs/ and prefix_format's promise the record of what was laid out and the place after it, or document 01's refusal, for every input.
+#![tactic(auto)]
+
 ghost use Rattle.std.specs.Prelude.{◌≡◌, ◌≤◌, length};
 ghost use Rattle.loads.specs.Bits.{limit};
 ghost use Rattle.bitcursor.specs.Reading.{refused};

@@ -1,6 +1,8 @@
 // Bit codes read by a cursor that is lent and moved: src/bitcursor.rs of dwg-rs; section 2 of the ODA's specification.
 // Each reader loads the cursor, calls the reader of `moved` with it by value, stores the cursor that this gives and answers the rest.
 // specs/ promises, for every cursor and every payload: the answer of the call by value, and the place where that call ends.
+#![tactic(auto)]
+
 ghost use Rattle.std.specs.Prelude.{◌≡◌, ◌-◌, ◌*◌, length};
 ghost use Rattle.std.specs.Float.Ieee.{to_bits};
 ghost use Rattle.std.specs.Float.{binary64};
@@ -15,7 +17,7 @@ pub mod lent;
 pub mod moved;
 
 // The byte and, in it, the bit at which the next reading starts; 0 is a byte's top bit. Any two numbers are a cursor.
-#[derive(Drop)]
+#[derive(Clone, Copy)]
 pub struct BitCursor {
     pub byte_pos: usize,
     pub bit_pos: usize,

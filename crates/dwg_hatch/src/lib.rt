@@ -1,6 +1,8 @@
 // The C boundary: every call that a host links, on numbers and byte slices, thin over the proved calls of the other crates.
 // No file of the Rust and no section of the public document: the names are dwg_ and the call's own.
 // specs/ of crate boundary and of this one promise that each answer is the call's: refusal 0 and the value, or the refusal's number and its place and 0.
+#![tactic(auto)]
+
 ghost use Rattle.std.specs.Prelude.{◌≡◌};
 ghost use Rattle.std.specs.Float.Ieee.{to_bits};
 ghost use Rattle.std.specs.Float.{binary64};

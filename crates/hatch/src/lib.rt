@@ -1,6 +1,8 @@
 // The hatch calls: src/entities/hatch.rs of dwg-rs; section 20.4.75 of the specification.
 // The walks measure first and then fill, so that no list is written while a later field can still fail.
 // specs/ promises of each call, on any input, its record, both places and every entry of both lists, as hatch_format defines them.
+#![tactic(auto)]
+
 ghost use Rattle.std.specs.Prelude.{◌≡◌, length};
 ghost use Rattle.hatch_format.specs.Call.{none, lent};
 ghost use Rattle.hatch.specs.Calls.{ReadsBits, Reads, as_lengths, call_of, most};

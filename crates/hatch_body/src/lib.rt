@@ -1,6 +1,8 @@
 // A hatch body's parts: what follows its front measured and, where both lists are long enough, filled. src/entities/hatch.rs of dwg-rs.
 // Section 20.4.75 of the specification, from the solid fill bit on; refusal 11 is document 01's.
 // specs/ promise the parts or the refusal, and the lists afterwards, as hatch_format's `rest` reads them.
+#![tactic(auto)]
+
 ghost use Rattle.std.specs.Prelude.{◌≡◌, ◌*◌, ◌≤◌, length};
 ghost use Rattle.loads.specs.Bits.{limit};
 ghost use Rattle.hatch_format.specs.Caps.{document_caps, NowhereAbove};

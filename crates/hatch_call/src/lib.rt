@@ -1,6 +1,8 @@
 // A hatch call on any input, before a record is made of it: src/entities/hatch.rs of dwg-rs; section 20.4.75 of the specification.
 // The refusals come in document 01's order: 9, 10, a string start past its payload, the fields, 11.
 // specs/ promise the body's parts or the refusal, and the lists afterwards, as hatch_format's `call_on` reads them.
+#![tactic(auto)]
+
 ghost use Rattle.std.specs.Prelude.{◌≤◌, length};
 ghost use Rattle.loads.specs.Bits.{limit};
 ghost use Rattle.text.specs.Answers.{payloads, places_of};

@@ -1,6 +1,8 @@
 // The fields of a hatch body up to its pattern's name: decode_gradient and the fields behind it in src/entities/hatch.rs of dwg-rs.
 // Section 20.4.75 of the specification.
 // specs/ promise that the front is read as hatch_format's `hatch` reads it, and that its colours stand where it says, so that they can be read again.
+#![tactic(auto)]
+
 ghost use Rattle.std.specs.Prelude.{◌≡◌, ◌≤◌, length};
 ghost use Rattle.loads.specs.Bits.{limit};
 ghost use Rattle.text.specs.Answers.{payloads, places_of};

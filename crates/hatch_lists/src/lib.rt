@@ -1,6 +1,7 @@
 // What a hatch's record and its two lists hold, defined: no file of the Rust, whose tree is what they hold; document 01, "What the port hands over".
 // The functions that judge a record and its lists are in crate whole_lists.
 // specs/ read words and numbers back into paths, lines and seeds, prove that this is the inverse of writing them, and say which are coordinates.
+#![tactic(auto)]
 
 // What a record says of its lists: its switches as bytes, its counts, and the lengths used.
 #[derive(Drop)]

@@ -1,6 +1,8 @@
 // The record and the lengths of a hatch, made of the parts that were read: src/entities/hatch.rs of dwg-rs.
 // Section 20.4.75 of the specification; sixteen colours, and zero but for the places on a refusal, as document 01 has it.
 // specs/ promise the record field by field from the parts, with each double as its 64 bits or as the double that it is, and its lengths.
+#![tactic(auto)]
+
 ghost use Rattle.std.specs.Prelude.{◌≡◌};
 ghost use Rattle.hatch_record.specs.Records.{zero_parts, parts_in, outcome_in, num_colors, lengths_of};
 

@@ -1,6 +1,8 @@
 // The words of one item of a hatch's lists, found at an index: no file of the Rust; document 01, "What the port hands over", and document 02, L1.
 // An item is an edge, a path's head, a handle count or a pattern line; words that are missing, and words that no hatch has, are not whole.
 // specs/ promise of each that it is crate hatch_lists' step from the index on, and the index of the word behind it.
+#![tactic(auto)]
+
 ghost use Rattle.std.specs.Prelude.{◌≡◌, ◌+◌, ◌^◌, ◌≤◌, ◌<◌, length, get_or};
 ghost use Rattle.hatch_format.specs.Caps.{document_caps};
 ghost use Rattle.hatch_lists.specs.Items.{item, tangent_numbers};

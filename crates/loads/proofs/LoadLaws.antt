@@ -1,5 +1,5 @@
 -- 64 bits at once: the word at a place, from eight, nine or ten bytes, and some of its first bytes. Assumes nothing.
-use mathlib.Core.Path.{◌≡◌, refl, sym, ap, subst, ◌∙◌}
+use mathlib.Core.Path.{◌≡◌, sym, ap, subst, ◌∙◌}
 use mathlib.Core.List.{List}
 use Prim.Native.Nat.{ℕ, zero, suc, ◌+◌, ◌-◌, ◌*◌, ◌/◌, ◌%◌, ◌^◌, ◌≤◌, ◌<◌}
 use native.Mathlib.Nat.{add-zero, add-mul, mul_assoc, mul-add-div_right, mul-mod_left, mod-eq_of_lt, div-one}

@@ -1,6 +1,8 @@
 // Bits and bytes at any bit of a payload, as numbers: eight bits from one or two bytes, 64 bits as one word. What src/bitcursor.rs of dwg-rs
 // reads by; document 01: "Bits run from the top bit of each byte; multi-byte numbers are low byte first".
 // specs/ says what the bits, bytes and numbers of a payload are; each load promises the number of bits or bytes that its caller knows to be there.
+#![tactic(auto)]
+
 ghost use Rattle.std.specs.Prelude.{◌≡◌, ◌+◌, ◌-◌, ◌*◌, ◌/◌, ◌%◌, ◌^◌, ◌≤◌, ◌<◌, length};
 ghost use Rattle.loads.specs.Bits.{limit, number, window};
 ghost use Rattle.loads.specs.Bytes.{low_number, bytes_at, swapped};

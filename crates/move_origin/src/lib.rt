@@ -1,6 +1,8 @@
 // A hatch's points moved to an origin of the job: no file of the Rust, which has no such call; document 02, L1.
 // All tests come before the first store: one walk over the items judges the coordinates, and only then another moves them.
 // Contracts are equations with crate moved_hatch: the outcome with refusals 11, 12 and 13 in that order, and every entry of the list afterwards.
+#![tactic(auto)]
+
 ghost use Rattle.std.specs.Prelude.{◌≡◌, ◌&&◌, length};
 ghost use Rattle.hatch_lists.specs.Items.{points_item};
 ghost use Rattle.differences.specs.Difference.{difference};

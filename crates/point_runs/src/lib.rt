@@ -1,6 +1,8 @@
 // Points in the list of numbers, judged and moved, run by run and item by item: no file of the Rust; document 02, L1 (refusal 13).
 // As doubles, and as their 64 bits; the laws of both are one, over what an entry is.
 // Contracts are equations with crate moved_hatch: whether every coordinate is in range, and every entry of the list afterwards.
+#![tactic(auto)]
+
 ghost use Rattle.std.specs.Prelude.{◌≡◌, ◌+◌, ◌*◌, ◌≤◌, ◌&&◌, length, get_or};
 ghost use Rattle.std.specs.Float.{nan};
 ghost use Rattle.differences.specs.Difference.{difference, difference_bits};

@@ -1,6 +1,8 @@
 // The prefix's fields that are more than one code: the XDATA chain, graphics, and a colour's name: src/common_entity.rs of dwg-rs
 // (`skip_extended_data`, `read_graphics_size`); section 20.4.1 of the specification.
 // specs/ has the chain block by block; each contract is an equation with prefix_format's definition of the field.
+#![tactic(auto)]
+
 ghost use Rattle.std.specs.Prelude.{◌≡◌, ◌≤◌, length};
 ghost use Rattle.loads.specs.Bits.{limit};
 ghost use Rattle.bitcursor.specs.Answers.{as_read};

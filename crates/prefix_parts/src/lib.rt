@@ -1,6 +1,8 @@
 // The parts of a prefix, each read where the one before ended; a refusal stays, and then the numbers mean nothing: src/common_entity.rs of dwg-rs
 // (`read_common_entity_data`, `read_entity_mode_onwards`); section 20.4.1 of the specification.
 // specs/ has what each part's fields hold and where they end, by prefix_format's definitions, and that what follows a part is read behind it.
+#![tactic(auto)]
+
 ghost use Rattle.std.specs.Prelude.{◌≡◌, ◌≤◌, ◌<◌, length};
 ghost use Rattle.loads.specs.Bits.{limit};
 ghost use Rattle.prefix_format.specs.Values.{flag};

@@ -4,7 +4,7 @@ use Rattle.std.proofs.Common.{sym, ap, arith}
 use Rattle.bitcursor.specs.declared.Read.{Read}
 use Rattle.bitcursor.specs.declared.Read.TheVariants.{Value, Refused}
 use Rattle.bitcursor.specs.Reading.{Out, got, refused, and_then}
-use Rattle.bitcursor.specs.Code.{Code, give, raw, ◌>>=◌, mapped, tabled}
+use Rattle.bitcursor.specs.Code.{give, raw, ◌>>=◌, mapped, tabled}
 use Rattle.loads.specs.Bytes.{low_number}
 use Rattle.bitcursor.specs.Bytes.{bytes, bytes_read, low_first}
 use Rattle.bitcursor.specs.Codes.{RC}

@@ -1,6 +1,8 @@
 // Fields in a row, for callers that know the payload's limit: src/common_entity.rs and src/entities/hatch.rs of dwg-rs; sections 20.4.1 and
 // 20.4.75 of the specification. Each step reads where the one before ended, and a refusal stays. A field that a release lacks is not read;
 // `absent` stands for it. specs/ promises that the answers are those of the code that `>>=` of crate `bitcursor` builds of the fields.
+#![tactic(auto)]
+
 ghost use Rattle.std.specs.Prelude.{◌≡◌, ◌≤◌, length};
 ghost use Rattle.bitcursor.specs.Code.{raw};
 ghost use Rattle.bitcursor.specs.Bytes.{low_first};

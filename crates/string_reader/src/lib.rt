@@ -1,6 +1,8 @@
 // A string reader that keeps its payload, from text to text: src/string_stream.rs of dwg-rs; section 19.1 of the ODA's specification.
 // Each function takes the reader apart and calls a covered one with the payload and the numbers.
 // specs/ promises, for every reader and every payload: the answer of the call by value, and the place where that call ends.
+#![tactic(auto)]
+
 ghost use Rattle.std.specs.Prelude.{◌≡◌, ◌-◌, leb};
 ghost use Rattle.string_reader.specs.Readers.{start_at, text_at, moved_start, moved_text, Opens, ReadsText};
 

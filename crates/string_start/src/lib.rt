@@ -1,6 +1,8 @@
 // Where a string reader starts: `seek` of src/string_stream.rs of dwg-rs; section 19.1 of the ODA's specification.
 // One test against the payload's length and one assignment: the function is given that length, and no byte of the payload.
 // specs/ promises the start itself from within the payload, its length in bits included, and refusal 1 at the payload's end past it.
+#![tactic(auto)]
+
 ghost use Rattle.std.specs.Prelude.{◌≡◌, ◌*◌, ◌≤◌};
 ghost use Rattle.loads.specs.Bits.{limit};
 ghost use Rattle.bitcursor.specs.Answers.{as_passed};

@@ -1,6 +1,6 @@
 -- What a text's reading is as the calls' answers, the reader's rule on its one payload, and what a call on any input gives.
 -- Assumes nothing.
-use Rattle.std.specs.Prelude.{Bool, true, false, ◌||◌, List, [], ℕ, ◌+◌, ◌*◌, leb, eqb, length}
+use Rattle.std.specs.Prelude.{Bool, true, false, ◌||◌, List, ℕ, ◌+◌, ◌*◌, leb, eqb}
 use Rattle.bitcursor.specs.declared.Refusal.TheVariants.{TextPastEnd, NotUtf16, UnknownRelease}
 use Rattle.bitcursor.specs.Reading.{Out, got, refused, and_then}
 use Rattle.bitcursor.specs.Code.{measured}

@@ -1,5 +1,5 @@
 -- A text as a field reads what the one-payload definitions read, with the other payload's place unmoved. Assumes nothing.
-use Rattle.std.specs.Prelude.{◌≡◌, Bool, ◌||◌, List, [], eqb}
+use Rattle.std.specs.Prelude.{◌≡◌, Bool, ◌||◌, List, eqb}
 use Rattle.std.proofs.Math.Path.{refl}
 use Rattle.std.proofs.Math.Bool.{true, false}
 use Prim.Native.Nat.{ℕ, ◌+◌, ◌*◌}

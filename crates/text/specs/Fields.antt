@@ -1,5 +1,5 @@
 -- Texts as fields of a format: inline in the main payload, or from the lent string reader by the reader's rule. Assumes nothing.
-use Rattle.std.specs.Prelude.{Bool, true, false, ◌||◌, List, [], ℕ, ◌+◌, ◌*◌, leb, eqb, length}
+use Rattle.std.specs.Prelude.{Bool, true, false, ◌||◌, List, ℕ, ◌+◌, ◌*◌, leb, eqb, length}
 use Rattle.bitcursor.specs.declared.Refusal.TheVariants.{TextPastEnd}
 use Rattle.bitcursor.specs.Code.{measured}
 use Rattle.bitcursor.specs.Codes.{BS}

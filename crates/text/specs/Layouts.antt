@@ -1,11 +1,10 @@
 -- The layouts of a reader's text, said directly: empty at or past the end bit; else an inline text of 16-bit units that ends by
 -- the end bit, or is a length code of 0 alone. Assumes nothing.
-use Rattle.std.specs.Prelude.{◌≡◌, refl, Bool, true, false, List, [], ◌⊎◌, ℕ, ◌+◌, ◌-◌, ◌*◌, ◌≤◌, ◌<◌, length}
+use Rattle.std.specs.Prelude.{◌≡◌, refl, Bool, true, false, List, ◌⊎◌, ℕ, ◌+◌, ◌-◌, ◌*◌, ◌≤◌, ◌<◌}
 use Rattle.std.proofs.Common.{sym, ap, ap₂, ◌∙◌, ⊎_elim, inl, inr, arith}
 use Rattle.bitcursor.specs.declared.Refusal.TheVariants.{NotUtf16}
 use Rattle.bitcursor.specs.Reading.{Out, got, refused, never}
 use Rattle.bitcursor.specs.Codes.{BS}
-use Rattle.bitcursor.specs.Handles.{checked}
 use Rattle.bitcursor.specs.Bytes.{le_or_lt}
 use Rattle.bitcursor.specs.Inputs.{both, Places, Payloads}
 use Rattle.bitcursor.specs.Format.{Format, relay}

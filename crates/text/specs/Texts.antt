@@ -1,5 +1,5 @@
 -- Inline text: a length code, that many units, one closing zero dropped and said, and 16-bit units valid UTF-16. Assumes nothing.
-use Rattle.std.specs.Prelude.{◌≡◌, refl, Bool, true, false, List, [], ◌∷◌, ◌++◌, ℕ, zero, ◌+◌, ◌^◌, eqb, length}
+use Rattle.std.specs.Prelude.{◌≡◌, refl, Bool, true, false, List, [], ◌∷◌, ◌++◌, ℕ, ◌^◌, eqb, length}
 use Rattle.std.proofs.Common.{sym, ap, ap₂, subst₂, ◌∙◌, append-nil, eqb-true}
 use Rattle.std.proofs.Math.Path.{subst⁻¹}
 use Rattle.bitcursor.specs.declared.Refusal.TheVariants.{NotUtf16}

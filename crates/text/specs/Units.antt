@@ -3,14 +3,14 @@
 use Rattle.std.specs.Prelude.{◌≡◌, refl, Bool, length}
 use Rattle.std.proofs.Math.Path.{sym, ap, ap₂}
 use Rattle.std.proofs.Common.{◌∙◌}
-use mathlib.Core.List.{List, [], ◌∷◌, ◌++◌, append-nil, append_assoc}
+use mathlib.Core.List.{List, [], ◌∷◌, ◌++◌, append-nil}
 use Rattle.std.proofs.Math.Logic.{⊎_elim}
 use Prim.Native.Nat.{ℕ, zero, suc, ◌+◌, ◌-◌, ◌*◌, ◌/◌, ◌^◌, ◌≤◌, ◌<◌}
 use Rattle.std.proofs.Math.Nat.{mul-suc, mul-zero}
 use native.Mathlib.Omega.{arith}
 use Rattle.bitcursor.specs.declared.Refusal.TheVariants.{TooFewBits}
 use Rattle.loads.specs.Bits.{bits_of, size}
-use Rattle.bitcursor.specs.Reading.{Out, got, refused, and_then}
+use Rattle.bitcursor.specs.Reading.{got, refused}
 use Rattle.bitcursor.specs.Code.{Code, give, ◌>>=◌, tabled}
 use Rattle.bitcursor.specs.Bytes.{low_first, le_or_lt}
 use Rattle.loads.specs.Bytes.{low_bytes, low_number, bytes_at}

@@ -1,6 +1,8 @@
 // Text, inline and from a lent string reader: src/version.rs, src/tables/mod.rs, src/tables/modern.rs and src/string_stream.rs of
 // dwg-rs; the specification's text codes (TV) and, for the reader, its string stream.
 // specs/ promises each text's position, unit count and padding, or refusal 1, 6 or 7 at document 01's place, for every payload and place.
+#![tactic(auto)]
+
 ghost use Rattle.std.specs.Prelude.{◌≡◌};
 ghost use Rattle.bitcursor.specs.Answers.{limited};
 ghost use Rattle.text.specs.Releases.{version_of};

@@ -1,6 +1,8 @@
 // Whether a record and its lists are whole, and the way through them item by item: no file of the Rust; document 02, L1 (refusal 11).
 // One walk over the words, on any record and any lists; numbers are counted and not looked at.
 // specs/ promise whole exactly where crate hatch_lists reads the lists to their ends, and of each step that it is that of the walk defined there.
+#![tactic(auto)]
+
 ghost use Rattle.std.specs.Prelude.{◌≡◌, false, ◌≤◌, ◌<◌, length};
 ghost use Rattle.hatch_lists.specs.Items.{item_size};
 ghost use Rattle.hatch_lists.specs.Whole.{switches, counted, fitting};

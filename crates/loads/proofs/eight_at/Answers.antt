@@ -1,5 +1,5 @@
 -- The word's bytes the other way round are the number with its low byte first.
-use mathlib.Core.Path.{◌≡◌, sym, ap, ◌∙◌}
+use mathlib.Core.Path.{sym, ap, ◌∙◌}
 use native.Mathlib.Omega.{arith}
 use Rattle.loads.specs.Bytes.{swapped}
 use Rattle.loads.proofs.Swaps.{low_swap}

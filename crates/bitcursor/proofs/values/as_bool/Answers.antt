@@ -1,5 +1,5 @@
 -- By cases of the answer.
-use mathlib.Core.Path.{◌≡◌, sym, ap, subst, ◌∙◌}
+use mathlib.Core.Path.{sym, ap}
 use Rattle.bitcursor.specs.Answers.{bool_of}
 use Rattle.bitcursor.proofs.values.as_bool.Goals as goal
 

@@ -1,5 +1,5 @@
 -- By cases of the answer.
-use mathlib.Core.Path.{◌≡◌, sym, ap, subst, ◌∙◌}
+use mathlib.Core.Path.{sym, ap, ◌∙◌}
 use lib.Ieee.{Float}
 use Rattle.bitcursor.specs.declared.ReadF64.TheVariants.{Value}
 use Rattle.bitcursor.specs.Answers.{f64_of}

@@ -7,11 +7,10 @@ use mathlib.Core.List.{List}
 use lib.Dec.{leb}
 use borrow.Author.Tests.{le-leb, lt-leb}
 use Rattle.bitcursor.specs.declared.Refusal.{Refusal}
-use Rattle.bitcursor.specs.declared.Refusal.TheVariants.{HandleCounter}
 use Rattle.bitcursor.specs.declared.Read.{Read}
 use Rattle.bitcursor.specs.declared.Read.TheVariants.{Value, Refused}
 use Rattle.bitcursor.specs.Reading.{got, refused}
-use Rattle.bitcursor.specs.Code.{mapped, refuse}
+use Rattle.bitcursor.specs.Code.{refuse}
 use Rattle.bitcursor.specs.Bytes.{high_first}
 use Rattle.bitcursor.specs.Handles.{HANDLE_value, checked, handle}
 use Rattle.bitcursor.specs.Answers.{as_read, as_handle}

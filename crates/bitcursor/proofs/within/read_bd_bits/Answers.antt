@@ -1,5 +1,5 @@
 -- Each tag picks what the table has for it.
-use mathlib.Core.Path.{◌≡◌, sym, ap, ◌∙◌}
+use mathlib.Core.Path.{sym, ap, ◌∙◌}
 use Rattle.bitcursor.specs.declared.Refusal.TheVariants.{ReservedTag}
 use Rattle.bitcursor.specs.Answers.{as_read}
 use Rattle.bitcursor.proofs.Steps.{tag_00, tag_01, tag_10, tag_11, tag_none}

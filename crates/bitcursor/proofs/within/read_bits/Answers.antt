@@ -1,5 +1,5 @@
 -- The test of the bits left is the definition's, and where they are there `bits_at` is their number.
-use mathlib.Core.Path.{◌≡◌, sym, ap, ◌∙◌}
+use mathlib.Core.Path.{sym, ap, ◌∙◌}
 use Prim.Native.Nat.{ℕ, ◌+◌}
 use native.Mathlib.Omega.{arith}
 use Rattle.bitcursor.specs.declared.Read.TheVariants.{Value}

@@ -1,5 +1,5 @@
 -- Each tag picks what the table has for it; the codes that are a tag alone are looked for first.
-use mathlib.Core.Path.{◌≡◌, sym, ap, ◌∙◌}
+use mathlib.Core.Path.{sym, ap, ◌∙◌}
 use Rattle.bitcursor.specs.declared.Refusal.TheVariants.{ReservedTag}
 use Rattle.bitcursor.specs.Answers.{as_read}
 use Rattle.bitcursor.proofs.Steps.{tag_10, tag_three, tag_rest, tag_none}

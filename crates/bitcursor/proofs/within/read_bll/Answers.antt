@@ -1,6 +1,6 @@
 -- The count is three bits, so the bytes are seven at most; they follow it.
-use mathlib.Core.Path.{◌≡◌, refl, sym, ap, ◌∙◌}
-use Prim.Native.Nat.{ℕ, ◌+◌, ◌-◌, ◌*◌, ◌/◌, ◌^◌, ◌≤◌, ◌<◌}
+use mathlib.Core.Path.{sym, ap, ◌∙◌}
+use Prim.Native.Nat.{◌<◌}
 use native.Mathlib.Omega.{arith}
 use Rattle.bitcursor.specs.Code.{raw, tabled}
 use Rattle.bitcursor.specs.Bytes.{low_first}

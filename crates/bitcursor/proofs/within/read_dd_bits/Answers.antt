@@ -1,9 +1,8 @@
 -- Each tag picks what the table has for it.
-use mathlib.Core.Path.{◌≡◌, sym, ap, ◌∙◌}
-use Rattle.bitcursor.specs.declared.Refusal.TheVariants.{ReservedTag}
+use mathlib.Core.Path.{sym, ap, ◌∙◌}
 use Rattle.bitcursor.specs.Answers.{as_read}
 use Rattle.bitcursor.proofs.Steps.{tag_00, tag_01, tag_10, tag_11, tag_none}
-use Rattle.bitcursor.specs.Code.{tabled, give, refuse}
+use Rattle.bitcursor.specs.Code.{tabled, give}
 use Rattle.bitcursor.specs.Bytes.{low_first}
 use Rattle.bitcursor.specs.Doubles.{DD, DD_read, four, six}
 use Rattle.std.proofs.Common.{rules}

@@ -1,6 +1,6 @@
 -- The default without its low four bytes leaves room for the four that follow.
-use mathlib.Core.Path.{◌≡◌, refl, sym, ap, ◌∙◌}
-use Prim.Native.Nat.{ℕ, ◌+◌, ◌-◌, ◌*◌, ◌/◌, ◌^◌, ◌≤◌, ◌<◌}
+use mathlib.Core.Path.{sym, ap}
+use Prim.Native.Nat.{◌^◌, ◌<◌}
 use native.Mathlib.Omega.{arith}
 use Rattle.bitcursor.specs.Bytes.{low_first}
 use Rattle.bitcursor.specs.Doubles.{low4, four}

@@ -1,6 +1,6 @@
 -- Two nibbles, one after the other, and then what they say.
-use mathlib.Core.Path.{◌≡◌, refl, sym, ap, ◌∙◌}
-use Prim.Native.Nat.{ℕ, ◌+◌, ◌-◌, ◌*◌, ◌/◌, ◌^◌, ◌≤◌, ◌<◌}
+use mathlib.Core.Path.{sym, ap, ◌∙◌}
+use Prim.Native.Nat.{◌<◌}
 use native.Mathlib.Omega.{arith}
 use Rattle.bitcursor.specs.Code.{raw, tabled, ◌>>=◌}
 use Rattle.bitcursor.specs.Handles.{HANDLE, HANDLE_read, HANDLE_value}

@@ -1,10 +1,9 @@
 -- No bytes are 0 at the place; where `skip_bytes` passes them `high_at` is their number, and where it cannot they stop as it does.
 use mathlib.Core.Path.{◌≡◌, sym, ap, ap₂, ◌∙◌}
-use Prim.Native.Nat.{ℕ, ◌+◌, ◌*◌}
+use Prim.Native.Nat.{◌+◌, ◌*◌}
 use native.Mathlib.Omega.{arith}
 use Rattle.bitcursor.specs.declared.Read.TheVariants.{Value, Refused}
 use Rattle.loads.specs.Bits.{number, window}
-use Rattle.loads.specs.Bytes.{low_number, bytes_at}
 use Rattle.bitcursor.specs.Stops.{high_there, high_short}
 use Rattle.bitcursor.specs.Answers.{as_read}
 use Rattle.bitcursor.proofs.Steps.{passed_there, passed_short}

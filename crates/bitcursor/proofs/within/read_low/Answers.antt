@@ -1,9 +1,8 @@
 -- No bytes are 0 at the place; where `skip_bytes` passes them `low_at` is their number, and where it cannot they stop as it does.
 use mathlib.Core.Path.{◌≡◌, sym, ap, ap₂, ◌∙◌}
-use Prim.Native.Nat.{ℕ, ◌+◌, ◌*◌}
+use Prim.Native.Nat.{◌+◌, ◌*◌}
 use native.Mathlib.Omega.{arith}
 use Rattle.bitcursor.specs.declared.Read.TheVariants.{Value, Refused}
-use Rattle.loads.specs.Bits.{number, window}
 use Rattle.loads.specs.Bytes.{low_number, bytes_at}
 use Rattle.bitcursor.specs.Stops.{low_there, low_short}
 use Rattle.bitcursor.specs.Answers.{as_read}

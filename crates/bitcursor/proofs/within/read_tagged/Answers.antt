@@ -1,5 +1,5 @@
 -- Tag 00 has n bytes behind it, every other one.
-use mathlib.Core.Path.{◌≡◌, sym, ap, ◌∙◌}
+use mathlib.Core.Path.{sym, ap, ◌∙◌}
 use Prim.Native.Nat.{ℕ}
 use Rattle.bitcursor.specs.Answers.{as_read}
 use Rattle.bitcursor.specs.Bytes.{low_first}

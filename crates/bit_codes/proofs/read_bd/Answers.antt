@@ -1,0 +1,17 @@
+-- Above the limit the payload is refused; within it the number that the reader of `within` answers becomes the value.
+use mathlib.Core.Path.{sym, ap, ◌∙◌}
+use native.Mathlib.Omega.{arith}
+use Rattle.bitcursor.specs.Doubles.{BD}
+use Rattle.bitcursor.specs.Answers.{as_f64, f64_of}
+use Rattle.bitcursor.proofs.Steps.{limit_within, limit_above}
+use Rattle.bit_codes.proofs.Calls.{as_f64_lem}
+use Rattle.bit_codes.proofs.read_bd.Goals as goal
+
+pub returns-then-s-gt-LIMIT : goal.returns-then-s-gt-LIMIT
+returns-then-s-gt-LIMIT c = let a = c.args in sym (ap as_f64 (limit_above BD.read a.s.now a.at (omega arith)))
+
+pub returns : goal.returns
+returns c =
+    let a = c.args in
+    c.as_f64.ensures ∙ ap f64_of c.read_bd_bits.ensures ∙ as_f64_lem BD a.s.now a.at ∙ sym
+    (ap as_f64 (limit_within BD.read a.s.now a.at (omega arith)))

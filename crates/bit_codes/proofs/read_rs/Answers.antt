@@ -1,0 +1,23 @@
+-- Above the limit the payload is refused; within it the number that the reader of `within` answers becomes the value.
+use mathlib.Core.Path.{sym, ap, ◌∙◌}
+use native.Mathlib.Omega.{arith}
+use Rattle.bitcursor.specs.Bytes.{low_first}
+use Rattle.bitcursor.specs.Ranges.{low_below}
+use Rattle.bitcursor.specs.Codes.{RS}
+use Rattle.bitcursor.specs.Answers.{as_i16, i16_of}
+use Rattle.bitcursor.proofs.Steps.{limit_within, limit_above}
+use Rattle.bit_codes.proofs.Calls.{as_i16_lem, small}
+use Rattle.bit_codes.proofs.read_rs.Goals as goal
+
+pub returns-then-s-gt-LIMIT : goal.returns-then-s-gt-LIMIT
+returns-then-s-gt-LIMIT c = let a = c.args in sym (ap as_i16 (limit_above RS.read a.s.now a.at (omega arith)))
+
+pub as_i16-requires : goal.as_i16-requires
+as_i16-requires c = let a = c.args in small (low_first 2) a.s.now a.at 16 (low_below 2) c.read_low.ensures
+
+pub returns : goal.returns
+unfolding RS
+returns c =
+    let a = c.args in
+    c.as_i16.ensures ∙ ap i16_of c.read_low.ensures ∙ as_i16_lem (low_first 2) a.s.now a.at ∙ sym
+    (ap as_i16 (limit_within RS.read a.s.now a.at (omega arith)))
