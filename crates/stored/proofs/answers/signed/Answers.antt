@@ -1,8 +1,7 @@
 -- Of a negative number the complement is at least 0, and so is any other number; each fits.
 use Rattle.std.proofs.Common.{◌≡◌, ℕ, suc, ◌-◌, ◌^◌, ◌<◌, Bool, true, false, T, ltb, ℤ, pos, negsuc, nat_abs, sym, refl, ap, ◌∙◌, subst, arith, to_z-of_z, w64, Fits, SFits, to_z, of_z, rules, ltb-true, lt-ltb}
 use lib.Signed.{mag, lt_z, non_neg}
-use Rattle.stored.proofs.answers.signed.Statement.{statement}
-use Rattle.stored.proofs.answers.signed.Tie as tie
+use Rattle.stored.proofs.answers.signed.Goals as goal
 
 abbrev Casts : ℤ → Type 0
 Casts z = T (non_neg z) × Fits w64 (nat_abs z)
@@ -25,21 +24,12 @@ kept : (v : ℤ) → SFits w64 v → lt_z v (pos 0) ≡ false → Casts v
 kept (pos n) f h = small n f.sfits
 kept (negsuc n) f h = absurd (let z : ◌≡◌ {A = ℕ} 0 1 = cc h in omega arith)
 
-cast-result : tie.Need-overflow-cast-result
-cast-result c =
-    let f = c.before.ranges.v in
-    flipped c.before.args.v f (subst (λ (z : ℤ). lt_z z (pos 0) ≡ true) (to_z-of_z f) c.if1.true)
+pub overflow_cast-result : goal.overflow_cast-result
+overflow_cast-result c =
+    let f = c.ranges.v in
+    flipped c.args.v f (subst (λ (z : ℤ). lt_z z (pos 0) ≡ true) (to_z-of_z f) c.if-v-lt0.true)
 
-returns : tie.Need-returns
-returns c = search rules
-
-cast-result-2 : tie.Need-overflow-cast-result-2
-cast-result-2 c =
-    let f = c.before.ranges.v in
-    subst Casts (sym (to_z-of_z f)) (kept c.before.args.v f (subst (λ (z : ℤ). lt_z z (pos 0) ≡ false) (to_z-of_z f) c.if1.false))
-
-returns-2 : tie.Need-returns-2
-returns-2 c = search rules
-
-pub signed-spec : {M : Type 1} → statement M
-signed-spec = tie.close (tie.spec cast-result returns cast-result-2 returns-2)
+pub overflow_cast-result-2 : goal.overflow_cast-result-2
+overflow_cast-result-2 c =
+    let f = c.ranges.v in
+    subst Casts (sym (to_z-of_z f)) (kept c.args.v f (subst (λ (z : ℤ). lt_z z (pos 0) ≡ false) (to_z-of_z f) c.if-v-lt0.false))
