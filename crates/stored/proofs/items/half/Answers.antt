@@ -1,5 +1,5 @@
 -- Each byte is widened and stands 256 times as high as the one before it.
-use Rattle.std.proofs.Common.{arith, rules}
+use Rattle.std.proofs.Common.{arith}
 use Rattle.stored.specs.Items.{half_at}
 use Rattle.stored.proofs.items.half.Goals as goal
 

@@ -1,6 +1,5 @@
 -- The second half stands 2 ^ 32 times as high as the first.
 use Rattle.stored.specs.Items.{item_at}
-use Rattle.std.proofs.Common.{rules}
 use Rattle.stored.proofs.items.item.Goals as goal
 
 pub returns : goal.returns
