@@ -23,7 +23,7 @@ returns-then-not-is_r2004_plus c =
     let at-is-r2004-plus = c.is_r2004_plus in
     let a = c.args in
     let γ = payloads a.main.now a.string.now a.reader a.end in
-    let t = sym at-is-r2004-plus.ensures ∙ not-true at-is-r2004-plus.result at-if1.true in
+    let t = sym at-is-r2004-plus.ensures ∙ at-if1.true in
     let answer = ap (λ (g : Gradient). Done g a.at) at-no-gradient.ensures in
     rw (gradient_absent a.v γ (places_of a.at) a.cap t) (0, answer, no_colors a.main.now 0)
 
@@ -46,7 +46,7 @@ returns-in-Done c =
     let xs = a.main.now in
     let γ = payloads xs a.string.now a.reader a.end in
     let p = places_of a.at in
-    let t = sym at-is-r2004-plus.ensures ∙ not-false at-is-r2004-plus.result at-if1.false in
+    let t = sym at-is-r2004-plus.ensures ∙ at-if1.false in
     let b = block_got xs ((block a.cap).read xs p.main) at-read-block.ensures c.in-Done.is in
     let name = (TV_field a.v).read γ (moved_in main p c.in-Done.p) in
     let answer = at-read-gradient-name.ensures ∙ ap (λ (x : Block). shown_read x name) b.3 in
@@ -61,6 +61,6 @@ returns-in-Refused c = let at-read-block = c.read_block in
     let xs = a.main.now in
     let γ = payloads xs a.string.now a.reader a.end in
     let p = places_of a.at in
-    let t = sym at-is-r2004-plus.ensures ∙ not-false at-is-r2004-plus.result at-if1.false in
+    let t = sym at-is-r2004-plus.ensures ∙ at-if1.false in
     let none = block_none xs ((block a.cap).read xs p.main) at-read-block.ensures c.in-Refused.is in
     rw (gradient_texted a.v γ p a.cap t ∙ texted_no (block a.cap) a.v shown γ p none) refl
