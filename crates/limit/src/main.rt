@@ -3,6 +3,7 @@
 // It promises nothing of its own: it tests that the calls answer as the Rust does.
 #![tactic(auto)]
 
+use std::alloc::{AllocError, Global};
 use std::io;
 use std::io::Write;
 use stored::answers as codes;
@@ -11,11 +12,16 @@ use stored::report::{decimal, write};
 
 mod answers;
 
-// Document 01's limit and one more: so many zeros are the payload of every request.
+// Document 01's limit and one more.
 const SIZE: usize = 268_435_457;
 
 // The start of every request.
 const START: usize = 5;
+
+// One zero above the limit, the payload of every request. They lie on the heap, since the stack has no room for so many bytes.
+fn zeros(alloc: Global) -> Result<Vec<u8>, AllocError> {
+    vec![in alloc; 0; SIZE]
+}
 
 // A line of the list: the request, a tab, the answer. No reading is in the lines that these are compared with.
 fn line<W: Write>(out: &mut W, request: &[u8], answer: Code) -> io::Result<()> {
@@ -191,6 +197,6 @@ fn replay<W: Write>(out: &mut W, s: &[u8]) -> io::Result<()> {
 }
 
 fn main(rt: HostRuntime) -> io::Result<()> {
-    let zeros = vec![in rt.alloc(); 0u8; SIZE]?;
-    replay(&mut io::writer(&rt), &zeros)
+    let payload = zeros(rt.alloc())?;
+    replay(&mut io::writer(&rt), &payload)
 }
