@@ -3,3 +3,4 @@ pub mod Calls
 pub mod Padded
 pub mod Starts
 pub mod Table
+pub mod StartsHold

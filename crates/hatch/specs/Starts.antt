@@ -6,7 +6,8 @@ use Rattle.bitcursor.specs.Reading.{Out, refused}
 use Rattle.bitcursor.specs.Inputs.{Places}
 use Rattle.hatch_format.specs.Values.{Rest, Body}
 use Rattle.hatch_format.specs.Call.{string_start_of, Call, hatch_call}
-use Rattle.hatch_format.specs.Starts.{string_bits, past_places, ComesToStart, start_past, AlikeLengths, same_past}
+use Rattle.hatch_format.specs.Starts.{string_bits, past_places, ComesToStart, AlikeLengths}
+use Rattle.hatch_format.proofs.Starts.{start_past, same_past}
 use Rattle.hatch.specs.Calls.{filled}
 use Rattle.hatch.specs.Measuring.{lending}
 

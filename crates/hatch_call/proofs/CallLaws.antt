@@ -29,6 +29,7 @@ use Rattle.hatch_format.specs.Patterns.{rest}
 use Rattle.hatch_format.specs.Gradients.{gradient}
 use Rattle.hatch_format.proofs.Gradients.{gradient_to}
 use Rattle.hatch_format.specs.Hatch.{plane, hatch}
+use Rattle.hatch_format.proofs.Starts.{on_start}
 use Rattle.hatch_format.specs.Call.{room_for, call_on}
 use Rattle.hatch_format.specs.Begins.{BL_begins, BD_begins}
 use Rattle.hatch_points.specs.Lists.{Lists, grow}
@@ -170,13 +171,11 @@ module _ (caps : Caps) (handles : Handles) (nw nn : ℕ) (γ : Payloads) (p : Pl
     module _ (f : length γ.main ≤ limit) (g : length γ.string ≤ limit) where
       pub not_started : {k : Refusal} {q : ℕ} → start_in (size γ.string) p.string ≡ refused k q
           → call ≡ refused k (record { main = p.main; string = q })
-      unfolding call_on
-      not_started h = rw (e, le-leb _ _ f, le-leb _ _ g, h)
+      not_started h = on_start caps handles nw nn γ p release ∙ rw (e, le-leb _ _ f, le-leb _ _ g, h)
 
       pub started : {q : ℕ} → start_in (size γ.string) p.string ≡ got tt q
           → call ≡ room_for nw nn ((hatch caps handles v).read γ (record { main = p.main; string = q }))
-      unfolding call_on
-      started h = rw (e, le-leb _ _ f, le-leb _ _ g, h)
+      started h = on_start caps handles nw nn γ p release ∙ rw (e, le-leb _ _ f, le-leb _ _ g, h)
 
 -- a call that is refused before its fields
 pub refused_is : (xs : List ℕ) {o : Out Places Body} {k : Refusal} {p : CodePlaces} (l : Lists) → o ≡ refused k (places_of p) → CallIs xs o l l (RefusedBody k p)

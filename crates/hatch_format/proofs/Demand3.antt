@@ -13,7 +13,6 @@ use Rattle.bitcursor.specs.Reading.{Out, got, refused, place, never}
 use Rattle.bitcursor.specs.Code.{stay}
 use Rattle.bitcursor.specs.Format.{Format, relay}
 use Rattle.bitcursor.specs.Inputs.{both, Places, Onward, Agree}
-use Rattle.string_start.specs.Start.{start_by}
 use Rattle.text.specs.declared.version.Version.{Version}
 use Rattle.text.specs.declared.version.MaybeVersion.{MaybeVersion}
 use Rattle.text.specs.declared.version.MaybeVersion.TheVariants.{Known, Unknown}
@@ -53,14 +52,12 @@ room_place nw nn (got b s) = go (leb (length (words b.rest)) nw && leb (length (
     go false = refl
 
 module _ (c : Call) where
-  -- the body's format of a release, and the four tests of a call, the last of which is whether the string start is within its payload
+  -- the body's format of a release, and the four tests of a call
   abbrev body : Version → Format both Body
   body = hatch c.caps c.handles
 
   abbrev by : MaybeVersion → Bool → Bool → Bool → Out Places Body
-  by m s t u =
-      call_by c.caps c.handles c.words c.numbers (payloads_of c) (starts_of c) m s t
-      (start_by (size (payloads_of c).string) (starts_of c).string u)
+  by = call_by c.caps c.handles c.words c.numbers (payloads_of c) (starts_of c)
 
   sound : (a : Body) (q : Places) → hatch_call c ≡ got a q → HatchLaid c a q
   unfolding call_on hatch relay

@@ -6,3 +6,4 @@ pub mod Gradients
 pub mod Bodies
 pub mod Names
 pub mod Demand3
+pub mod Starts

@@ -1,10 +1,10 @@
 -- Where a string reader starts, what its next text is, and where it stands afterwards. Assumes nothing.
-use Rattle.std.specs.Prelude.{◌≡◌, List, ℕ, ◌-◌, leb}
+use Rattle.std.specs.Prelude.{◌≡◌, true, false, List, ℕ, ◌-◌, leb}
 use Rattle.std.specs.Borrow.{Bor}
 use Rattle.loads.specs.Bits.{size}
 use Rattle.bitcursor.specs.Reading.{Out, got, refused, place}
 use Rattle.bitcursor.specs.Answers.{limited}
-use Rattle.string_start.specs.Start.{start_in}
+use Rattle.bitcursor.specs.declared.Refusal.TheVariants.{TooFewBits}
 use Rattle.text.specs.declared.Text.{Text}
 use Rattle.text.specs.Answers.{reader_text}
 use Rattle.string_reader.specs.declared.StringReader.{StringReader}
@@ -16,9 +16,9 @@ use Rattle.string_reader.specs.declared.MovedStart.{MovedStart}
 use Rattle.string_reader.specs.declared.MovedText.{MovedText}
 use Rattle.string_reader.specs.declared.readings.NextText.{NextText}
 
--- where a reader starts: by its payload's length in bits alone
-abbrev pub starts : List ℕ → ℕ → Out ℕ (Unit {0})
-starts xs p = start_in (size xs) p
+-- a start within the payload, its end included; past it refusal 1 at the payload's end
+unfoldable pub starts : List ℕ → ℕ → Out ℕ (Unit {0})
+starts xs p = elim (leb p (size xs)) [ true ↦ got tt p | false ↦ refused TooFewBits (size xs) ]
 
 -- of any payload: refusal 10 at the start where it is above the limit
 abbrev pub start_at : List ℕ → ℕ → Out ℕ (Unit {0})

@@ -10,7 +10,7 @@ use Rattle.bitcursor.specs.Code.{measured}
 use Rattle.bitcursor.specs.Stops.{BS_past}
 use Rattle.bitcursor.specs.Answers.{limited}
 use Rattle.bitcursor.proofs.Steps.{limit_within}
-use Rattle.string_start.specs.Start.{start_in, inside, past}
+use Rattle.string_start.specs.Start.{start_in, start_by}
 use Rattle.text.specs.declared.Source.TheVariants.{String}
 use Rattle.text.specs.declared.Text.{Text}
 use Rattle.text.specs.Texts.{wide}
@@ -34,15 +34,16 @@ beyond xs p end h = go (leb end p) refl
     go true e = rw (e, reader_text)
     go false e = rw (e, reader_text, BS_past xs p h)
 
+-- where a reader starts is where one test by its payload's length says
+pub by_one_test : (xs : List ℕ) (p : ℕ) → starts xs p ≡ start_in (size xs) p
+unfolding starts
+by_one_test xs p = go (leb p (size xs))
+  where
+    go : (b : Bool) → elim b [ true ↦ got tt p | false ↦ refused TooFewBits (size xs) ] ≡ start_by (size xs) p b
+    go true = refl
+    go false = refl
+
 module _ (xs : List ℕ) (p : ℕ) (w : length xs ≤ limit) where
-  -- from a start within the payload, its length in bits included, the reader stands at that start
-  pub start_inside : p ≤ size xs → start_at xs p ≡ got tt p
-  start_inside h = limit_within starts xs p w ∙ inside (size xs) p h
-
-  -- past it refusal 1 at the payload's length in bits
-  pub start_past : size xs < p → start_at xs p ≡ refused TooFewBits (size xs)
-  start_past h = limit_within starts xs p w ∙ past (size xs) p h
-
   -- a text by value at such a place
   pub text_past : (end : ℕ) → size xs ≤ p → text_at xs p end ≡ text_beyond end p
   text_past end h = limit_within (reader_text end) xs p w ∙ beyond xs p end h
@@ -56,7 +57,7 @@ module _ (xs ys : List ℕ) (e : length ys ≡ length xs) (p : ℕ) where
 
   pub same_start : start_at ys p ≡ start_at xs p
   unfolding limited
-  same_start = ap (λ (n : ℕ). by_length n (start_in (8 * n) p)) e
+  same_start = ap (by_length (length ys)) (by_one_test ys p) ∙ ap (λ (n : ℕ). by_length n (start_in (8 * n) p)) e ∙ ap (by_length (length xs)) (sym (by_one_test xs p))
 
   pub same_text_past : (end : ℕ) → size xs ≤ p → text_at ys p end ≡ text_at xs p end
   unfolding limited
