@@ -1,0 +1,18 @@
+use mathlib.Core.Path.{◌≡◌, refl, subst}
+use mathlib.Core.List.{[], ◌∷◌}
+use Prim.Native.Nat.{ℕ, ◌+◌, ◌-◌, ◌≤◌, ◌<◌}
+use native.Mathlib.Omega.{arith}
+use Rattle.hatch_points.specs.Vertices.{vertex_at, ExtraPassed}
+use Rattle.hatch_points.specs.declared.lists.Sizes.{Sizes}
+use Rattle.hatch_points.specs.Gathered.{numbers}
+use Rattle.hatch_points.specs.Walks.{vertex_walk}
+use Rattle.hatch_points.specs.Lists.{lists}
+use Rattle.hatch_points.proofs.Laws.{more_numbers, kept_same}
+use Rattle.hatch_points.proofs.Loops.{Along, start, next, loop_refuses, loop_ends}
+use Rattle.hatch_points.proofs.vertices.pass_vertices.Given as goal
+
+abbrev pub invariant-loop-i : goal.invariant-loop-i
+invariant-loop-i l = Along vertex_walk l.s l.n l.at (lists [] [] []) l.z l.i l.p (lists [] [] []) (record { numbers = l.used; words = l.z.words; derived = l.z.derived })
+
+abbrev pub decreases-loop-i : goal.decreases-loop-i
+decreases-loop-i l = l.n - l.i
