@@ -10,7 +10,7 @@ pub mod values;
 pub mod within;
 
 // Why a reading stops: the rows of document 01's table, to which `refusal_number` of specs/Refusals gives their numbers.
-#[derive(Drop)]
+#[derive(Clone, Copy)]
 pub enum Refusal {
     TooFewBits,
     ReservedTag,
@@ -26,52 +26,52 @@ pub enum Refusal {
 }
 
 // A number and the place after it, or a refusal and its place. The enums below are the same for other values.
-#[derive(Drop)]
+#[derive(Clone, Copy)]
 pub enum Read {
     Value(u64, usize),
     Refused(Refusal, usize),
 }
 
-#[derive(Drop)]
+#[derive(Clone, Copy)]
 pub enum ReadBool {
     Value(bool, usize),
     Refused(Refusal, usize),
 }
 
-#[derive(Drop)]
+#[derive(Clone, Copy)]
 pub enum ReadI16 {
     Value(i16, usize),
     Refused(Refusal, usize),
 }
 
-#[derive(Drop)]
+#[derive(Clone, Copy)]
 pub enum ReadI32 {
     Value(i32, usize),
     Refused(Refusal, usize),
 }
 
-#[derive(Drop)]
+#[derive(Clone, Copy)]
 pub enum ReadF64 {
     Value(f64, usize),
     Refused(Refusal, usize),
 }
 
 // A handle reference: its code, how many bytes the value has, and the value.
-#[derive(Drop)]
+#[derive(Clone, Copy)]
 pub struct Handle {
     pub code: u8,
     pub counter: u8,
     pub value: u64,
 }
 
-#[derive(Drop)]
+#[derive(Clone, Copy)]
 pub enum ReadHandle {
     Value(Handle, usize),
     Refused(Refusal, usize),
 }
 
 // Bytes passed over: the place after them, or a refusal and its place.
-#[derive(Drop)]
+#[derive(Clone, Copy)]
 pub enum Passed {
     To(usize),
     Refused(Refusal, usize),

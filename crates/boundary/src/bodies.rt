@@ -3,7 +3,7 @@ use hatch_format::{GradientColor, GradientColorBits};
 
 // Where a text lies, as TextAnswer has it.
 #[repr(C)]
-#[derive(Drop)]
+#[derive(Clone, Copy)]
 pub struct TextFields {
     pub source: u8,
     pub width: u8,
@@ -14,7 +14,7 @@ pub struct TextFields {
 
 // The gradient of a hatch, or 0 for each where there is none; colours past their count are 0.
 #[repr(C)]
-#[derive(Drop)]
+#[derive(Clone, Copy)]
 pub struct GradientFields {
     pub present: bool,
     pub angle: f64,
@@ -28,7 +28,7 @@ pub struct GradientFields {
 
 // The same with each double as its 64 bits.
 #[repr(C)]
-#[derive(Drop)]
+#[derive(Clone, Copy)]
 pub struct GradientBits {
     pub present: bool,
     pub angle: u64,
@@ -42,7 +42,7 @@ pub struct GradientBits {
 
 // The fields of a hatch that are no doubles, under the Rust's names, the counts of what it holds, and the lengths used of both lists.
 #[repr(C)]
-#[derive(Drop)]
+#[derive(Clone, Copy)]
 pub struct BodyFields {
     pub pattern_name: TextFields,
     pub solid_fill: bool,
@@ -59,7 +59,7 @@ pub struct BodyFields {
 
 // What a hatch gives: the refusal's number or 0, the final place in each payload, and the fields or 0 for each.
 #[repr(C)]
-#[derive(Drop)]
+#[derive(Clone, Copy)]
 pub struct BodyAnswer {
     pub refusal: u64,
     pub place: usize,
@@ -76,7 +76,7 @@ pub struct BodyAnswer {
 }
 
 #[repr(C)]
-#[derive(Drop)]
+#[derive(Clone, Copy)]
 pub struct BodyBitsAnswer {
     pub refusal: u64,
     pub place: usize,
@@ -94,7 +94,7 @@ pub struct BodyBitsAnswer {
 
 // What a measuring gives: the refusal's number or 0, the final place in each payload, and the lengths that the lists must have or 0.
 #[repr(C)]
-#[derive(Drop)]
+#[derive(Clone, Copy)]
 pub struct LengthsAnswer {
     pub refusal: u64,
     pub place: usize,

@@ -7,7 +7,7 @@ use code_page::{ConversionOutcome, ConversionRefusal};
 
 // The refusal's number or 0, and how many entries were written or 0. No DWG bits are read, so the places are 0.
 #[repr(C)]
-#[derive(Drop)]
+#[derive(Clone, Copy)]
 pub struct ConversionAnswer {
     pub refusal: u64,
     pub place: usize,

@@ -6,7 +6,7 @@ use hatch_format::{GradientColor, GradientColorBits};
 use hatch_lists::HatchCounts;
 
 #[repr(C)]
-#[derive(Drop)]
+#[derive(Clone, Copy)]
 pub struct TextGiven {
     pub source: u8,
     pub width: u8,
@@ -16,7 +16,7 @@ pub struct TextGiven {
 }
 
 #[repr(C)]
-#[derive(Drop)]
+#[derive(Clone, Copy)]
 pub struct GradientGiven {
     pub present: u8,
     pub angle: f64,
@@ -29,7 +29,7 @@ pub struct GradientGiven {
 }
 
 #[repr(C)]
-#[derive(Drop)]
+#[derive(Clone, Copy)]
 pub struct GradientBitsGiven {
     pub present: u8,
     pub angle: u64,
@@ -42,7 +42,7 @@ pub struct GradientBitsGiven {
 }
 
 #[repr(C)]
-#[derive(Drop)]
+#[derive(Clone, Copy)]
 pub struct FieldsGiven {
     pub pattern_name: TextGiven,
     pub solid_fill: u8,
@@ -58,7 +58,7 @@ pub struct FieldsGiven {
 }
 
 #[repr(C)]
-#[derive(Drop)]
+#[derive(Clone, Copy)]
 pub struct BodyGiven {
     pub refusal: u64,
     pub place: usize,
@@ -75,7 +75,7 @@ pub struct BodyGiven {
 }
 
 #[repr(C)]
-#[derive(Drop)]
+#[derive(Clone, Copy)]
 pub struct BodyBitsGiven {
     pub refusal: u64,
     pub place: usize,

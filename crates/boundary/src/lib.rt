@@ -13,7 +13,7 @@ pub mod prefixes;
 
 // What one code gives: the refusal's number or 0, the final place, and the value or 0.
 #[repr(C)]
-#[derive(Drop)]
+#[derive(Clone, Copy)]
 pub struct CodeAnswer {
     pub refusal: u64,
     pub place: usize,
@@ -21,7 +21,7 @@ pub struct CodeAnswer {
 }
 
 #[repr(C)]
-#[derive(Drop)]
+#[derive(Clone, Copy)]
 pub struct SignedAnswer {
     pub refusal: u64,
     pub place: usize,
@@ -29,7 +29,7 @@ pub struct SignedAnswer {
 }
 
 #[repr(C)]
-#[derive(Drop)]
+#[derive(Clone, Copy)]
 pub struct DoubleAnswer {
     pub refusal: u64,
     pub place: usize,
@@ -37,7 +37,7 @@ pub struct DoubleAnswer {
 }
 
 #[repr(C)]
-#[derive(Drop)]
+#[derive(Clone, Copy)]
 pub struct HandleAnswer {
     pub refusal: u64,
     pub place: usize,
@@ -50,7 +50,7 @@ pub struct HandleAnswer {
 // the bits of a unit, the bit position of the first unit and the unit count, or 0 for each; and whether a closing zero was dropped.
 // That stands behind the width, where nothing stood, so that every other field stands where it did.
 #[repr(C)]
-#[derive(Drop)]
+#[derive(Clone, Copy)]
 pub struct TextAnswer {
     pub refusal: u64,
     pub place: usize,
@@ -63,7 +63,7 @@ pub struct TextAnswer {
 
 // The fields of a prefix but its linetype scale, under the Rust's names; a number that may be absent has its `has` beside it.
 #[repr(C)]
-#[derive(Drop)]
+#[derive(Clone, Copy)]
 pub struct PrefixFields {
     pub raw_mode: u8,
     pub mode: u8,
@@ -96,7 +96,7 @@ pub struct PrefixFields {
 // What a prefix gives: the refusal's number or 0, the final place, and the fields or 0 for each. The mode's number is 0 by layer,
 // 1 by the previous entity, 2 in a block, 3 reserved.
 #[repr(C)]
-#[derive(Drop)]
+#[derive(Clone, Copy)]
 pub struct PrefixAnswer {
     pub refusal: u64,
     pub place: usize,
@@ -105,7 +105,7 @@ pub struct PrefixAnswer {
 }
 
 #[repr(C)]
-#[derive(Drop)]
+#[derive(Clone, Copy)]
 pub struct PrefixBitsAnswer {
     pub refusal: u64,
     pub place: usize,

@@ -7,7 +7,7 @@ use moved_hatch::{MoveOutcome, MoveRefusal};
 
 // The refusal's number or 0. No DWG bits are read, so the places are 0.
 #[repr(C)]
-#[derive(Drop)]
+#[derive(Clone, Copy)]
 pub struct MoveAnswer {
     pub refusal: u64,
     pub place: usize,

@@ -23,7 +23,7 @@ use text::Places;
 use text::version::Version;
 
 // What a readable body gives but for its list entries: its parts, the lengths used of the lists and its final places.
-#[derive(Drop)]
+#[derive(Clone, Copy)]
 pub struct Parts {
     pub front: Front,
     pub rest: Rest,
@@ -31,7 +31,7 @@ pub struct Parts {
     pub places: Places,
 }
 
-#[derive(Drop)]
+#[derive(Clone, Copy)]
 pub enum BodyRead {
     Done(Parts),
     Refused(Refusal, Places),

@@ -9,7 +9,7 @@ ghost use Rattle.hatch_format.specs.Caps.{document_caps};
 use text::{Places, Text};
 
 // The greatest count that is read of each list. A boundary handle count is one per path.
-#[derive(Drop)]
+#[derive(Clone, Copy)]
 pub struct Caps {
     pub colors: usize,
     pub paths: usize,
@@ -45,7 +45,7 @@ pub fn document_caps() -> Caps
 
 // As C lays it out, since the C boundary hands it over as it is.
 #[repr(C)]
-#[derive(Drop)]
+#[derive(Clone, Copy)]
 pub struct GradientColor {
     pub unknown_double: f64,
     pub unknown_short: i16,
@@ -54,7 +54,7 @@ pub struct GradientColor {
 }
 
 // The gradient of a hatch, or zero throughout where there is none; colours past their count are zero.
-#[derive(Drop)]
+#[derive(Clone, Copy)]
 pub struct GradientFill {
     pub present: bool,
     pub angle: f64,
@@ -66,7 +66,7 @@ pub struct GradientFill {
     pub name: Text,
 }
 
-#[derive(Drop)]
+#[derive(Clone, Copy)]
 pub struct Vec3D {
     pub x: f64,
     pub y: f64,
@@ -74,7 +74,7 @@ pub struct Vec3D {
 }
 
 // What a hatch call hands over by value: document 01's record. The rest goes to the two lent lists, so far as their lengths used say.
-#[derive(Drop)]
+#[derive(Clone, Copy)]
 pub struct Hatch {
     pub gradient: GradientFill,
     pub elevation: f64,
@@ -98,7 +98,7 @@ pub struct Hatch {
 
 // The same with each double as its 64 bits.
 #[repr(C)]
-#[derive(Drop)]
+#[derive(Clone, Copy)]
 pub struct GradientColorBits {
     pub unknown_double: u64,
     pub unknown_short: i16,
@@ -106,7 +106,7 @@ pub struct GradientColorBits {
     pub ignored_color_byte: u8,
 }
 
-#[derive(Drop)]
+#[derive(Clone, Copy)]
 pub struct GradientFillBits {
     pub present: bool,
     pub angle: u64,
@@ -118,14 +118,14 @@ pub struct GradientFillBits {
     pub name: Text,
 }
 
-#[derive(Drop)]
+#[derive(Clone, Copy)]
 pub struct Vec3DBits {
     pub x: u64,
     pub y: u64,
     pub z: u64,
 }
 
-#[derive(Drop)]
+#[derive(Clone, Copy)]
 pub struct HatchBits {
     pub gradient: GradientFillBits,
     pub elevation: u64,

@@ -9,7 +9,7 @@ ghost use Rattle.hatch_front.specs.Answers.{color_of, passed_of, sixteen_of};
 use bitcursor::{Passed, Read, Refusal, values};
 use hatch_format::{GradientColor, GradientColorBits};
 
-#[derive(Drop)]
+#[derive(Clone, Copy)]
 pub enum ColorRead {
     Done(GradientColorBits, usize),
     Refused(Refusal, usize),

@@ -15,7 +15,7 @@ use text::version::Version;
 use text::{Places, ReadField, Source, Text, version};
 
 // The fields in front of the colours; `last` has the count of colours and the place where they begin.
-#[derive(Drop)]
+#[derive(Clone, Copy)]
 pub struct BlockHead {
     pub flag: u64,
     pub angle: u64,
@@ -25,7 +25,7 @@ pub struct BlockHead {
     pub last: Read,
 }
 
-#[derive(Drop)]
+#[derive(Clone, Copy)]
 pub struct Block {
     pub flag: u64,
     pub angle: u64,
@@ -36,13 +36,13 @@ pub struct Block {
     pub colors_at: usize,
 }
 
-#[derive(Drop)]
+#[derive(Clone, Copy)]
 pub enum BlockRead {
     Done(Block, usize),
     Refused(Refusal, usize),
 }
 
-#[derive(Drop)]
+#[derive(Clone, Copy)]
 pub enum GradientRead {
     Done(Gradient, Places),
     Refused(Refusal, Places),

@@ -19,7 +19,7 @@ pub mod colors;
 mod gradients;
 
 // A gradient without its colours, which stand from `colors_at` on; zero throughout where there is none.
-#[derive(Drop)]
+#[derive(Clone, Copy)]
 pub struct Gradient {
     pub present: bool,
     pub angle: u64,
@@ -31,7 +31,7 @@ pub struct Gradient {
     pub name: Text,
 }
 
-#[derive(Drop)]
+#[derive(Clone, Copy)]
 pub struct Plane {
     pub elevation: u64,
     pub x: u64,
@@ -39,20 +39,20 @@ pub struct Plane {
     pub z: u64,
 }
 
-#[derive(Drop)]
+#[derive(Clone, Copy)]
 pub enum PlaneRead {
     Done(Plane, usize),
     Refused(Refusal, usize),
 }
 
-#[derive(Drop)]
+#[derive(Clone, Copy)]
 pub struct Front {
     pub gradient: Gradient,
     pub plane: Plane,
     pub name: Text,
 }
 
-#[derive(Drop)]
+#[derive(Clone, Copy)]
 pub enum FrontRead {
     Done(Front, Places),
     Refused(Refusal, Places),

@@ -14,7 +14,7 @@ use hatch_points::lists::{Sizes, Walk};
 use hatch_points::{counts, lists, runs, vertices};
 
 // A spline's fields in front of its lists; `last` has the count of control points.
-#[derive(Drop)]
+#[derive(Clone, Copy)]
 pub struct SplineHead {
     pub degree: u64,
     pub rational: u64,

@@ -6,7 +6,7 @@ ghost use Rattle.std.specs.Float.{binary64};
 use bitcursor::{Refusal, values};
 
 // The lengths used of the numbers and of the words, and whether a path came from a boundary object.
-#[derive(Drop)]
+#[derive(Clone, Copy)]
 pub struct Sizes {
     pub numbers: usize,
     pub words: usize,
@@ -14,7 +14,7 @@ pub struct Sizes {
 }
 
 // A walk that came to its end, with the place after it and the lengths used then; or its refusal.
-#[derive(Drop)]
+#[derive(Clone, Copy)]
 pub enum Walk {
     Done(usize, Sizes),
     Refused(Refusal, usize),

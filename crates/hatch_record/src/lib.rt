@@ -18,28 +18,28 @@ use text::{Places, Source, Text};
 pub mod bits;
 pub mod doubles;
 
-#[derive(Drop)]
+#[derive(Clone, Copy)]
 pub enum Outcome {
     Read,
     Refused(Refusal),
 }
 
 // What a call hands over by value; on a refusal the record is zero but for the places.
-#[derive(Drop)]
+#[derive(Clone, Copy)]
 pub struct HatchAnswer {
     pub outcome: Outcome,
     pub hatch: Hatch,
 }
 
 // The same with each double as its 64 bits.
-#[derive(Drop)]
+#[derive(Clone, Copy)]
 pub struct HatchBitsAnswer {
     pub outcome: Outcome,
     pub hatch: HatchBits,
 }
 
 // The lengths that the lists must have for a readable hatch, and its final places; zero and the refusal's places else.
-#[derive(Drop)]
+#[derive(Clone, Copy)]
 pub struct Lengths {
     pub outcome: Outcome,
     pub words: usize,

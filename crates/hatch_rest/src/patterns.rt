@@ -16,7 +16,7 @@ use hatch_points::lists::{Sizes, Walk};
 use hatch_points::{counts, lists, runs};
 
 // What a hatch has that is not solid, with the count of its lines; zero where it is.
-#[derive(Drop)]
+#[derive(Clone, Copy)]
 pub struct Pattern {
     pub angle: u64,
     pub scale: u64,
@@ -24,27 +24,27 @@ pub struct Pattern {
     pub lines: usize,
 }
 
-#[derive(Drop)]
+#[derive(Clone, Copy)]
 pub enum PatternWalk {
     Done(Pattern, usize, Sizes),
     Refused(Refusal, usize),
 }
 
 // The last fields, with the count of seed points.
-#[derive(Drop)]
+#[derive(Clone, Copy)]
 pub struct Ending {
     pub pixel_size: u64,
     pub seed_points: usize,
 }
 
-#[derive(Drop)]
+#[derive(Clone, Copy)]
 pub enum EndingWalk {
     Done(Ending, usize, Sizes),
     Refused(Refusal, usize),
 }
 
 // What follows the paths.
-#[derive(Drop)]
+#[derive(Clone, Copy)]
 pub struct Tail {
     pub style: u64,
     pub kind: u64,
@@ -52,7 +52,7 @@ pub struct Tail {
     pub ending: Ending,
 }
 
-#[derive(Drop)]
+#[derive(Clone, Copy)]
 pub enum TailWalk {
     Done(Tail, usize, Sizes),
     Refused(Refusal, usize),

@@ -18,7 +18,7 @@ use hatch_points::lists::{Sizes, Walk};
 use text::version;
 use text::version::Version;
 
-#[derive(Drop)]
+#[derive(Clone, Copy)]
 pub struct Rest {
     pub solid: bool,
     pub associative: bool,
@@ -26,7 +26,7 @@ pub struct Rest {
     pub tail: Tail,
 }
 
-#[derive(Drop)]
+#[derive(Clone, Copy)]
 pub enum RestWalk {
     Done(Rest, usize, Sizes),
     Refused(Refusal, usize),

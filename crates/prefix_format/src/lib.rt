@@ -8,7 +8,7 @@ use bitcursor::Refusal;
 pub mod table;
 
 // The entity's mode, from its two bits.
-#[derive(Drop)]
+#[derive(Clone, Copy)]
 pub enum EntityMode {
     ByLayer,
     ByPreviousEntity,
@@ -17,14 +17,14 @@ pub enum EntityMode {
 }
 
 // A field with whether it was present.
-#[derive(Drop)]
+#[derive(Clone, Copy)]
 pub struct MaybeLong {
     pub present: bool,
     pub value: u32,
 }
 
 // All that a prefix holds, with the names of the Rust.
-#[derive(Drop)]
+#[derive(Clone, Copy)]
 pub struct CommonEntityData {
     pub raw_mode: u8,
     pub mode: EntityMode,
@@ -51,7 +51,7 @@ pub struct CommonEntityData {
 }
 
 // The same with the linetype scale as its 64 bits.
-#[derive(Drop)]
+#[derive(Clone, Copy)]
 pub struct CommonEntityBits {
     pub raw_mode: u8,
     pub mode: EntityMode,
@@ -78,21 +78,21 @@ pub struct CommonEntityBits {
 }
 
 // Whether a call gave a reading.
-#[derive(Drop)]
+#[derive(Clone, Copy)]
 pub enum Outcome {
     Read,
     Refused(Refusal),
 }
 
 // What a prefix call gives: on a refusal the record is zero throughout, and the place is the refusal's.
-#[derive(Drop)]
+#[derive(Clone, Copy)]
 pub struct Prefix {
     pub outcome: Outcome,
     pub place: usize,
     pub fields: CommonEntityData,
 }
 
-#[derive(Drop)]
+#[derive(Clone, Copy)]
 pub struct PrefixBits {
     pub outcome: Outcome,
     pub place: usize,

@@ -12,7 +12,7 @@ use bitcursor::Read;
 use prefix_format::table::Row;
 
 // Up to the mode: XDATA, graphics and, in release 1, the data end. Each part has its fields' numbers and the last answer.
-#[derive(Drop)]
+#[derive(Clone, Copy)]
 pub struct Head {
     pub xdata: u64,
     pub had_graphics: u64,
@@ -21,7 +21,7 @@ pub struct Head {
 }
 
 // From the mode to the colour.
-#[derive(Drop)]
+#[derive(Clone, Copy)]
 pub struct Modes {
     pub mode: u64,
     pub reactors: u64,
@@ -33,7 +33,7 @@ pub struct Modes {
 }
 
 // The colour, and the fields behind it that are present.
-#[derive(Drop)]
+#[derive(Clone, Copy)]
 pub struct Colours {
     pub colour: u64,
     pub has_rgb: bool,
@@ -45,7 +45,7 @@ pub struct Colours {
 }
 
 // Which of the fields behind a colour are present.
-#[derive(Drop)]
+#[derive(Clone, Copy)]
 pub struct PresentFields {
     pub rgb: bool,
     pub alpha: bool,
@@ -54,7 +54,7 @@ pub struct PresentFields {
 }
 
 // The linetype scale and the flags behind it.
-#[derive(Drop)]
+#[derive(Clone, Copy)]
 pub struct Styles {
     pub scale: u64,
     pub linetype: u64,
@@ -65,7 +65,7 @@ pub struct Styles {
 }
 
 // From the visual styles to the end.
-#[derive(Drop)]
+#[derive(Clone, Copy)]
 pub struct Tail {
     pub full: u64,
     pub face: u64,

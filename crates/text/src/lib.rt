@@ -17,7 +17,7 @@ pub mod version;
 pub mod within;
 
 // Which payload a text lies in; an absent gradient's name lies in none.
-#[derive(Drop)]
+#[derive(Clone, Copy)]
 pub enum Source {
     Absent,
     Main,
@@ -27,7 +27,7 @@ pub enum Source {
 // Document 01's text: the payload, the bits of a unit, the bit position of the first unit, and how many units there are once a
 // closing zero is dropped; and document 02's: whether one was dropped. That stands beside the width, where it takes no room. Characters
 // are left to the host.
-#[derive(Drop)]
+#[derive(Clone, Copy)]
 pub struct Text {
     pub source: Source,
     pub width: u8,
@@ -37,21 +37,21 @@ pub struct Text {
 }
 
 // A text and the place after it, or a refusal and its place.
-#[derive(Drop)]
+#[derive(Clone, Copy)]
 pub enum ReadText {
     Found(Text, usize),
     Refused(Refusal, usize),
 }
 
 // A place in each payload, in bits; without a reader the second is 0.
-#[derive(Drop)]
+#[derive(Clone, Copy)]
 pub struct Places {
     pub main: usize,
     pub string: usize,
 }
 
 // A text field of a body and the places after it, or a refusal and its places.
-#[derive(Drop)]
+#[derive(Clone, Copy)]
 pub enum ReadField {
     Found(Text, Places),
     Refused(Refusal, Places),

@@ -3,7 +3,7 @@ ghost use Rattle.std.specs.Prelude.{◌≡◌, leb};
 ghost use Rattle.text.specs.Releases.{release_number, version_of};
 
 // src/version.rs of dwg-rs; document 01's release numbers are 1 to 7 in this order.
-#[derive(Drop)]
+#[derive(Clone, Copy)]
 pub enum Version {
     R14,
     R2000,
@@ -14,7 +14,7 @@ pub enum Version {
     R2018,
 }
 
-#[derive(Drop)]
+#[derive(Clone, Copy)]
 pub enum MaybeVersion {
     Known(Version),
     Unknown,
