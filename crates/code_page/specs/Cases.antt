@@ -1,7 +1,6 @@
--- Document 02's cases: what calls answer, computed by the definitions in one proof over the whole table. Assumes nothing.
-use Rattle.std.specs.Prelude.{◌≡◌, refl, List, [], ◌∷◌, ℕ}
+-- Document 02's cases: what calls answer. proofs/Cases.antt computes them by the definitions, in one proof over the whole table. Assumes nothing.
+use Rattle.std.specs.Prelude.{List, [], ◌∷◌, ℕ}
 use Rattle.code_page.specs.declared.ConversionRefusal.TheVariants.{UndefinedCharacter, OutputTooShort}
-use Rattle.code_page.specs.Cp1252.{cp1252}
 use Rattle.code_page.specs.Mapping.{Mapped, unit_of, byte_of}
 use Rattle.code_page.specs.Conversion.{Conversion, converts, refuses, conversion}
 
@@ -46,7 +45,3 @@ answered (c ∷ cs) = conversion c.way c.input c.room ∷ answered cs
 abbrev pub outcomes : List Case → List Conversion
 outcomes [] = []
 outcomes (c ∷ cs) = c.outcome ∷ outcomes cs
-
-pub all_hold : answered cases ≡ outcomes cases
-unfolding conversion unit_of byte_of cp1252
-all_hold = refl

@@ -1,12 +1,13 @@
--- Each way undoes the other, byte by byte and unit by unit: a unit comes from a byte exactly if the byte has this unit. Assumes nothing.
+-- Each way undoes the other, byte by byte and unit by unit: a unit comes from a byte exactly if the byte has this unit. There after back is here; back after
+-- there, which rests on no two bytes sharing a unit, is in proofs/Inverse.antt. Assumes nothing.
 use Rattle.std.specs.Prelude.{◌≡◌, refl, Bool, true, false, List, [], ◌∷◌, ℕ, zero, suc, ◌+◌, ◌<◌, eqb, length, get_or}
-use Rattle.std.proofs.Common.{sym, ap, ◌∙◌, subst, le_of_suc-le-suc, not-suc-le-zero, arith, eqb-true, eq-eqb, ne_eqb}
+use Rattle.std.proofs.Common.{sym, ◌∙◌, subst, le_of_suc-le-suc, not-suc-le-zero, arith, eqb-true, eq-eqb, ne_eqb}
 use Rattle.code_page.specs.Cp1252.{cp1252}
 use Rattle.code_page.specs.Mapping.{Mapped, defined, undefined, mark, unit_of, byte_of, first_from}
 use Rattle.code_page.specs.Everywhere.{unlike}
-use Rattle.code_page.specs.Facts.{entries_256, unmarked_entry, unit_entry, unit_unmarked, unit_of_byte, one_byte}
+use Rattle.code_page.specs.Facts.{unmarked_entry}
 
-nothing : {n : ℕ} → undefined ≡ defined n → ⊥
+pub nothing : {n : ℕ} → undefined ≡ defined n → ⊥
 nothing e = let w : ◌≡◌ {A = ℕ} 0 1 = cc in omega arith
 
 -- ---- where a unit first stands, it stands
@@ -28,7 +29,7 @@ module _ (u d : ℕ) where
           (suc rest.0, omega (arith, rest.1), rest.2, omega (arith, rest.3))
 
   -- and where it stands somewhere, it stands first somewhere
-  stands_first : (xs : List ℕ) (k j : ℕ) → j < length xs → get_or xs j d ≡ u → (b : ℕ) × (first_from u k xs ≡ defined b)
+  pub stands_first : (xs : List ℕ) (k j : ℕ) → j < length xs → get_or xs j d ≡ u → (b : ℕ) × (first_from u k xs ≡ defined b)
   stands_first [] k j h e = absurd (not-suc-le-zero h)
   stands_first (x ∷ xs) k j h e = go (eqb u x) refl j h e (stands_first xs (suc k))
     where
@@ -39,7 +40,7 @@ module _ (u d : ℕ) where
       go false f zero h e later = absurd (unlike (sym (eq-eqb u x (sym e)) ∙ f))
       go false f (suc j) h e later = let rest = later j (le_of_suc-le-suc h) e in (rest.0, rw f rest.1)
 
--- ---- there after back, and back after there
+-- ---- there after back
 pub there : (u b : ℕ) → byte_of u ≡ defined b → unit_of b ≡ defined u
 unfolding byte_of unit_of
 there u b e = go (eqb u mark) refl
@@ -53,16 +54,9 @@ there u b e = go (eqb u mark) refl
         let entry : get_or cp1252 b mark ≡ u = subst (λ (j : ℕ). get_or cp1252 j mark ≡ u) place at.2 in
         rw entry (unmarked_entry u (λ m. unlike (sym (eq-eqb u mark m) ∙ f)))
 
-by_search : (u k : ℕ) → (u ≡ mark → ⊥) → first_from u 0 cp1252 ≡ defined k → byte_of u ≡ defined k
+pub by_search : (u k : ℕ) → (u ≡ mark → ⊥) → first_from u 0 cp1252 ≡ defined k → byte_of u ≡ defined k
 unfolding byte_of
 by_search u k n f = rw (ne_eqb u mark n) f
-
-pub back : (b u : ℕ) → unit_of b ≡ defined u → byte_of u ≡ defined b
-back b u e =
-    let found = stands_first u mark cp1252 0 b (omega (arith, unit_of_byte b u e, entries_256)) (unit_entry b u e) in
-    let first : byte_of u ≡ defined found.0 = by_search u found.0 (unit_unmarked b u e) found.1 in
-    let same : found.0 ≡ b = one_byte found.0 b u (there u found.0 first) e in
-    first ∙ ap defined same
 
 -- a unit that no byte has comes from none
 pub no_byte : (u : ℕ) → ((b : ℕ) → unit_of b ≡ defined u → ⊥) → byte_of u ≡ undefined
@@ -71,6 +65,3 @@ no_byte u none = go (byte_of u) refl
     go : (m : Mapped) → byte_of u ≡ m → byte_of u ≡ undefined
     go (defined b) e = absurd (none b (there u b e))
     go undefined e = e
-
-pub no_byte_only : (u : ℕ) → byte_of u ≡ undefined → (b : ℕ) → unit_of b ≡ defined u → ⊥
-no_byte_only u e b f = nothing (sym e ∙ back b u f)

@@ -1,12 +1,11 @@
--- Entries that are mapped to themselves, either way: below 80 and from A0 to FF (hexadecimal). Assumes nothing.
+-- Entries that are mapped to themselves, either way: below 80 and from A0 to FF (hexadecimal). That they are, by the table, is proved in
+-- proofs/OwnEntries.antt. Assumes nothing.
 use Rattle.std.specs.Prelude.{◌≡◌, refl, Bool, true, false, ◌&&◌, ◌||◌, List, [], ◌∷◌, ℕ, ◌<◌, ◌≤◌, ltb, leb}
-use Rattle.std.proofs.Common.{sym, ◌∙◌, arith, ltb-true, ltb-false, leb-true, leb-false, lt-ltb}
+use Rattle.std.proofs.Common.{sym, ◌∙◌, arith, ltb-true, ltb-false, leb-false, lt-ltb}
 use Rattle.std.proofs.Math.Bool.{or-true}
-use Rattle.code_page.specs.Mapping.{Mapped, defined, unit_of, byte_of}
+use Rattle.code_page.specs.Mapping.{Mapped, defined}
 use Rattle.code_page.specs.Conversion.{all, mapped_all}
 use Rattle.code_page.specs.Everywhere.{unlike}
-use Rattle.code_page.specs.Facts.{low_own, high_own, below_own, above_between}
-use Rattle.code_page.specs.Inverse.{back}
 
 abbrev pub is_own : ℕ → Bool
 is_own x = ltb x 0x80 || (leb 0xA0 x && ltb x 0x100)
@@ -15,22 +14,9 @@ abbrev pub all_own : List ℕ → Bool
 all_own [] = true
 all_own (x ∷ xs) = is_own x && all_own xs
 
-both : (a b : Bool) → a && b ≡ true → (a ≡ true) × (b ≡ true)
+pub both : (a b : Bool) → a && b ≡ true → (a ≡ true) × (b ≡ true)
 both true b e = (refl, e)
 both false b e = absurd (unlike (sym e))
-
-pub own_unit : (x : ℕ) → is_own x ≡ true → unit_of x ≡ defined x
-own_unit x e = go (ltb x 0x80) refl
-  where
-    go : (t : Bool) → ltb x 0x80 ≡ t → unit_of x ≡ defined x
-    go true f = let l = ltb-true x 0x80 f in low_own x (omega arith) l
-    go false f =
-        let rest : leb 0xA0 x && ltb x 0x100 ≡ true = rw f at e in
-        let parts = both (leb 0xA0 x) (ltb x 0x100) rest in
-        high_own x (ltb-true x 0x100 parts.1) (leb-true 0xA0 x parts.0)
-
-pub own_byte : (x : ℕ) → is_own x ≡ true → byte_of x ≡ defined x
-own_byte x e = back x x (own_unit x e)
 
 -- a list of such entries is mapped to itself
 pub own_mapped : (f : ℕ → Mapped) → ((x : ℕ) → is_own x ≡ true → f x ≡ defined x) → (xs : List ℕ) → all_own xs ≡ true → mapped_all f xs ≡ all xs
@@ -48,8 +34,8 @@ own_small x e = go (ltb x 0x80) refl
         let rest : leb 0xA0 x && ltb x 0x100 ≡ true = rw f at e in
         ltb-true x 0x100 (both (leb 0xA0 x) (ltb x 0x100) rest).1
 
--- ---- a unit that is not own can only be a byte's from 80 to 9F
-not_own_between : (x : ℕ) → is_own x ≡ false → x < 0x100 → (0x80 ≤ x) × (x < 0xA0)
+-- ---- a unit that is not own and below 100 is from 80 to 9F
+pub not_own_between : (x : ℕ) → is_own x ≡ false → x < 0x100 → (0x80 ≤ x) × (x < 0xA0)
 not_own_between x n h = (low (ltb x 0x80) refl, high (leb 0xA0 x) refl)
   where
     low : (t : Bool) → ltb x 0x80 ≡ t → 0x80 ≤ x
@@ -59,13 +45,3 @@ not_own_between x n h = (low (ltb x 0x80) refl, high (leb 0xA0 x) refl)
     high : (t : Bool) → leb 0xA0 x ≡ t → x < 0xA0
     high true f = absurd (unlike (sym (or-true (ltb x 0x80)) ∙ (rw (f, lt-ltb x 0x100 h) at n)))
     high false f = leb-false 0xA0 x f
-
-pub other_between : (b u : ℕ) → unit_of b ≡ defined u → is_own u ≡ false → (0x80 ≤ b) × (b < 0xA0)
-other_between b u e n = go (ltb u 0x100) refl
-  where
-    go : (t : Bool) → ltb u 0x100 ≡ t → (0x80 ≤ b) × (b < 0xA0)
-    go true f =
-        let small = ltb-true u 0x100 f in
-        let same : b ≡ u = below_own b u e small in
-        rw same (not_own_between u n small)
-    go false f = above_between b u e (ltb-false u 0x100 f)

@@ -1,4 +1,5 @@
--- What one call wrote, the other gives back: bytes after units, and units after bytes, into every output that is long enough. Assumes nothing.
+-- What one call wrote, the other gives back, into every output that is long enough: over any two mappings, and units after bytes. Bytes after units are in
+-- proofs/ThereAndBack.antt. Assumes nothing.
 use Rattle.std.proofs.Math.Path.{◌≡◌, refl, ap}
 use Rattle.std.proofs.Common.{◌∙◌, arith, take_at}
 use Rattle.std.specs.Prelude.{Bool, List, ℕ, ◌≤◌, ltb, take, drop}
@@ -7,7 +8,7 @@ use Rattle.std.proofs.Math.ListN.{length}
 use borrow.Author.Tests.{le-ltb}
 use Rattle.code_page.specs.Mapping.{Mapped, defined, unit_of, byte_of}
 use Rattle.code_page.specs.Conversion.{AllMapped, all, not_all, mapped_all, converts, with_room, conversion, after}
-use Rattle.code_page.specs.Inverse.{there, back}
+use Rattle.code_page.specs.Inverse.{there}
 use Rattle.code_page.specs.MappedLists.{all_length, mapped_back}
 
 -- over any two mappings of which the second undoes the first: one law for both ways
@@ -26,16 +27,11 @@ module _ (f g : ℕ → Mapped) (inverse : (x y : ℕ) → f x ≡ defined y →
   written : take (length xs) (after (conversion f xs (length out)) out) ≡ ys
   written = rw converted (take_at ys (drop (length ys) out) (length xs) (all_length f xs ys mapped))
 
-  undone : (room : ℕ) → length xs ≤ room → conversion g (take (length xs) (after (conversion f xs (length out)) out)) room ≡ converts xs
+  pub undone : (room : ℕ) → length xs ≤ room → conversion g (take (length xs) (after (conversion f xs (length out)) out)) room ≡ converts xs
   unfolding conversion
   undone room h =
       let long : length ys ≤ room = omega (arith, all_length f xs ys mapped) in
       rw (written, mapped_back f g inverse xs ys mapped, le-ltb room (length ys) long)
-
-module _ (bytes units out : List ℕ) (room : ℕ) (h : length bytes ≤ room) where
-  pub back_after_there : conversion unit_of bytes (length out) ≡ converts units
-      → conversion byte_of (take (length bytes) (after (conversion unit_of bytes (length out)) out)) room ≡ converts bytes
-  back_after_there e = undone unit_of byte_of back bytes units out e room h
 
 module _ (units bytes out : List ℕ) (room : ℕ) (h : length units ≤ room) where
   pub there_after_back : conversion byte_of units (length out) ≡ converts bytes

@@ -11,6 +11,7 @@ use crate::table::UNDEFINED;
 
 // The byte of a unit that is not its own byte, or 0 if there is none: among bytes 80 to 9F (hexadecimal), by 32 comparisons.
 // There is no way out before the last, so that the compiler makes many at once.
+#[tactic(auto, unfolding(crate::specs::Mapping::byte_of))]
 fn byte_80_to_9f(table: &[u16; 256], unit: u16) -> u8
     requires { (table.now ≡ cp1252) × (is_own unit ≡ false) }
     ensures { result ≡ byte_or_zero (byte_of unit) }

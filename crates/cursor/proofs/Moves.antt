@@ -1,4 +1,4 @@
--- What the proofs of the covered functions of `moved` share: a call by value, as answer and cursor, is the reading at the cursor. Assumes nothing.
+-- A call by value, as answer and cursor, is the reading at the cursor: one law over the answer's type, and the six types. Assumes nothing.
 use mathlib.Core.Path.{◌≡◌, refl, ap, ◌∙◌}
 use mathlib.Core.Bool.{Bool}
 use mathlib.Core.List.{List}

@@ -8,7 +8,7 @@ use Rattle.bitcursor.specs.Answers.{limited}
 use Rattle.loads.specs.Bits.{limit}
 use Rattle.bitcursor.proofs.Steps.{limit_within, limit_above}
 use Rattle.cursor.specs.declared.BitCursor.{BitCursor}
-use Rattle.cursor.specs.Cursors.{last_place, place_of, cursor_at, read_at, after}
+use Rattle.cursor.specs.Cursors.{last_place, place_of, cursor_at, read_at}
 
 -- a cursor made at a place stands there
 pub made_at : (p : ℕ) → p ≤ last_place → place_of (cursor_at p) ≡ p
@@ -30,18 +30,3 @@ module _ {A : Type 0} (code : Code A) (xs : List ℕ) where
       (λ (w : length xs ≤ limit). rw (limit_within code.read xs (place_of c) w) (code.grows xs (place_of c)))
       (λ (w : limit < length xs). rw (limit_above code.read xs (place_of c) w) (stay xs (place_of c)))
       (le_or_lt (length xs) limit)
-
-  -- the cursor afterwards stands at the reading's final place: behind the value, or at the refusal's place
-  pub stands_after : (c : BitCursor) → place_of (after (read_at code xs c)) ≡ place (read_at code xs c)
-  stands_after c = made_at (place (read_at code xs c)) (ends c)
-    where
-      ends : (c : BitCursor) → place (read_at code xs c) ≤ last_place
-      ends c =
-          ⊎_elim
-          (λ (w : length xs ≤ limit). let m = read_moves c in omega arith)
-          (λ (w : limit < length xs). rw (limit_above code.read xs (place_of c) w) (stands_within c))
-          (le_or_lt (length xs) limit)
-
-  -- so the next code is read where this one ended, as two calls by value do it
-  pub read_next : {B : Type 0} (next : Code B) (c : BitCursor) → read_at next xs (after (read_at code xs c)) ≡ limited next.read xs (place (read_at code xs c))
-  read_next next c = ap (limited next.read xs) (stands_after c)

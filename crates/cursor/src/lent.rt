@@ -1,5 +1,4 @@
-// Each function lends a cursor of its own to one reader of `BitCursor`, and hands back the answer and the cursor: so code that the borrow checker covers,
-// which cannot lend a struct, runs these readers.
+// Each function lends a cursor of its own to one reader of `BitCursor`, and hands back the answer and the cursor.
 ghost use Rattle.std.specs.Prelude.{◌≡◌};
 ghost use Rattle.std.specs.Float.Ieee.{to_bits};
 ghost use Rattle.std.specs.Float.{binary64};

@@ -1,6 +1,8 @@
 // A coordinate minus an origin, and the tests behind refusals 12 and 13: document 02's L1, which dwg-rs does not have and the specification does not
 // speak of. specs/Rational.antt has the exact value of a double. specs/Difference.antt promises that a difference is exact, or near, of the exact
 // values; specs/Limits.antt and specs/Upright.antt say what the two tests tell of them. Each call is there for doubles and for their 64 bits.
+#![tactic(auto)]
+
 ghost use Rattle.std.specs.Prelude.{◌≡◌, true};
 ghost use Rattle.differences.specs.Difference.{difference, difference_bits};
 ghost use Rattle.differences.specs.Limits.{is_within, is_within_bits, below};

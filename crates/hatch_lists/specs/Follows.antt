@@ -5,7 +5,6 @@ use Rattle.std.proofs.Common.{◌∙◌}
 use mathlib.Core.List.{List, [], ◌∷◌, ◌++◌, append_assoc}
 use Rattle.bitcursor.specs.Reading.{Out, got, refused, and_then}
 use Rattle.bitcursor.specs.Format.{Format, pure, ◌>>=◌, relay}
-use Rattle.hatch_format.specs.Values.{Path}
 use Rattle.hatch_format.specs.Counts.{times, times_read, summed_read}
 use Rattle.hatch_lists.specs.declared.Item.{Item}
 use Rattle.hatch_lists.specs.Items.{gathered}

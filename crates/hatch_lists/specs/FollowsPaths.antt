@@ -1,5 +1,5 @@
 -- The items of paths come one behind the other as the walk of specs/Walks has them. Assumes nothing.
-use Rattle.std.specs.Prelude.{◌≡◌, refl, Bool, ℕ, suc, ◌-◌, leb, length}
+use Rattle.std.specs.Prelude.{◌≡◌, refl, Bool, ℕ, suc, leb, length}
 use Rattle.std.proofs.Common.{sym, subst, ◌∙◌}
 use Rattle.std.proofs.Math.Path.{ap}
 use Rattle.std.proofs.Math.Bool.{true, false}

@@ -18,4 +18,3 @@ pub mod WholeLaws
 pub mod Altered
 pub mod DecodedWhole
 pub mod Coordinates
-pub mod CoordinateLaws

@@ -105,7 +105,8 @@ module _ (xs : List ℕ) (caps : Caps) where
       one_more xs (λ v. coded BD) (λ v angle. scale_on angle) (Value 0 p) e₁
       ∙ one_more xs (λ v. coded BD) double_on x₁ e₂
       ∙ bit_more xs (lines_on (value_of x₁)) x₂ e₃
-      ∙ resumed_same xs _ _
+      ∙ resumed_same xs (λ n. lines_on (value_of x₁) (value_of x₂) (eqb 1 n))
+      (λ n. bounded caps.pattern_lines BS >>= pattern_after_count (value_of x₁) (value_of x₂) (eqb 1 n))
       (λ n q. listed_row xs caps.pattern_lines BS (pattern_line caps.dashes) (takes_line caps.dashes)
       (made (value_of x₁) (value_of x₂) (eqb 1 n)) q) x₃
       ∙ one_more xs (λ v. bounded caps.pattern_lines BS) (λ v. pattern_after_count (value_of x₁) (value_of x₂) (eqb 1 v)) x₃ e₄
@@ -195,7 +196,8 @@ module _ (xs : List ℕ) (caps : Caps) where
     unfolding ending ending_read relay
     ending_row =
         one_more xs (λ v. coded (held has BD 0)) (λ v. seeds_on) (Value 0 p) e₁
-        ∙ resumed_same xs _ _ (λ pixel q. listed_row xs caps.seed_points BL point takes_point (made pixel) q) x₁
+        ∙ resumed_same xs seeds_on (λ pixel. bounded caps.seed_points BL >>= ending_after_count pixel)
+        (λ pixel q. listed_row xs caps.seed_points BL point takes_point (made pixel) q) x₁
         ∙ one_more xs (λ v. bounded caps.seed_points BL) ending_after_count x₁ e₂
       where
         made : ℕ → List Point → Format one Ending

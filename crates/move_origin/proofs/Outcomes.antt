@@ -13,7 +13,7 @@ use Rattle.hatch_lists.specs.Holding.{Holding}
 use Rattle.hatch_lists.specs.Whole.{Held, whole, not_whole, held_if, held}
 use Rattle.hatch_lists.specs.WholeLaws.{fits_fitting, held_whole}
 use Rattle.hatch_lists.specs.Coordinates.{Role, item_roles, held_roles}
-use Rattle.hatch_lists.specs.CoordinateLaws.{roles_of_items}
+use Rattle.hatch_lists.proofs.CoordinateLaws.{roles_of_items}
 use Rattle.hatch_lists.specs.Walks.{left_of}
 use Rattle.hatch_lists.specs.FollowsWhole.{items_held}
 use Rattle.whole_lists.specs.Ended.{is_held, Judges}

@@ -12,7 +12,7 @@ use Rattle.hatch_lists.specs.declared.Item.{Item}
 use Rattle.hatch_lists.specs.Items.{gathered, item_size, points_item}
 use Rattle.hatch_lists.specs.Within.{All}
 use Rattle.hatch_lists.specs.Coordinates.{Role, item_roles}
-use Rattle.hatch_lists.specs.CoordinateLaws.{item_size_lem, gathered_append}
+use Rattle.hatch_lists.proofs.CoordinateLaws.{item_size_lem, gathered_append}
 use Rattle.hatch_lists.specs.Steps.{Step as Walked, next, broken}
 use Rattle.hatch_lists.specs.Walks.{Left, prepend, end_if, finish}
 use Rattle.list_items.specs.Found.{Small}

@@ -15,7 +15,7 @@ use Rattle.hatch_lists.specs.Holding.{Holding, held_words, held_numbers, Holding
 use Rattle.hatch_lists.specs.Whole.{Whole, Fitting}
 use Rattle.hatch_lists.specs.Items.{gathered}
 use Rattle.hatch_lists.specs.Coordinates.{Role, other, others, point_roles, vertex_roles, fit_roles, edge_roles, segment_roles, path_roles, line_roles, held_roles}
-use Rattle.hatch_lists.specs.CoordinateLaws.{gathered_long, points_long, vertices_long, edge_long, path_long, line_long, roles_long}
+use Rattle.hatch_lists.proofs.CoordinateLaws.{gathered_long, points_long, vertices_long, edge_long, path_long, line_long, roles_long}
 use Rattle.moved_hatch.specs.Moving.{moved}
 use Rattle.moved_hatch.specs.MovedLists.{moved_length, moved_append, moved_others, moved_take, moved_past}
 

@@ -1,21 +1,21 @@
 -- Where a call moves, record and lists are whole, and origin and coordinates are in range. The list afterwards is whole too: it holds the moved
 -- hatch, with the same words and items, and the same numbers are coordinates. Assumes nothing.
-use Rattle.std.proofs.Math.Path.{◌≡◌, refl, ap}
+use Rattle.std.proofs.Math.Path.{◌≡◌, ap}
 use Rattle.std.proofs.Common.{sym, ap₂, subst, ◌∙◌, arith, length-take}
-use Rattle.std.specs.Prelude.{Bool, ◌&&◌, List, ◌++◌, ℕ, ◌≤◌, length, take, Float}
-use Rattle.std.proofs.Math.Bool.{true, false, and-eq-true_iff}
+use Rattle.std.specs.Prelude.{Bool, List, ◌++◌, ℕ, ◌≤◌, length, take, Float}
+use Rattle.std.proofs.Math.Bool.{true}
 use Rattle.differences.specs.Difference.{difference_bits}
 use Rattle.hatch_format.specs.Caps.{document_caps}
 use Rattle.hatch_lists.specs.declared.HatchCounts.{HatchCounts}
 use Rattle.hatch_lists.specs.declared.Item.{Item}
 use Rattle.hatch_lists.specs.Within.{All}
 use Rattle.hatch_lists.specs.Holding.{Holding, held_words}
-use Rattle.hatch_lists.specs.Whole.{Whole, Held, whole, not_whole, held}
+use Rattle.hatch_lists.specs.Whole.{Whole}
 use Rattle.hatch_lists.specs.Items.{points_item, gathered, held_items}
 use Rattle.hatch_lists.specs.Coordinates.{Role, item_roles, held_roles}
-use Rattle.hatch_lists.specs.CoordinateLaws.{roles_of_items, roles_long}
-use Rattle.hatch_lists.specs.WholeLaws.{held_whole, numbers_altered, same_words}
-use Rattle.moved_hatch.specs.Moving.{moved, all_in_range, moves, Arithmetic, patterns, judged, outcome_of, outcome, after}
+use Rattle.hatch_lists.proofs.CoordinateLaws.{roles_of_items, roles_long}
+use Rattle.hatch_lists.specs.WholeLaws.{numbers_altered, same_words}
+use Rattle.moved_hatch.specs.Moving.{moved, all_in_range, moves, Arithmetic, patterns, after}
 use Rattle.moved_hatch.specs.Doubles.{of_doubles, of_bits}
 use Rattle.moved_hatch.specs.MovedLists.{moved_length, patterns_length, same_patterns}
 use Rattle.moved_hatch.specs.MovedHatch.{moved_holding, moved_whole}
@@ -31,32 +31,6 @@ module _ {A : Type 0} (m : Arithmetic A) (c : HatchCounts) (upright : Bool) (ws 
     pub x_in_range : m.in_range x₀ ≡ true
     pub y_in_range : m.in_range y₀ ≡ true
     pub all_are_in_range : all_in_range m.in_range rs ns ≡ true
-
-  pub moves_only : (rs : List Role) → outcome m c upright ws ns x₀ y₀ ≡ moves rs → Moves rs
-  unfolding outcome
-  moves_only rs e = go (held c ws (patterns m.pattern ns)) upright refl refl e
-    where
-      go : (o : Held) (u : Bool) → held c ws (patterns m.pattern ns) ≡ o → upright ≡ u → outcome_of m o u ns x₀ y₀ ≡ moves rs → Moves rs
-      go not_whole u h k e = absurd (let z : ◌≡◌ {A = ℕ} 0 1 = cc in omega arith)
-      go (whole a) false h k e = absurd (let z : ◌≡◌ {A = ℕ} 0 1 = cc in omega arith)
-      go (whole a) true h k e = tested (m.in_range x₀ && (m.in_range y₀ && all_in_range m.in_range (held_roles a) ns)) refl e
-        where
-          tested : (t : Bool) → m.in_range x₀ && (m.in_range y₀ && all_in_range m.in_range (held_roles a) ns) ≡ t → judged (held_roles a) true t ≡ moves rs
-              → Moves rs
-          tested false i e = absurd (let z : ◌≡◌ {A = ℕ} 0 1 = cc in omega arith)
-          tested true i e =
-              let f : rs ≡ held_roles a = cc in
-              let i₁ = (and-eq-true_iff (m.in_range x₀) _).0 i in
-              let i₂ = (and-eq-true_iff (m.in_range y₀) _).0 i₁.1 in
-              record {
-                hatch = a;
-                is_whole = held_whole c ws (patterns m.pattern ns) a h;
-                roles = f;
-                is_upright = k;
-                x_in_range = i₁.0;
-                y_in_range = i₂.0;
-                all_are_in_range = ap (λ l. all_in_range m.in_range l ns) f ∙ i₂.1;
-              }
 
   -- each role has a number
   pub roles_fit : (rs : List Role) → Moves rs → length rs ≤ length ns

@@ -4,7 +4,7 @@
 #![tactic(auto)]
 
 // Why points are not moved: record and lists are not whole, the extrusion is not (0, 0, 1), or the origin or a coordinate is beyond ±2^40.
-#[derive(Drop)]
+#[derive(Clone, Copy)]
 pub enum MoveRefusal {
     ListsNotWhole,
     OtherPlane,
@@ -12,7 +12,7 @@ pub enum MoveRefusal {
 }
 
 // What a call answers; the moved numbers stand in the list.
-#[derive(Drop)]
+#[derive(Clone, Copy)]
 pub enum MoveOutcome {
     Moved,
     Refused(MoveRefusal),

@@ -1,13 +1,13 @@
 -- The coordinates of an item are those of its points and of its fit points; the numbers before and behind them are none. Assumes nothing.
 use mathlib.Core.Path.{◌≡◌, sym, ap, ap₂, subst, ◌∙◌}
-use mathlib.Core.Bool.{Bool, true, false, not, ◌&&◌, and-true, and-eq-true_iff}
+use mathlib.Core.Bool.{Bool, true, false, ◌&&◌, and-true, and-eq-true_iff}
 use mathlib.Core.List.{List, ◌++◌}
 use Prim.Native.Nat.{ℕ, ◌+◌, ◌*◌, ◌≤◌}
 use native.Mathlib.Omega.{arith}
 use lib.ListN.{length, drop, length-replicate}
 use Rattle.hatch_lists.specs.declared.Item.{Item}
 use Rattle.hatch_lists.specs.Coordinates.{Role, other, others, point_run, item_roles}
-use Rattle.hatch_lists.specs.CoordinateLaws.{run_long}
+use Rattle.hatch_lists.proofs.CoordinateLaws.{run_long}
 use Rattle.moved_hatch.specs.Moving.{all_in_range}
 use Rattle.moved_hatch.specs.Parts.{moved_from, in_range_from, Movable}
 use Rattle.point_runs.proofs.PartLaws.{others_in_range, in_range_behind, others_from, moved_from_length, moved_behind, stays_behind}
@@ -43,12 +43,12 @@ module _ (i : Item) (from : ℕ) where
             in_range_behind in_range fits_at fits (others i.behind) l
             ∙ ap (λ b. in_range_from in_range fits_at fits l && b) (others_in_range in_range i.behind _) ∙ and-true (in_range_from in_range fits_at fits l)
 
-    -- the answer for the points, and what its negation was found to be
+    -- the answer for the points, and what it was found to be
     module _ (b : Bool) (judged : b ≡ in_range_from in_range points_at points l) where
-      pub points_beyond : not b ≡ true → in_range_from in_range from (item_roles i) l ≡ false
+      pub points_beyond : b ≡ false → in_range_from in_range from (item_roles i) l ≡ false
       points_beyond t = item_in_range ∙ ap (λ c. c && in_range_from in_range fits_at fits l) (refused b t judged)
 
-      pub fits_decide : not b ≡ false → in_range_from in_range from (item_roles i) l ≡ in_range_from in_range fits_at fits l
+      pub fits_decide : b ≡ true → in_range_from in_range from (item_roles i) l ≡ in_range_from in_range fits_at fits l
       fits_decide t = item_in_range ∙ ap (λ c. c && in_range_from in_range fits_at fits l) (passed b t judged)
 
   module _ {A : Type 0} (difference : A → A → A) (x₀ y₀ : A) (two : 2 ≤ i.stride) (l : List A) (room : fits_at ≤ length l) where

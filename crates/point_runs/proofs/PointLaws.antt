@@ -1,7 +1,7 @@
 -- Points with so many numbers from each to the next: a run is judged by its first points and then by those behind them, and moved point by point.
 -- Assumes nothing.
 use mathlib.Core.Path.{◌≡◌, refl, sym, ap, ap₂, ◌∙◌}
-use mathlib.Core.Bool.{Bool, true, false, not, ◌&&◌, and-eq-true_iff, and-true}
+use mathlib.Core.Bool.{Bool, true, false, ◌&&◌, and-eq-true_iff, and-true}
 use mathlib.Core.List.{List, [], ◌∷◌, ◌++◌, append_assoc, append-nil}
 use Prim.Native.Nat.{ℕ, zero, suc, ◌+◌, ◌-◌, ◌*◌, ◌^◌, ◌≤◌, ◌<◌}
 use native.Mathlib.Nat.{sub-zero, suc-mul, add-mul, mul-le-mul_right}
@@ -12,20 +12,18 @@ use lib.ListN.{length, get_or, set, take, drop, take-append-drop, length-set, le
 use lib.Seq.{drop-cons, get_or-set_other, sets-eq, drop-set-lt}
 use Rattle.differences.specs.Limits.{below}
 use Rattle.hatch_lists.specs.Coordinates.{Role, x, y, others, point_run}
-use Rattle.hatch_lists.specs.CoordinateLaws.{run_long}
+use Rattle.hatch_lists.proofs.CoordinateLaws.{run_long}
 use Rattle.moved_hatch.specs.Moving.{moved, all_in_range}
 use Rattle.moved_hatch.specs.MovedLists.{moved_others}
 use Rattle.moved_hatch.specs.Parts.{moved_from, in_range_from}
 use Rattle.point_runs.proofs.PartLaws.{others_in_range, in_range_behind, moved_behind}
 
--- ---- what a call answered, from a test of its negation
-pub refused : (b : Bool) {c : Bool} → not b ≡ true → b ≡ c → c ≡ false
-refused true e f = sym f ∙ sym e
-refused false e f = sym f
+-- ---- what a call answered, from the test of it
+pub refused : (b : Bool) {c : Bool} → b ≡ false → b ≡ c → c ≡ false
+refused b e f = sym f ∙ e
 
-pub passed : (b : Bool) {c : Bool} → not b ≡ false → b ≡ c → c ≡ true
-passed true e f = sym f
-passed false e f = sym f ∙ sym e
+pub passed : (b : Bool) {c : Bool} → b ≡ true → b ≡ c → c ≡ true
+passed b e f = sym f ∙ e
 
 -- ---- the roles of one point, and the index of each
 abbrev a_point : ℕ → List Role

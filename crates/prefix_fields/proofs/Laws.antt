@@ -11,7 +11,7 @@ use Rattle.text.specs.declared.Source.TheVariants.{Main}
 use Rattle.text.specs.declared.Text.{Text}
 use Rattle.text.specs.declared.ReadText.{ReadText}
 use Rattle.text.specs.declared.ReadText.TheVariants.{Found, Refused}
-use Rattle.text.specs.Texts.{UnitWidth, Written, TV}
+use Rattle.text.specs.Texts.{Written, TV}
 use Rattle.text.specs.Fields.{width_by}
 use Rattle.text.specs.Answers.{as_text, placed}
 use Rattle.prefix_format.specs.Prefix.{name}

@@ -1,17 +1,17 @@
 -- The XDATA chain block by block: what its loop goes by. Assumes nothing.
 use Rattle.std.specs.Prelude.{◌≡◌, Bool, true, false, List, eqb}
 use Rattle.std.proofs.Math.Path.{refl}
-use Rattle.std.proofs.Common.{sym, ap, ◌∙◌, arith, eq-eqb, ne_eqb}
-use Prim.Native.Nat.{ℕ, zero, suc, ◌-◌, ◌<◌}
+use Rattle.std.proofs.Common.{ap, ◌∙◌, arith, eq-eqb, ne_eqb}
+use Prim.Native.Nat.{ℕ, suc, ◌-◌, ◌<◌}
 use Rattle.bitcursor.specs.declared.Refusal.{Refusal}
 use Rattle.bitcursor.specs.declared.Handle.{Handle}
 use Rattle.bitcursor.specs.declared.Refusal.TheVariants.{TooManyXdataBlocks}
 use Rattle.bitcursor.specs.Reading.{Out, got, refused, and_then}
-use Rattle.bitcursor.specs.Code.{Code, raw, give, refuse, ◌>>=◌, tabled}
+use Rattle.bitcursor.specs.Code.{Code, give, refuse, ◌>>=◌}
 use Rattle.bitcursor.specs.Bytes.{skip}
-use Rattle.bitcursor.specs.Codes.{by_tag, tagged, BS, BS_read}
+use Rattle.bitcursor.specs.Codes.{BS}
 use Rattle.bitcursor.specs.Handles.{HANDLE, checked}
-use Rattle.prefix_format.specs.Prefix.{chain, extended}
+use Rattle.prefix_format.specs.Prefix.{chain}
 
 -- one block: 0 where its size is 0, and 1 after a handle and that many bytes
 unfoldable pub block : Code ℕ

@@ -8,12 +8,13 @@ use Rattle.prefix_format.specs.declared.Outcome.TheVariants.{Read, Refused}
 use Rattle.prefix_format.specs.declared.CommonEntityBits.{CommonEntityBits}
 use Rattle.prefix_format.specs.declared.Prefix.{Prefix}
 use Rattle.prefix_format.specs.declared.PrefixBits.{PrefixBits}
-use Rattle.prefix_format.specs.Format.{prefix}
+use Rattle.prefix_format.specs.Rows.{row_of}
+use Rattle.prefix_format.specs.Prefix.{prefix_by}
 use Rattle.prefix_format.specs.Record.{zero_bits, data_of}
 
 -- the release first (9), then the limit (10), then the fields; a start past the payload is refusal 1 at that start by the first field
 unfoldable pub prefix_call : ℕ → List ℕ → ℕ → Out ℕ CommonEntityBits
-prefix_call release xs start = released (λ v. limited (prefix v).read) (version_of release) xs start
+prefix_call release xs start = released (λ v. limited (prefix_by (row_of v)).read) (version_of release) xs start
 
 abbrev pub as_bits : Out ℕ CommonEntityBits → PrefixBits
 as_bits (got d p) = record { outcome = Read; place = p; fields = d }

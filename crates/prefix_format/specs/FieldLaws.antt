@@ -4,19 +4,16 @@ use Rattle.std.proofs.Math.Path.{refl, ap, subst}
 use Rattle.std.proofs.Common.{sym, ◌∙◌}
 use Rattle.std.proofs.Math.Bool.{true, false}
 use mathlib.Core.List.{List, [], ◌∷◌}
-use Prim.Native.Nat.{ℕ, zero, suc, ◌≤◌, ◌<◌}
+use Prim.Native.Nat.{ℕ, zero, suc, ◌<◌}
 use native.Mathlib.Omega.{arith}
 use Rattle.std.proofs.Math.Dec.{eqb}
 use borrow.Author.Tests.{eqb-true, eqb-false, ne_eqb}
-use Rattle.bitcursor.specs.declared.Handle.{Handle}
 use Rattle.loads.specs.Bits.{bit}
 use Rattle.bitcursor.specs.Code.{Code, Laid, raw, give, refuse, ◌>>=◌, mapped, tabled}
 use Rattle.bitcursor.specs.Bytes.{skip}
 use Rattle.bitcursor.specs.Codes.{B, B_read, B_to, B_from, RL, BS, signed, signed_BS}
 use Rattle.bitcursor.specs.Handles.{BLL, HANDLE, checked}
 use Rattle.bitcursor.specs.Held.{held}
-use Rattle.text.specs.Texts.{Written, TV}
-use Rattle.text.specs.Fields.{width_by}
 use Rattle.bitcursor.specs.Chains.{Each, ◌⨾◌}
 use Rattle.prefix_format.specs.Layouts.{Field, Block, BlockLaid, some, XdataLaid, SizeLaid, GraphicsLaid, NameLaid}
 use Rattle.bitcursor.specs.Joins.{Coded, apart, joined, no_bits, of_no_bits}

@@ -14,7 +14,7 @@ use Rattle.text.specs.Fields.{width_by}
 use Rattle.prefix_format.specs.declared.MaybeLong.{MaybeLong}
 use Rattle.prefix_format.specs.declared.CommonEntityBits.{CommonEntityBits}
 use Rattle.prefix_format.specs.declared.table.Row.{Row}
-use Rattle.prefix_format.specs.Values.{mode_of, maybe, has_rgb, has_alpha, has_name, has_book_name}
+use Rattle.prefix_format.specs.Values.{mode_of, has_rgb, has_alpha, has_name, has_book_name}
 
 -- an XDATA block: its size in bytes and the handle before them
 pub record Block : Type 0 where

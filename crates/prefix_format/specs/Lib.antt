@@ -3,7 +3,6 @@ pub mod Values
 pub mod Layouts
 pub mod Prefix
 pub mod FieldLaws
-pub mod Format
 pub mod Record
 pub mod Call
 pub mod Demand3

@@ -1,10 +1,9 @@
 -- The entity prefix in document 01's order, as a certified code of one payload. A field that a release lacks is not read, and the
 -- value after its code stands for it. Names are inline, and only read past. Assumes nothing.
-use Rattle.std.specs.Prelude.{◌≡◌, Bool, true, not, List, [], ◌∷◌, ℕ, zero, suc, eqb, ℤ}
+use Rattle.std.specs.Prelude.{Bool, true, not, [], ◌∷◌, ℕ, zero, suc, eqb}
 use Rattle.bitcursor.specs.declared.Refusal.TheVariants.{TooManyXdataBlocks}
-use Rattle.bitcursor.specs.declared.Handle.{Handle}
 use Rattle.bitcursor.specs.Code.{Code, give, refuse, raw, ◌>>=◌, mapped}
-use Rattle.bitcursor.specs.Bytes.{low_first, skip}
+use Rattle.bitcursor.specs.Bytes.{skip}
 use Rattle.bitcursor.specs.Codes.{BB, RC, RL, BS, BL, signed}
 use Rattle.bitcursor.specs.Doubles.{BD}
 use Rattle.bitcursor.specs.Handles.{BLL, HANDLE, checked}

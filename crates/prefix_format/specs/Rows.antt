@@ -1,5 +1,5 @@
 -- Which prefix fields each release has: document 01's list, as one table of seven rows. Assumes nothing.
-use Rattle.std.specs.Prelude.{Bool, true, false, List, [], ◌∷◌, ℕ, ◌-◌, get_or}
+use Rattle.std.specs.Prelude.{Bool, true, false, List, [], ◌∷◌, ◌-◌, get_or}
 use Rattle.text.specs.declared.version.Version.{Version}
 use Rattle.text.specs.Releases.{release_number}
 use Rattle.prefix_format.specs.declared.table.Row.{Row}

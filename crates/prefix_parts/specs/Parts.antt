@@ -1,10 +1,9 @@
 -- The prefix in five parts, each field read where the one before ended: what the reader's functions compute, and that what follows a
 -- part in the definition is read behind it. Assumes nothing.
-use Rattle.std.specs.Prelude.{◌≡◌, Bool, List, ℕ}
+use Rattle.std.specs.Prelude.{◌≡◌, List, ℕ}
 use Rattle.std.proofs.Math.Path.{refl}
-use Rattle.std.proofs.Common.{sym, ap, ◌∙◌}
+use Rattle.std.proofs.Common.{◌∙◌}
 use Rattle.bitcursor.specs.declared.Read.{Read}
-use Rattle.bitcursor.specs.Reading.{Out}
 use Rattle.bitcursor.specs.Code.{Code, ◌>>=◌}
 use Rattle.bitcursor.specs.Codes.{BB, RC, RL, BS, BL}
 use Rattle.bitcursor.specs.Doubles.{BD}

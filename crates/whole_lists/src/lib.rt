@@ -15,7 +15,7 @@ use list_items::{HeadAt, ItemAt};
 
 // Where a walk stands: the next word, the next number, and what is left: parts of a path under way (its edges and its handle count), paths, and
 // pattern lines.
-#[derive(Drop)]
+#[derive(Clone, Copy)]
 pub struct Place {
     pub word: usize,
     pub number: usize,

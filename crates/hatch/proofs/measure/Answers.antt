@@ -1,0 +1,34 @@
+-- The same call over no lists, taken to be long enough.
+use mathlib.Core.Path.{sym, subst, ◌∙◌}
+use Rattle.hatch_format.specs.declared.Caps.{Caps}
+use Rattle.hatch_format.specs.Caps.{document_caps, NowhereAbove, above_itself}
+use Rattle.hatch_format.specs.HandleRule.{in_payload}
+use Rattle.hatch_format.specs.Call.{Call, none, payloads_of, starts_of, hatch_call}
+use Rattle.hatch.specs.Calls.{most}
+use Rattle.hatch.proofs.Filled.{call_by, lengths_are}
+use Rattle.hatch.proofs.measure.Goals as goal
+
+pub read_call-read-requires : goal.read_call-read-requires
+read_call-read-requires c =
+    let at-document-caps = c.document_caps in
+    subst (λ (x : Caps). NowhereAbove x document_caps) (sym at-document-caps.ensures) (above_itself document_caps)
+
+pub returns : goal.returns
+returns c =
+    let at-lengths-of = c.lengths_of in
+    let at-read-call = c.read_call-read in
+    let at-document-caps = c.document_caps in
+    let a = c.args in
+    let xs = a.main.now in
+    let d : Call = record {
+      release = a.release;
+      main = xs;
+      start = a.start;
+      strings = none;
+      caps = document_caps;
+      handles = in_payload;
+      words = most;
+      numbers = most;
+    } in
+    let h = call_by at-document-caps.ensures xs most most (payloads_of d) (starts_of d) a.release at-read-call.ensures in
+    at-lengths-of.ensures ∙ lengths_are xs (hatch_call d) at-read-call.result h.body

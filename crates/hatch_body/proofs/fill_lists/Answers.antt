@@ -1,0 +1,14 @@
+-- Empty lists stay as they are whatever is laid over them; others are walked.
+use mathlib.Core.Path.{sym, ◌∙◌}
+use Rattle.hatch_format.specs.HandleRule.{in_payload}
+use Rattle.hatch_format.specs.Patterns.{rest}
+use Rattle.hatch_body.proofs.BodyLaws.{none_laid}
+use Rattle.hatch_body.proofs.fill_lists.Goals as goal
+
+pub returns-then-none_lent : goal.returns-then-none_lent
+returns-then-none_lent c =
+    let at-if1 = c.if-none_lent in
+    let at-none-lent = c.none_lent in
+    let a = c.args in
+    none_laid ((rest a.caps in_payload a.v).read a.s.now a.at) a.numbers.now a.bits.now a.words.now
+    (sym at-none-lent.ensures ∙ at-if1.true)

@@ -1,0 +1,23 @@
+-- Each step goes on from the one before it.
+use mathlib.Core.Path.{◌≡◌, refl, sym, ap, ◌∙◌}
+use mathlib.Core.List.{List, [], ◌∷◌}
+use Prim.Native.Nat.{ℕ, ◌+◌, ◌-◌, ◌*◌, ◌^◌, ◌≤◌, ◌<◌}
+use native.Mathlib.Omega.{arith}
+use Rattle.bitcursor.specs.Held.{held}
+use Rattle.hatch_paths.specs.Splines.{spline_head}
+use Rattle.hatch_paths.proofs.edges.read_spline_head.Goals as goal
+
+pub returns : goal.returns
+unfolding spline_head held
+returns c =
+    rw (
+      c.value_of-4.ensures,
+      c.value_of-3.ensures,
+      c.value_of-2.ensures,
+      c.value_of.ensures,
+      c.then_count-controls.ensures,
+      c.then_count-knots.ensures,
+      c.then_bits-periodic.ensures,
+      c.then_bits-rational.ensures,
+      c.read_bl_u-degree.ensures,
+    )

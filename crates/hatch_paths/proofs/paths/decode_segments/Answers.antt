@@ -1,0 +1,21 @@
+-- The flags say which of the two it is.
+use mathlib.Core.Path.{◌≡◌, refl, sym, ap, ap₂, ◌∙◌}
+use mathlib.Core.List.{List, [], ◌∷◌}
+use Prim.Native.Nat.{ℕ, suc, ◌+◌, ◌-◌, ◌*◌, ◌^◌, ◌≤◌, ◌<◌}
+use native.Mathlib.Omega.{arith}
+use mathlib.Core.Bool.{Bool}
+use Rattle.hatch_paths.specs.PathWalks.{segments_walk}
+use Rattle.hatch_points.proofs.Laws.{walks_as}
+use Rattle.hatch_paths.proofs.paths.decode_segments.Goals as goal
+
+pub returns-then-polyline : goal.returns-then-polyline
+unfolding segments_walk
+returns-then-polyline c =
+    let a = c.args in walks_as c.decode_polyline_path.ensures
+    (ap (λ (b : Bool). (segments_walk a.caps a.fits b).read a.s.now a.at) (sym c.if-polyline.true))
+
+pub returns : goal.returns
+unfolding segments_walk
+returns c =
+    let a = c.args in walks_as c.decode_edge_path.ensures
+    (ap (λ (b : Bool). (segments_walk a.caps a.fits b).read a.s.now a.at) (sym c.if-polyline.false))

@@ -1,0 +1,21 @@
+-- Without colours nothing is read again.
+use mathlib.Core.Path.{◌≡◌, sym, ap, ◌∙◌}
+use native.Mathlib.Omega.{arith}
+use Rattle.hatch_record.specs.Records.{num_colors}
+use Rattle.hatch_record.proofs.RecordLaws.{plain_is, small_parts}
+use Rattle.hatch_record.proofs.bits.bits_answer.Goals as goal
+
+pub plain_bits-requires : goal.plain_bits-requires
+plain_bits-requires c =
+    let a = c.args in
+    let pre = c.requires in
+    small_parts a.main.now a.r pre
+
+pub returns : goal.returns
+returns c =
+    let at-plain-bits = c.plain_bits in
+    let at-if1 = c.if-num_colors-gt0 in
+    let at-num-colors = c.num_colors in
+    let a = c.args in
+    let none : num_colors a.r ≡ 0 = omega (arith, at-num-colors.ensures, at-if1.false) in
+    at-plain-bits.ensures ∙ plain_is a.main.now a.r none

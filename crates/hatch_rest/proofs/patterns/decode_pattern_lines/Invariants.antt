@@ -1,0 +1,12 @@
+use Prim.Native.Nat.{◌-◌}
+use native.Mathlib.Omega.{arith}
+use Rattle.hatch_rest.specs.LineGathers.{line_walk}
+use Rattle.hatch_points.specs.Lists.{lists}
+use Rattle.hatch_points.proofs.Loops.{Along, start, walk_next, walk_refuses, loop_ends, along_kept}
+use Rattle.hatch_rest.proofs.patterns.decode_pattern_lines.Given as goal
+
+abbrev pub invariant-loop-i : goal.invariant-loop-i
+invariant-loop-i l = Along (line_walk l.cap) l.s l.n l.at (lists l.initial.numbers l.initial.bits l.initial.words) l.initial.y l.i l.p (lists l.numbers l.bits l.words) l.y
+
+abbrev pub decreases-loop-i : goal.decreases-loop-i
+decreases-loop-i l = l.n - l.i

@@ -1,0 +1,10 @@
+use Prim.Native.Nat.{◌-◌}
+use Rattle.differences.specs.Difference.{difference}
+use Rattle.point_runs.proofs.PointLaws.{Moved}
+use Rattle.point_runs.proofs.move_points.Given as goal
+
+abbrev pub invariant-loop-i : goal.invariant-loop-i
+invariant-loop-i l = Moved difference l.x l.y l.stride l.initial.numbers l.from l.n l.numbers l.at l.i
+
+abbrev pub decreases-loop-i : goal.decreases-loop-i
+decreases-loop-i l = l.n - l.i
