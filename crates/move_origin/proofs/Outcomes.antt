@@ -1,6 +1,6 @@
 -- From what the tests say to the definition's outcome: whole lists hold a hatch, whose roles the walk finds; then extrusion, origin and coordinates decide.
 -- Assumes nothing.
-use mathlib.Core.Path.{◌≡◌, refl, sym, ap, ◌∙◌}
+use mathlib.Core.Path.{◌≡◌, refl, sym, ap, subst, ◌∙◌}
 use mathlib.Core.Bool.{Bool, true, false, ◌&&◌}
 use mathlib.Core.List.{List, [], ◌++◌}
 use Prim.Native.Nat.{ℕ, ◌≤◌}
@@ -16,12 +16,13 @@ use Rattle.hatch_lists.specs.Coordinates.{Role, item_roles, held_roles}
 use Rattle.hatch_lists.proofs.CoordinateLaws.{roles_of_items}
 use Rattle.hatch_lists.specs.Walks.{left_of}
 use Rattle.hatch_lists.specs.FollowsWhole.{items_held}
+use Rattle.whole_lists.specs.declared.Place.{Place}
 use Rattle.whole_lists.specs.Ended.{is_held, Judges}
 use Rattle.whole_lists.proofs.Judged.{items_walk}
 use Rattle.moved_hatch.specs.declared.MoveRefusal.TheVariants.{ListsNotWhole, OtherPlane, CoordinateOutOfRange}
 use Rattle.moved_hatch.specs.Moving.{Arithmetic, patterns, Outcome, moves, refuses, judged, outcome_of, outcome, all_in_range, moved, after}
 use Rattle.moved_hatch.specs.MovedLists.{patterns_length}
-use Rattle.moved_hatch.specs.Parts.{moved_from, in_range_from}
+use Rattle.moved_hatch.specs.Parts.{moved_from, in_range_from, Movable}
 use Rattle.move_origin.specs.Walked.{start_of, Walks, roles_in, roles_at}
 
 module _ {A : Type 0} (m : Arithmetic A) (c : HatchCounts) (ws : List ℕ) (ns : List A) where
@@ -71,6 +72,30 @@ module _ {A : Type 0} (m : Arithmetic A) (c : HatchCounts) (ws : List ℕ) (ns :
       go : (h : Held) → here ≡ h → true ≡ is_held h → Holds
       go (whole a) e k = holds_of a e
       go not_whole e k = let z : ◌≡◌ {A = ℕ} 0 1 = cc in absurd (omega arith)
+
+  -- the same of an answer that was found to be so
+  pub holds_where : {b : Bool} → Judges c ws (length ns) b → b ≡ true → Holds
+  holds_where j e = holds (subst (Judges c ws (length ns)) e j)
+
+  -- ---- the walk from a place that is the start
+  module _ {p : Place} (start : p ≡ start_of c) where
+    abbrev roles_from : Place → List Role
+    roles_from q = roles_at used_of c.numbers_used q c.num_seed_points
+
+    pub walks_from : Holds → Walks used_of (length ns) c.numbers_used p c.num_seed_points
+    walks_from h = subst (λ (q : Place). Walks used_of (length ns) c.numbers_used q c.num_seed_points) (sym start) h.walks
+
+    pub range_from : {b : Bool} → b ≡ in_range_from m.in_range p.number (roles_from p) ns → in_range_from m.in_range 0 (roles_from (start_of c)) ns ≡ b
+    range_from e = sym (e ∙ ap (λ (q : Place). in_range_from m.in_range q.number (roles_from q) ns) start)
+
+    pub movable_from : (x₀ y₀ : A) → m.in_range x₀ && m.in_range y₀ ≡ true → in_range_from m.in_range 0 (roles_from (start_of c)) ns ≡ true
+        → Movable m.in_range x₀ y₀ p.number (roles_from p) ns
+    movable_from x₀ y₀ e f =
+        subst (λ (q : Place). Movable m.in_range x₀ y₀ q.number (roles_from q) ns) (sym start) (record { origin = e; coordinates = f })
+
+    pub moved_by : (x₀ y₀ : A) {l : List A} → l ≡ moved_from m.difference x₀ y₀ p.number (roles_from p) ns
+        → l ≡ moved_from m.difference x₀ y₀ 0 (roles_from (start_of c)) ns
+    moved_by x₀ y₀ e = e ∙ ap (λ (q : Place). moved_from m.difference x₀ y₀ q.number (roles_from q) ns) start
 
   pub words_long : Holds → c.words_used ≤ length ws
   words_long h = (held_whole c ws (patterns m.pattern ns) h.hatch h.is_held_here).fits.words_long

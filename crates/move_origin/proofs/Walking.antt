@@ -17,14 +17,13 @@ use Rattle.hatch_lists.specs.Steps.{Step as Walked, next, broken}
 use Rattle.hatch_lists.specs.Walks.{Left, prepend, end_if, finish}
 use Rattle.list_items.specs.Found.{Small}
 use Rattle.whole_lists.specs.declared.Place.{Place}
-use Rattle.whole_lists.specs.declared.Step.{Step}
 use Rattle.whole_lists.specs.declared.Step.TheVariants.{Next, Broken}
 use Rattle.whole_lists.specs.Stepped.{Within, finished, left_at, walk_at, Steps}
 use Rattle.whole_lists.proofs.Loops.{sizes, Along, along_start, along_next, along_broken, along_end}
 use Rattle.moved_hatch.specs.Moving.{all_in_range}
 use Rattle.moved_hatch.specs.Parts.{moved_from, in_range_from, Movable}
 use Rattle.point_runs.proofs.PartLaws.{in_range_behind, moved_behind, moved_from_length, stays_behind}
-use Rattle.move_origin.specs.Walked.{Walks, roles_in, roles_at}
+use Rattle.move_origin.specs.Walked.{roles_in, roles_at}
 
 -- ---- the roles of the items so far are as many as their numbers
 pub roles_long : (items : List Item) → All Small items → length (gathered item_roles items) ≡ sizes items

@@ -30,7 +30,7 @@ module _ {A : Type 0} (m : Arithmetic A) (value : A → Float) (c : HatchCounts)
   abbrev pub AllWithin : Holding → Type 0
   AllWithin a = Within 40 (value x₀) × Within 40 (value y₀) × EachWithin value (held_roles a) ns
 
-  -- each answer and what it stands for
+  -- each answer and what it stands for; proofs/Answers: the outcome is one of these, and no other
   pub data Answers : Outcome → Type 0 where
     none_held : ((a : Holding) → Holds a → ⊥) → Answers (refuses ListsNotWhole)
     tilted : (a : Holding) → Holds a → upright ≡ false → Answers (refuses OtherPlane)

@@ -32,7 +32,7 @@ module _ {A : Type 0} (value : A → Float) (x₀ y₀ : A) where
   EachMoved (r ∷ rs) (a ∷ before) [] = ⊥
   EachMoved (r ∷ rs) [] afterwards = ⊥
 
--- the arithmetic of the doubles that entries are
+-- the arithmetic of the doubles that entries are; with it proofs/MovedExactly proves each entry moved so
 pub record OfValues {A : Type 0} (m : Arithmetic A) (value : A → Float) : Type 0 where
   pub subtracts : (a o : A) → value (m.difference a o) ≡ difference (value a) (value o)
   pub tests : (a : A) → m.in_range a ≡ is_within (value a)

@@ -22,7 +22,7 @@ use Rattle.moved_hatch.specs.MovedHatch.{moved_holding, moved_whole}
 use Rattle.moved_hatch.specs.MovedDoubles.{IsDouble, bits_of, moved_doubles_whole}
 
 module _ {A : Type 0} (m : Arithmetic A) (c : HatchCounts) (upright : Bool) (ws : List ℕ) (ns : List A) (x₀ y₀ : A) where
-  -- the hatch that is moved, and what was tested
+  -- the hatch that is moved, and what was tested; proofs/Moves: where a call moves, these are there
   pub record Moves (rs : List Role) : Type 0 where
     pub hatch : Holding
     pub is_whole : Whole c ws (patterns m.pattern ns) hatch

@@ -1,0 +1,102 @@
+-- The coordinates so far are moved, item by item, and those left are in range still; at the end of the walk only the seed points are left, and they
+-- are moved last.
+use mathlib.Core.Path.{sym, ap, subst, ◌∙◌}
+use Prim.Native.Nat.{◌≤◌}
+use native.Mathlib.Omega.{arith}
+use lib.ListN.{length}
+use Rattle.hatch_lists.specs.declared.Item.{Item}
+use Rattle.hatch_lists.specs.Items.{item_size}
+use Rattle.hatch_lists.specs.Coordinates.{item_roles}
+use Rattle.list_items.specs.Found.{Small}
+use Rattle.whole_lists.specs.Stepped.{Steps}
+use Rattle.moved_hatch.specs.Parts.{moved_from, Movable}
+use Rattle.differences.specs.Difference.{difference_bits}
+use Rattle.differences.specs.Limits.{is_within_bits}
+use Rattle.point_runs.proofs.PartLaws.{moved_from_length}
+use Rattle.move_origin.proofs.Walking.{moved_start, moved_next, moved_end, moved_long, never_broken, seeds_room, seeds_small}
+use Rattle.move_origin.proofs.Walking.{movable_next, movable_end}
+use Rattle.move_origin.proofs.bits.move_all.Goals as goal
+
+pub loop-i-init : goal.loop-i-init
+loop-i-init c =
+    let a = c.args in
+    moved_start difference_bits a.x a.y a.words.now a.used a.bits.now a.from c.requires.0.within
+
+pub is_finished-requires : goal.is_finished-requires
+is_finished-requires c = tt
+
+pub next_item-requires : goal.next_item-requires
+next_item-requires c =
+    (c.loop-i.invariant.along.within, sym c.is_finished.ensures ∙ c.loop-i-test.true)
+
+pub move_item_bits-requires : goal.move_item_bits-requires
+move_item_bits-requires c =
+    let a = c.args in
+    let s = subst (Steps a.words.now a.used c.loop-i.at) c.in-Next.is c.next_item.ensures in
+    let on = s.onward in
+    let long = moved_long difference_bits a.x a.y a.words.now a.used a.bits.now c.loop-i.invariant in
+    let room : a.from.number ≤ length a.bits.now = omega (arith, c.requires.0.within.number, c.requires.0.room) in (
+      on.3,
+      omega (arith, on.2, on.1.number, c.requires.0.room, long),
+      movable_next is_within_bits difference_bits a.x a.y a.words.now a.used a.bits.now a.seeds room c.requires.0.ends
+          c.loop-i.invariant c.requires.1 s,
+    )
+
+pub loop-i-smaller : goal.loop-i-smaller
+loop-i-smaller c =
+    let a = (c).args in
+    let s = subst (Steps a.words.now a.used c.loop-i.at) c.in-Next.is c.next_item.ensures in
+    omega (arith, s.onward.0, s.onward.1.word)
+
+pub loop-i-preserved : goal.loop-i-preserved
+loop-i-preserved c =
+    let a = c.args in
+    let s = subst (Steps a.words.now a.used c.loop-i.at) c.in-Next.is c.next_item.ensures in
+    let room : a.from.number ≤ length a.bits.now = omega (arith, c.requires.0.within.number, c.requires.0.room) in
+    moved_next difference_bits a.x a.y a.words.now a.used a.bits.now room c.loop-i.invariant s c.move_item_bits.ensures
+
+pub shape_of-bits-in-Broken : goal.shape_of-bits-in-Broken
+shape_of-bits-in-Broken c =
+    let a = c.args in
+    moved_long difference_bits a.x a.y a.words.now a.used a.bits.now c.loop-i.invariant
+
+pub returns-in-Broken : goal.returns-in-Broken
+returns-in-Broken c =
+    let a = c.args in
+    let s = subst (Steps a.words.now a.used c.loop-i.at) c.in-Broken.is c.next_item.ensures in
+    never_broken a.words.now a.used a.seeds a.from c.loop-i.invariant.along c.requires.0.ends s
+
+pub seeds_item-requires : goal.seeds_item-requires
+seeds_item-requires c = tt
+
+pub move_item_bits-requires-2 : goal.move_item_bits-requires-2
+move_item_bits-requires-2 c =
+    let a = c.args in
+    let all = sym c.is_finished.ensures ∙ c.loop-i-test.false in
+    let room = seeds_room a.words.now a.used a.seeds a.from c.loop-i.invariant.along c.requires.0.ends all in
+    let long = moved_long difference_bits a.x a.y a.words.now a.used a.bits.now c.loop-i.invariant in
+    let is = c.seeds_item.ensures in
+    let first : a.from.number ≤ length a.bits.now = omega (arith, c.requires.0.within.number, c.requires.0.room) in (
+      subst Small (sym is) (seeds_small a.seeds c.requires.0.few),
+      omega (arith, ap item_size is, room, c.requires.0.room, long),
+      subst (λ (i : Item). Movable is_within_bits a.x a.y c.loop-i.at.number (item_roles i) c.loop-i.bits) (sym is)
+          (movable_end is_within_bits difference_bits a.x a.y a.words.now a.used a.bits.now a.seeds first c.requires.0.ends
+          c.loop-i.invariant c.requires.1 all),
+    )
+
+pub returns : goal.returns
+returns c =
+    let a = c.args in
+    let all = sym c.is_finished.ensures ∙ c.loop-i-test.false in
+    let room : a.from.number ≤ length a.bits.now = omega (arith, c.requires.0.within.number, c.requires.0.room) in
+    let seeds = ap (λ (i : Item). moved_from difference_bits a.x a.y c.loop-i.at.number (item_roles i) c.loop-i.bits)
+    c.seeds_item.ensures in
+    moved_end difference_bits a.x a.y a.words.now a.used a.bits.now a.seeds room c.requires.0.ends c.loop-i.invariant all
+    (c.move_item_bits-2.ensures ∙ seeds)
+
+pub shape_of-bits : goal.shape_of-bits
+shape_of-bits c =
+    let a = c.args in
+    ap length c.move_item_bits-2.ensures
+    ∙ moved_from_length difference_bits a.x a.y c.loop-i.at.number (item_roles c.seeds_item.result) c.loop-i.bits
+    ∙ moved_long difference_bits a.x a.y a.words.now a.used a.bits.now c.loop-i.invariant
