@@ -13,7 +13,7 @@ use Rattle.loads.specs.BitLaws.{length_digits, number_digits, digits_number, num
 use Rattle.loads.specs.BitLaws.{stands_fits, stands_window, stands_none, stands_join, stands_left, stands_right}
 use Rattle.loads.specs.BitLaws.{alike_down, alike_window, begins_size, begins_window}
 use Rattle.bitcursor.specs.Refusals.{OfFields}
-use Rattle.bitcursor.specs.Reading.{Out, got, refused, place, and_then, never, missing, Lacking, short_then, then_why, then_longer, lacking_on, Fielded}
+use Rattle.bitcursor.specs.Reading.{Out, got, refused, place, and_then, never, missing, Lacking, short_of, short_why, short_longer, lacking_on, Fielded}
 use Rattle.bitcursor.specs.Reading.{then_fielded}
 
 -- from p to q the payload is not gone back in, and is not left by a place that is in it
@@ -142,11 +142,11 @@ module _ {A B : Type 0} where
         complete = λ xs b p q l. join_complete f g xs b p q l;
         grows = λ xs p. join_grows f g xs p (f.read xs p) (f.grows xs p);
         frame = λ xs ys p h. join_frame f g xs ys (f.read xs p) (f.read ys p) (f.frame xs ys p) h;
-        short = λ xs p. short_then (f.read xs p) (f.short xs p) (λ a r. (g a).short xs r);
+        short = λ xs p. short_of (f.read xs p) (f.short xs p) (λ a r. (g a).short xs r);
         why = λ xs p e.
-            then_why (f.short xs p) (λ a r. (g a).short xs r) (λ a r. (g a).read xs r) (f.read xs p) (f.why xs p) (λ a r. (g a).why xs r) e;
+            short_why (f.short xs p) (λ a r. (g a).short xs r) (λ a r. (g a).read xs r) (f.read xs p) (f.why xs p) (λ a r. (g a).why xs r) e;
         longer = λ xs ys p h e.
-            then_longer (f.short xs p) (λ a r. (g a).short xs r) (λ a r. (g a).read xs r) (f.read xs p) (f.read ys p)
+            short_longer (f.short xs p) (λ a r. (g a).short xs r) (λ a r. (g a).read xs r) (f.read xs p) (f.read ys p)
             (λ a r. (g a).read ys r) (f.why xs p) (f.longer xs ys p h) (λ a r. (g a).longer xs ys r h) e;
         fielded = λ xs p. then_fielded (f.read xs p) (λ a r. (g a).read xs r) (f.fielded xs p) (λ a r. (g a).fielded xs r);
       }

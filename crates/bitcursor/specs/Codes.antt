@@ -134,7 +134,7 @@ BS = tabled BS_read BS_codes BS_to BS_from
 unfoldable pub signed_BS : Code ℤ
 signed_BS = mapped (signed 16) BS
 
--- BL, the bit long: 00 four bytes, 01 one byte, 10 is 0, 11 refused
+-- BL, the bit long: 00 four bytes, 01 one byte, 10 is 0, 11 refused. That its codes are those of the table is `BL_to` and `BL_from` of proofs/Longs
 pub data BL_codes : ℕ → List Bool → Type 0 where
   BL_00 : {v : ℕ} → v < 2 ^ 32 → BL_codes v (O ∷ O ∷ bits_of (low_bytes 4 v))
   BL_01 : {v : ℕ} → v < 2 ^ 8 → BL_codes v (O ∷ I ∷ bits_of (low_bytes 1 v))
@@ -143,24 +143,8 @@ pub data BL_codes : ℕ → List Bool → Type 0 where
 unfoldable pub BL_read : Code ℕ
 BL_read = tagged (low_first 4) (low_first 1) (give 0) (refuse ReservedTag tt)
 
-pub BL_to : (v : ℕ) (cs : List Bool) → BL_read.codes v cs → BL_codes v cs
-unfolding BL_read low_first tabled give refuse
-BL_to v cs l = go cs (tagged_to _ _ _ _ v cs l)
-  where
-    go : (cs : List Bool) → Tagged (low_first 4) (low_first 1) (give 0) (refuse ReservedTag tt) v cs → BL_codes v cs
-    go cs (at_00 m) = rw m.1 (BL_00 m.0)
-    go cs (at_01 m) = rw m.1 (BL_01 m.0)
-    go cs (at_10 m) = rw (m.0, m.1) BL_10
-    go cs (at_11 m) = absurd m
-
-pub BL_from : (v : ℕ) (cs : List Bool) → BL_codes v cs → BL_read.codes v cs
-unfolding BL_read low_first tabled give
-BL_from v cs (BL_00 h) = tagged_from _ _ _ _ v cs (at_00 (h, refl))
-BL_from v cs (BL_01 h) = tagged_from _ _ _ _ v cs (at_01 (h, refl))
-BL_from v cs BL_10 = tagged_from _ _ _ _ v cs (at_10 (refl, refl))
-
 unfoldable pub BL : Code ℕ
-BL = tabled BL_read BL_codes BL_to BL_from
+BL = BL_read
 
 unfoldable pub signed_BL : Code ℤ
 signed_BL = mapped (signed 32) BL

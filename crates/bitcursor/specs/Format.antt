@@ -7,7 +7,7 @@ use Rattle.std.proofs.Common.{sym, ap₂}
 use Rattle.std.proofs.Math.Path.{ap}
 use Rattle.bitcursor.specs.declared.Refusal.{Refusal}
 use Rattle.bitcursor.specs.Refusals.{OfFields}
-use Rattle.bitcursor.specs.Reading.{Out, got, refused, place, and_then, never, Lacking, short_then, then_why, then_longer, Fielded, then_fielded}
+use Rattle.bitcursor.specs.Reading.{Out, got, refused, place, and_then, never, Lacking, short_of, short_why, short_longer, Fielded, then_fielded}
 use Rattle.bitcursor.specs.Code.{never_true}
 
 -- what a format reads from, and the places in it: `Onward γ p q`, no payload is gone back in from p to q, nor left by a place that is in
@@ -104,11 +104,11 @@ module _ {M : Input} {A B : Type 0} where
         complete = λ γ b p q l. rw (f.complete γ l.0 p l.1 l.2) ((g l.0).complete γ b l.1 q l.3);
         grows = λ γ p. bind_grows f g γ p (f.read γ p) (f.grows γ p);
         frame = λ γ δ p h. bind_frame f g γ δ (f.read γ p) (f.read δ p) (f.frame γ δ p) h;
-        short = λ γ p. short_then (f.read γ p) (f.short γ p) (λ a r. (g a).short γ r);
+        short = λ γ p. short_of (f.read γ p) (f.short γ p) (λ a r. (g a).short γ r);
         why = λ γ p e.
-            then_why (f.short γ p) (λ a r. (g a).short γ r) (λ a r. (g a).read γ r) (f.read γ p) (f.why γ p) (λ a r. (g a).why γ r) e;
+            short_why (f.short γ p) (λ a r. (g a).short γ r) (λ a r. (g a).read γ r) (f.read γ p) (f.why γ p) (λ a r. (g a).why γ r) e;
         longer = λ γ δ p h e.
-            then_longer (f.short γ p) (λ a r. (g a).short γ r) (λ a r. (g a).read γ r) (f.read γ p) (f.read δ p)
+            short_longer (f.short γ p) (λ a r. (g a).short γ r) (λ a r. (g a).read γ r) (f.read γ p) (f.read δ p)
             (λ a r. (g a).read δ r) (f.why γ p) (f.longer γ δ p h) (λ a r. (g a).longer γ δ r h) e;
         fielded = λ γ p. then_fielded (f.read γ p) (λ a r. (g a).read γ r) (f.fielded γ p) (λ a r. (g a).fielded γ r);
       }

@@ -4,7 +4,7 @@ use Rattle.std.proofs.Common.{subst, ◌∙◌, lt_of_lt_of_le, pow-suc, arith, 
 use Rattle.bitcursor.specs.Reading.{got}
 use Rattle.bitcursor.specs.Code.{Code, raw, tabled}
 use Rattle.bitcursor.specs.Bytes.{low_first, high_first}
-use Rattle.bitcursor.specs.Codes.{BS, BS_codes, BS_00, BS_01, BS_10, BS_11, BL, BL_codes, BL_00, BL_01, BL_10}
+use Rattle.bitcursor.specs.Codes.{BS, BS_codes, BS_00, BS_01, BS_10, BS_11}
 use Rattle.bitcursor.specs.Doubles.{BD, BD_codes, BD_00, BD_01, BD_10, DD, DD_codes, DD_00, DD_01, DD_10, DD_11}
 use Rattle.bitcursor.specs.declared.Handle.{Handle}
 use Rattle.bitcursor.specs.Handles.{BLL, BLL_codes, BLL_of, HANDLE, HANDLE_codes, HANDLE_of}
@@ -44,15 +44,6 @@ BS_below v cs l = go v cs l
     go v cs (BS_01 h) = omega arith
     go v cs BS_10 = omega arith
     go v cs BS_11 = omega arith
-
-pub BL_below : Below (2 ^ 32) BL
-unfolding BL tabled
-BL_below v cs l = go v cs l
-  where
-    go : (v : ℕ) (cs : List Bool) → BL_codes v cs → v < 2 ^ 32
-    go v cs (BL_00 h) = h
-    go v cs (BL_01 h) = omega arith
-    go v cs BL_10 = omega arith
 
 pub BD_below : Below (2 ^ 64) BD
 unfolding BD tabled

@@ -58,17 +58,22 @@ module _ {P : Type 0} where
   short_then (got a q) short second = second a q
   short_then (refused n q) short second = short
 
+  -- the same by one split, as readings in a row have it; proofs/Shorts says that it is `short_then`
+  abbrev pub short_of : {A : Type 0} → Out P A → Bool → (A → P → Bool) → Bool
+  short_of (got a q) short second = second a q
+  short_of (refused n q) short second = short
+
   module _ {A B : Type 0} (short : Bool) (second : A → P → Bool) (k : A → P → Out P B) where
-    pub then_why : (o : Out P A) → (short ≡ true → Lacking o) → ((a : A) (q : P) → second a q ≡ true → Lacking (k a q))
-        → short_then o short second ≡ true → Lacking (and_then o k)
-    then_why (got a q) first why e = why a q e
-    then_why (refused n q) first why e = first e
+    pub short_why : (o : Out P A) → (short ≡ true → Lacking o) → ((a : A) (q : P) → second a q ≡ true → Lacking (k a q))
+        → short_of o short second ≡ true → Lacking (and_then o k)
+    short_why (got a q) first why e = why a q e
+    short_why (refused n q) first why e = first e
 
     -- what the longer payload reads, o' and then k', where neither was short
-    pub then_longer : (o o' : Out P A) (k' : A → P → Out P B) → (short ≡ true → Lacking o) → (short ≡ false → o' ≡ o)
-        → ((a : A) (q : P) → second a q ≡ false → k' a q ≡ k a q) → short_then o short second ≡ false → and_then o' k' ≡ and_then o k
-    then_longer (got a q) o' k' why first same e = ap (λ (o : Out P A). and_then o k') (first (got_enough {o = got a q} short why refl)) ∙ same a q e
-    then_longer (refused n q) o' k' why first same e = rw (first e)
+    pub short_longer : (o o' : Out P A) (k' : A → P → Out P B) → (short ≡ true → Lacking o) → (short ≡ false → o' ≡ o)
+        → ((a : A) (q : P) → second a q ≡ false → k' a q ≡ k a q) → short_of o short second ≡ false → and_then o' k' ≡ and_then o k
+    short_longer (got a q) o' k' why first same e = ap (λ (o : Out P A). and_then o k') (first (got_enough {o = got a q} short why refl)) ∙ same a q e
+    short_longer (refused n q) o' k' why first same e = rw (first e)
 
   -- a refusal stays one, whatever would have followed a value
   pub lacking_on : {A B : Type 0} (k : A → P → Out P B) (o : Out P A) → Lacking o → Lacking (and_then o k)

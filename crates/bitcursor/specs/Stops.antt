@@ -194,7 +194,7 @@ abbrev pub Reserved : Stop
 Reserved = Or AfterBytes (AtPlace ReservedTag)
 
 pub BL_stops : Stops BL (Behind 2 Reserved)
-unfolding BL tabled BL_read tagged
+unfolding BL BL_read tagged
 BL_stops =
     stops_behind 2 _ Reserved
     (stops_tag (low_first 4) (low_first 1) (give 0) (refuse ReservedTag tt) Reserved

@@ -1,7 +1,7 @@
 -- What a case shows: the numbers of a reading with its final places, or a refusal's number and places; and the one proof that a
 -- table of cases holds, by a test that computes over all its rows. Assumes nothing.
 use Rattle.std.specs.Prelude.{◌≡◌, refl, Bool, true, false, ◌&&◌, List, [], ◌∷◌, ℕ, T, eqb, ℤ, pos, negsuc}
-use Rattle.std.proofs.Common.{ap, ap₂, ◌∙◌, eqb→eq}
+use Rattle.std.proofs.Common.{ap, ap₂, eqb→eq}
 use Rattle.bitcursor.specs.Reading.{Out, got, refused}
 use Rattle.bitcursor.specs.Refusals.{refusal_number}
 use Rattle.bitcursor.specs.Inputs.{Places}

@@ -19,7 +19,6 @@ use Rattle.text.specs.TextField.{has_reader, TV_field, TV_read as TV_field_read}
 use Rattle.text.specs.Answers.{released, inline_text, reader_text}
 use Rattle.prefix_format.specs.declared.CommonEntityBits.{CommonEntityBits}
 use Rattle.prefix_format.specs.Prefix.{chain, extended, graphics_block, graphics, name, prefix_by}
-use Rattle.prefix_format.specs.Format.{prefix}
 use Rattle.prefix_format.specs.Call.{prefix_call}
 use Rattle.hatch_format.specs.Values.{Body}
 use Rattle.hatch_format.specs.Counts.{summed, times_read, times, capped_read, capped, bounded_read, bounded, counted}
@@ -93,7 +92,7 @@ unfolding cases padded_cases start_cases all_same
     pure refuse_format bind_format peek relay either part_in at_least
     reader_text inline_text units units_read checked_units released TV TV_read TV_field TV_field_read has_reader reader_text_format from_reader past_end room_for
     here inline
-    prefix_call prefix prefix_by extended chain graphics graphics_block name
+    prefix_call prefix_by extended chain graphics graphics_block name
     call_on hatch hatch_read plane plane_read gradient gradient_read block block_read color color_read rest rest_read tail tail_read ending ending_read
     pattern pattern_read pattern_line pattern_line_read paths path path_read segments segments_read handle_count handle_count_read edge edge_read
     edge_of spline_edge spline_read spline_counts spline_controls spline_lists fits fits_read fitted_by arc_edge arc_read ellipse_edge ellipse_read

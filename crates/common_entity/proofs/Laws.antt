@@ -5,7 +5,6 @@ use Rattle.bitcursor.specs.Reading.{Out, got}
 use Rattle.prefix_format.specs.declared.EntityMode.TheVariants.{Reserved}
 use Rattle.prefix_format.specs.declared.Outcome.TheVariants.{Read}
 use Rattle.prefix_format.specs.declared.CommonEntityBits.{CommonEntityBits}
-use Rattle.prefix_format.specs.declared.PrefixBits.{PrefixBits}
 use Rattle.prefix_format.specs.Values.{mode_of}
 use Rattle.prefix_format.specs.Call.{as_bits}
 

@@ -1,15 +1,15 @@
 -- The five parts together read what the prefix's definition reads, and their numbers are as the record asks. Assumes nothing.
-use Rattle.std.specs.Prelude.{◌≡◌, Bool, false, List, ℕ, ◌*◌, ◌^◌, ◌<◌, ◌≤◌}
+use Rattle.std.specs.Prelude.{◌≡◌, Bool, List, ℕ, ◌*◌, ◌^◌, ◌<◌, ◌≤◌}
 use Rattle.std.proofs.Math.Path.{refl}
-use Rattle.std.proofs.Common.{sym, ap, ◌∙◌, lt_of_lt_of_le, arith, pow_pos, pow_mono}
+use Rattle.std.proofs.Common.{◌∙◌, lt_of_lt_of_le, arith, pow_pos, pow_mono}
 use Rattle.std.proofs.Math.Bool.{true}
 use Rattle.bitcursor.specs.declared.Read.{Read}
 use Rattle.bitcursor.specs.declared.Read.TheVariants.{Value, Refused}
 use Rattle.bitcursor.specs.declared.Refusal.{Refusal}
-use Rattle.bitcursor.specs.Reading.{Out, got, refused}
+use Rattle.bitcursor.specs.Reading.{got, refused}
 use Rattle.bitcursor.specs.Answers.{as_read}
 use Rattle.bitcursor.specs.Doubles.{BD}
-use Rattle.bitcursor.specs.Code.{Code, raw, give, ◌>>=◌}
+use Rattle.bitcursor.specs.Code.{raw, give}
 use Rattle.bitcursor.specs.Bytes.{low_first}
 use Rattle.bitcursor.specs.Codes.{BB, RC, RL, BS, BL}
 use Rattle.bitcursor.specs.Ranges.{bytes_pow, raw_below, low_below, BS_below, BL_below}

@@ -1,5 +1,1 @@
 pub mod TextByValue
-pub mod Asked
-pub mod Tokens
-pub mod Loans
-pub mod Questions

@@ -1,5 +1,5 @@
 // A string reader that keeps its payload, from text to text: src/string_stream.rs of dwg-rs; section 19.1 of the ODA's specification.
-// Each function takes the reader apart and calls a covered one with the payload and the numbers.
+// Each function takes the reader apart and calls one by value with the payload and the numbers.
 // specs/ promises, for every reader and every payload: the answer of the call by value, and the place where that call ends.
 #![tactic(auto)]
 
@@ -12,7 +12,7 @@ use text::{ReadText, Text};
 pub mod readings;
 
 // The payload, the bit at which the next text starts, and the end bit. Any two numbers are allowed, past the payload too.
-#[derive(Drop)]
+#[derive(Clone, Copy)]
 pub struct StringReader<'a> {
     pub payload: &'a [u8],
     pub place: usize,
@@ -20,34 +20,34 @@ pub struct StringReader<'a> {
 }
 
 // Whether a reader was made.
-#[derive(Drop)]
+#[derive(Clone, Copy)]
 pub enum AnswerStart {
     Opened,
     Refused(Refusal),
 }
 
 // A text, or why there is none: the reader has the place.
-#[derive(Drop)]
+#[derive(Clone, Copy)]
 pub enum AnswerText {
     Found(Text),
     Refused(Refusal),
 }
 
 // What `StringReader::new` gives; on a refusal the reader stands at the refusal's place.
-#[derive(Drop)]
+#[derive(Clone, Copy)]
 pub struct Opening<'a> {
     pub answer: AnswerStart,
     pub reader: StringReader<'a>,
 }
 
 // An answer and the place afterwards.
-#[derive(Drop)]
+#[derive(Clone, Copy)]
 pub struct MovedStart {
     pub answer: AnswerStart,
     pub place: usize,
 }
 
-#[derive(Drop)]
+#[derive(Clone, Copy)]
 pub struct MovedText {
     pub answer: AnswerText,
     pub place: usize,

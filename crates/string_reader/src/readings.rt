@@ -1,12 +1,12 @@
-// One text read by a string reader made for it, with every question to the reader: code that the borrow checker covers, which can hold no
-// struct with a slice in it, runs the reader so, from place to place.
+// One text read by a string reader made for it, with every question to the reader: a caller that keeps no reader runs it so, from place to
+// place.
 ghost use Rattle.std.specs.Prelude.{◌≡◌};
 ghost use Rattle.string_reader.specs.Readers.{next_text};
 
 use crate::{AnswerStart, AnswerText, StringReader};
 
 // Whether the reader was made, its text, and what it says afterwards.
-#[derive(Drop)]
+#[derive(Clone, Copy)]
 pub struct NextText {
     pub start: AnswerStart,
     pub text: AnswerText,
