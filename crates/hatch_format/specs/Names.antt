@@ -9,7 +9,8 @@ use Rattle.bitcursor.specs.Fields.{bytes_in}
 use Rattle.text.specs.declared.Text.{Text}
 use Rattle.text.specs.declared.version.Version.{Version}
 use Rattle.text.specs.Releases.{release_number}
-use Rattle.text.specs.Padding.{Padding, text_payload, text_padding}
+use Rattle.text.specs.Padding.{Padding, text_payload}
+use Rattle.text.proofs.PaddedTexts.{text_padding}
 use Rattle.hatch_format.specs.declared.Caps.{Caps}
 use Rattle.hatch_format.specs.HandleRule.{Handles}
 use Rattle.hatch_format.specs.Values.{Block, Gradient, no_text, no_gradient, shown, Body}

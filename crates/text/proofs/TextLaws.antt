@@ -20,7 +20,7 @@ use Rattle.text.specs.declared.ReadText.TheVariants.{Found, Refused}
 use Rattle.text.specs.Units.{units, units_at, units_there, units_short}
 use Rattle.text.specs.Utf16.{paired_from}
 use Rattle.text.specs.Texts.{UnitWidth, wide, unit_bytes, unclosed, ends_in_zero, valid}
-use Rattle.text.specs.UnitsLeft.{unclosed_units}
+use Rattle.text.proofs.UnitsLeft.{unclosed_units}
 use Rattle.text.specs.Fields.{text_at}
 use Rattle.text.specs.Answers.{as_text, units_text}
 use Rattle.text.proofs.UnitLaws.{count_left}

@@ -14,7 +14,7 @@ use Rattle.loads.specs.Bytes.{low_number, bytes_at}
 use Rattle.text.specs.Units.{units_at}
 use Rattle.text.specs.Utf16.{high, low, paired_from}
 use Rattle.text.specs.Texts.{unclosed, ends_in_zero}
-use Rattle.text.specs.UnitsLeft.{length_units, units_left}
+use Rattle.text.proofs.UnitsLeft.{length_units, units_left}
 
 -- each of n units lies within what they have
 pub unit_within : (k n : ℕ) {i room : ℕ} → i < n → 8 * (k * n) ≤ room → 8 * (k * (i + 1)) ≤ room

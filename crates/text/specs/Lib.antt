@@ -2,7 +2,6 @@ pub mod Releases
 pub mod Units
 pub mod Utf16
 pub mod Texts
-pub mod UnitsLeft
 pub mod Parts
 pub mod Fields
 pub mod Answers

@@ -44,7 +44,7 @@ module _ (w : UnitWidth) (xs : List ℕ) (n r : ℕ) {l : List ℕ} {s : ℕ} (e
 
 module _ (w : UnitWidth) (xs : List ℕ) (p : ℕ) where
   pub parts : (u : Written) (s : ℕ) → (TV w).read xs p ≡ got u s → Parts w xs p u s
-  unfolding TV tabled TV_read ◌>>=◌ measured checked_units checked give refuse
+  unfolding TV TV_read ◌>>=◌ measured checked_units checked give refuse
   parts u s e = from_length (BS.read xs p) refl e
     where
       judge : (n r : ℕ) (l : List ℕ) (t : ℕ) → BS.read xs p ≡ got n r → (units (unit_bytes w) n).read xs r ≡ got l t → (b : Bool)
@@ -76,6 +76,6 @@ module _ (w : UnitWidth) (xs : List ℕ) (p : ℕ) where
 
   -- the text from its parts
   pub join : {u : Written} {s : ℕ} → Parts w xs p u s → (TV w).read xs p ≡ got u s
-  unfolding TV tabled TV_read ◌>>=◌ measured
+  unfolding TV TV_read ◌>>=◌ measured
   join {u} {s} t =
       rw (t.length_code, t.units_read) (checked_got (t.r - p) t.units_laid s t.valid_units ∙ ap (λ (v : Written). got v s) (sym t.whole))

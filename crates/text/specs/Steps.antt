@@ -42,11 +42,11 @@ module _ (source : Source) (w : UnitWidth) (xs : List ℕ) (at p : ℕ) (on : at
 module _ (w : UnitWidth) (xs : List ℕ) (at : ℕ) where
   pub inline_got : {n p : ℕ} → BS.read xs at ≡ got n p → at ≤ p
       → placed Main w at ((TV w).read xs at) ≡ units_text Main w p ((units (unit_bytes w) n).read xs p)
-  unfolding TV tabled TV_read ◌>>=◌ measured
+  unfolding TV TV_read ◌>>=◌ measured
   inline_got {n} {p} e on = rw e (inline_rest Main w xs at p on ((units (unit_bytes w) n).read xs p))
 
   pub inline_refused : {r : Refusal} {p : ℕ} → BS.read xs at ≡ refused r p → placed Main w at ((TV w).read xs at) ≡ refused r p
-  unfolding TV tabled TV_read ◌>>=◌ measured
+  unfolding TV TV_read ◌>>=◌ measured
   inline_refused e = rw e
 
 -- ---- text from a reader, step by step
