@@ -1,6 +1,6 @@
 -- A body's layout begins within its payload: its first field is a code of two bits at least. Assumes nothing.
-use Rattle.std.specs.Prelude.{◌≡◌, Bool, true, false, List, ℕ, ◌+◌, ◌*◌, ◌≤◌, ◌<◌, max, leb}
-use Rattle.std.proofs.Common.{sym, ap, subst, arith}
+use Rattle.std.specs.Prelude.{Bool, true, false, List, ℕ, ◌<◌, leb}
+use Rattle.std.proofs.Common.{subst, arith}
 use Rattle.loads.specs.Bits.{size}
 use Rattle.bitcursor.specs.Codes.{BL}
 use Rattle.bitcursor.specs.Doubles.{BD}
@@ -11,8 +11,8 @@ use Rattle.text.specs.declared.version.Version.{Version}
 use Rattle.text.specs.Releases.{release_number}
 use Rattle.hatch_format.specs.declared.Caps.{Caps}
 use Rattle.hatch_format.specs.HandleRule.{Handles}
-use Rattle.hatch_format.specs.Values.{Plane, Gradient, Body}
-use Rattle.hatch_format.specs.Layouts.{InMain, PlaneLaid, GradientLaid, BodyLaid}
+use Rattle.hatch_format.specs.Values.{Body}
+use Rattle.hatch_format.specs.Layouts.{GradientLaid, BodyLaid}
 use Rattle.hatch_format.specs.Takes.{moved, takes_BL, takes_BD}
 
 pub BL_begins : (xs : List ℕ) (n p q : ℕ) → Coded xs BL n p q → p < size xs

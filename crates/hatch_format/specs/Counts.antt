@@ -1,17 +1,16 @@
 -- Items one behind the other, and counts of them. Assumes nothing.
 use Rattle.std.specs.Prelude.{◌≡◌, Bool, length}
 use Rattle.std.proofs.Math.Path.{refl, ap, subst}
-use Rattle.std.proofs.Common.{sym, ◌∙◌, ⊎_elim, le-leb}
+use Rattle.std.proofs.Common.{sym, ◌∙◌, le-leb}
 use Rattle.std.proofs.Math.Bool.{true, false}
 use mathlib.Core.List.{List, [], ◌∷◌}
-use Prim.Native.Nat.{ℕ, zero, suc, ◌+◌, ◌-◌, ◌*◌, ◌≤◌, ◌<◌, max}
+use Prim.Native.Nat.{ℕ, zero, suc, ◌+◌, ◌-◌, ◌≤◌, ◌<◌}
 use native.Mathlib.Omega.{arith}
 use Rattle.std.proofs.Math.Dec.{leb, leb→le}
-use Rattle.std.proofs.lemmas.Bool.{lt-leb}
 use Rattle.bitcursor.specs.declared.Refusal.TheVariants.{CountTooLarge}
 use Rattle.loads.specs.Bits.{size}
 use Rattle.bitcursor.specs.Reading.{Out, got, refused, and_then}
-use Rattle.bitcursor.specs.Code.{Code, Laid}
+use Rattle.bitcursor.specs.Code.{Code}
 use Rattle.bitcursor.specs.Ranges.{Below}
 use Rattle.bitcursor.specs.Chains.{EachBy, Each}
 use Rattle.bitcursor.specs.Format.{Input, Format, pure, refuse, ◌>>=◌, relay, either}

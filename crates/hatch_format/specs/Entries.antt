@@ -2,7 +2,7 @@
 -- lines and seeds, as their 64 bits). Absent bulges, weights and tangents have no entry. Assumes nothing.
 use Rattle.std.specs.Prelude.{Bool, true, false, List, [], ◌∷◌, ◌++◌, ℕ, length}
 use Rattle.loads.specs.Bits.{bit}
-use Rattle.hatch_format.specs.Values.{Point, Vertex, Arc, Ellipse, Fits, unfitted, fitted, Spline, PatternLine, Rest}
+use Rattle.hatch_format.specs.Values.{Point, Vertex, Fits, unfitted, fitted, PatternLine, Rest}
 use Rattle.hatch_format.specs.Values.{Edge, line, arc, ellipse, spline, Segments, polyline, edges, Path}
 
 -- what each of the list has, one behind the other

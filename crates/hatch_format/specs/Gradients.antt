@@ -1,16 +1,16 @@
 -- The gradient as a certified format, from release 3: its block and its name are read with flag 0 too. Assumes nothing.
-use Rattle.std.specs.Prelude.{◌≡◌, refl, Bool, List, ℕ, ◌+◌, ◌≤◌}
+use Rattle.std.specs.Prelude.{refl, Bool, List, ℕ}
 use Rattle.std.proofs.Math.Bool.{true, false}
 use Rattle.bitcursor.specs.Codes.{RC, signed_BS, BL}
 use Rattle.bitcursor.specs.Doubles.{BD}
 use Rattle.bitcursor.specs.Format.{Format, pure, ◌>>=◌, relay}
-use Rattle.bitcursor.specs.Inputs.{one, both, Places, Payloads}
+use Rattle.bitcursor.specs.Inputs.{one, both}
 use Rattle.bitcursor.specs.Fields.{coded, main, part_in}
 use Rattle.text.specs.declared.version.Version.{Version}
 use Rattle.text.specs.TextField.{TV_field}
 use Rattle.hatch_format.specs.declared.GradientColorBits.{GradientColorBits}
 use Rattle.hatch_format.specs.Values.{Block, Gradient, no_gradient, shown}
-use Rattle.hatch_format.specs.Layouts.{ColorLaid, BlockLaid, GradientLaid}
+use Rattle.hatch_format.specs.Layouts.{ColorLaid, BlockLaid}
 use Rattle.hatch_format.specs.Takes.{Takes, takes_first}
 use Rattle.hatch_format.specs.Counts.{listed}
 use Rattle.hatch_format.specs.Patterns.{takes_bit_BD}
@@ -104,15 +104,5 @@ module _ (cap : ℕ) where
       pure (shown b name)
     gradient_read false = pure no_gradient
 
-    pub gradient_to : (t : Bool) (γ : Payloads) (a : Gradient) (p q : Places) → (gradient_read t).lays γ a p q → GradientLaid cap v t γ a p q
-    unfolding gradient_read part_in block TV_field relay ◌>>=◌ pure
-    gradient_to true γ a p q l = let e = l.3.3 in rw e.1 (l.0, l.3.0, (l.1, l.2, l.3.2), e.0)
-    gradient_to false γ a p q l = l
-
-    pub gradient_from : (t : Bool) (γ : Payloads) (a : Gradient) (p q : Places) → GradientLaid cap v t γ a p q → (gradient_read t).lays γ a p q
-    unfolding gradient_read part_in block TV_field relay ◌>>=◌ pure
-    gradient_from true γ a p q l = (l.0, l.2.0, l.2.1, (l.1, q, l.2.2, (l.3, refl)))
-    gradient_from false γ a p q l = l
-
     unfoldable pub gradient : Bool → Format both Gradient
-    gradient t = relay (gradient_read t) (GradientLaid cap v t) (gradient_to t) (gradient_from t)
+    gradient t = gradient_read t

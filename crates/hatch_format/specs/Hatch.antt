@@ -1,8 +1,8 @@
--- The hatch body as a certified format: gradient, elevation and extrusion, the pattern's name, and the rest. Assumes nothing.
-use Rattle.std.specs.Prelude.{◌≡◌, refl, List, ℕ, leb}
+-- The hatch body as a format: gradient, elevation and extrusion, the pattern's name, and the rest. Its layout is proved in proofs/Bodies. Assumes nothing.
+use Rattle.std.specs.Prelude.{refl, List, ℕ, leb}
 use Rattle.bitcursor.specs.Doubles.{BD}
 use Rattle.bitcursor.specs.Format.{Format, pure, ◌>>=◌, relay}
-use Rattle.bitcursor.specs.Inputs.{one, both, Places, Payloads}
+use Rattle.bitcursor.specs.Inputs.{one, both}
 use Rattle.bitcursor.specs.Fields.{coded, main, part_in}
 use Rattle.text.specs.declared.version.Version.{Version}
 use Rattle.text.specs.Releases.{release_number}
@@ -10,7 +10,7 @@ use Rattle.text.specs.TextField.{TV_field}
 use Rattle.hatch_format.specs.declared.Caps.{Caps}
 use Rattle.hatch_format.specs.HandleRule.{Handles}
 use Rattle.hatch_format.specs.Values.{Plane, Body}
-use Rattle.hatch_format.specs.Layouts.{PlaneLaid, BodyLaid}
+use Rattle.hatch_format.specs.Layouts.{PlaneLaid}
 use Rattle.hatch_format.specs.Patterns.{rest}
 use Rattle.hatch_format.specs.Gradients.{gradient}
 
@@ -46,16 +46,5 @@ module _ (caps : Caps) (handles : Handles) (v : Version) where
     b ← part_in main (rest caps handles v)
     pure (record { gradient = fill; plane = a; name = name; rest = b })
 
-  pub hatch_to : (γ : Payloads) (a : Body) (p q : Places) → hatch_read.lays γ a p q → BodyLaid caps handles v γ a p q
-  unfolding hatch_read gradient plane rest part_in TV_field relay ◌>>=◌ pure
-  hatch_to γ a p q l =
-      let e = l.3.3.3.3 in
-      rw (e.0, e.1) (l.1, l.2, (l.3.1, l.3.2, (l.3.3.1, l.3.3.2, l.3.3.3.2)))
-
-  pub hatch_from : (γ : Payloads) (a : Body) (p q : Places) → BodyLaid caps handles v γ a p q → hatch_read.lays γ a p q
-  unfolding hatch_read gradient plane rest part_in TV_field relay ◌>>=◌ pure
-  hatch_from γ a p q l =
-      (a.gradient, l.0, l.1, (a.plane, l.2.0, l.2.1, (a.name, l.2.2.0, l.2.2.1, (a.rest, q, l.2.2.2, (refl, refl)))))
-
   unfoldable pub hatch : Format both Body
-  hatch = relay hatch_read (BodyLaid caps handles v) hatch_to hatch_from
+  hatch = hatch_read

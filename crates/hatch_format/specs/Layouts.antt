@@ -1,6 +1,6 @@
 -- The layouts of a hatch body: its fields back to back, in document 01's order, each in any code of its value. This is what demand 3
 -- calls a layout; it speaks of bits, places and values alone, and of no reading. Assumes nothing.
-use Rattle.std.specs.Prelude.{◌≡◌, Bool, true, false, List, [], ◌∷◌, ℕ, ◌+◌, ◌-◌, ◌≤◌, ◌<◌, leb, length}
+use Rattle.std.specs.Prelude.{◌≡◌, Bool, true, false, List, ℕ, ◌+◌, ◌-◌, ◌≤◌, ◌<◌, leb, length}
 use Rattle.loads.specs.Bits.{size}
 use Rattle.bitcursor.specs.Code.{Code}
 use Rattle.bitcursor.specs.Joins.{Coded}

@@ -1,6 +1,6 @@
 -- The pattern, and what follows the pattern's name, as certified formats. Assumes nothing.
-use Rattle.std.specs.Prelude.{◌≡◌, refl, Bool, List, ℕ, ◌+◌, ◌≤◌}
-use Rattle.std.proofs.Common.{sym, ap, subst, ◌∙◌, arith}
+use Rattle.std.specs.Prelude.{refl, Bool, List, ℕ}
+use Rattle.std.proofs.Common.{arith}
 use Rattle.std.proofs.Math.Bool.{true, false}
 use Rattle.bitcursor.specs.Codes.{B, BS, BL}
 use Rattle.bitcursor.specs.Doubles.{BD}
@@ -11,12 +11,12 @@ use Rattle.bitcursor.specs.Fields.{coded}
 use Rattle.text.specs.declared.version.Version.{Version}
 use Rattle.hatch_format.specs.declared.Caps.{Caps}
 use Rattle.hatch_format.specs.HandleRule.{Handles}
-use Rattle.hatch_format.specs.Values.{Point, Path, derived, PatternLine, Pattern, no_pattern, Ending, Tail, Rest}
-use Rattle.hatch_format.specs.Layouts.{LineLaid, PatternLaid, EndingLaid, TailLaid, RestLaid}
+use Rattle.hatch_format.specs.Values.{derived, PatternLine, Pattern, no_pattern, Ending, Tail, Rest}
+use Rattle.hatch_format.specs.Layouts.{LineLaid, PatternLaid, EndingLaid, TailLaid}
 use Rattle.hatch_format.specs.Takes.{Takes, takes_less, takes_first, takes_BD}
-use Rattle.hatch_format.specs.Counts.{listed, listed_by}
+use Rattle.hatch_format.specs.Counts.{listed}
 use Rattle.hatch_format.specs.Points.{point, takes_point}
-use Rattle.hatch_format.specs.Paths.{path, paths}
+use Rattle.hatch_format.specs.Paths.{paths}
 
 pub takes_bit_BD : Takes 1 (coded BD)
 takes_bit_BD = takes_less 1 2 (coded BD) (omega arith) takes_BD
@@ -151,16 +151,5 @@ module _ (caps : Caps) (handles : Handles) (v : Version) where
     a ← tail caps solid (derived outlines)
     pure (record { solid = solid; associative = associative; paths = outlines; tail = a })
 
-  pub rest_to : (xs : List ℕ) (a : Rest) (p q : ℕ) → rest_read.lays xs a p q → RestLaid xs caps handles v a p q
-  unfolding rest_read paths path listed_by tail relay ◌>>=◌ pure
-  rest_to xs a p q l =
-      let e = l.3.3.3.3 in
-      rw (e.0, e.1) (l.1, l.2, (l.3.1, l.3.2, (l.3.3.1, l.3.3.2, l.3.3.3.2)))
-
-  pub rest_from : (xs : List ℕ) (a : Rest) (p q : ℕ) → RestLaid xs caps handles v a p q → rest_read.lays xs a p q
-  unfolding rest_read paths path listed_by tail relay ◌>>=◌ pure
-  rest_from xs a p q l =
-      (a.solid, l.0, l.1, (a.associative, l.2.0, l.2.1, (a.paths, l.2.2.0, l.2.2.1, (a.tail, q, l.2.2.2, (refl, refl)))))
-
   unfoldable pub rest : Format one Rest
-  rest = relay rest_read (λ xs. RestLaid xs caps handles v) rest_to rest_from
+  rest = rest_read

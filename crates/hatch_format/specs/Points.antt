@@ -1,5 +1,5 @@
 -- Points, arcs and ellipses as certified formats, each read in document 01's order, their layouts those of specs/Layouts. Assumes nothing.
-use Rattle.std.specs.Prelude.{◌≡◌, refl, Bool, List, ℕ, ◌+◌, ◌≤◌}
+use Rattle.std.specs.Prelude.{refl, Bool, List, ℕ}
 use Rattle.std.proofs.Common.{arith}
 use Rattle.bitcursor.specs.Codes.{B, RD}
 use Rattle.bitcursor.specs.Doubles.{BD}

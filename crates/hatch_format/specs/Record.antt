@@ -1,9 +1,8 @@
 -- The record that a hatch call hands over: document 01's, from the body and its final places; and as f64. Assumes nothing.
-use Rattle.std.specs.Prelude.{Bool, false, List, [], ◌∷◌, ◌++◌, ℕ, ◌-◌, Float, pos, length, replicate}
+use Rattle.std.specs.Prelude.{false, List, [], ◌∷◌, ◌++◌, ℕ, ◌-◌, Float, pos, length, replicate}
 use Rattle.std.specs.Float.Ieee.{of_bits}
 use Rattle.std.specs.Float.{binary64}
 use Rattle.bitcursor.specs.Inputs.{Places}
-use Rattle.text.specs.declared.Places.{Places as CodePlaces}
 use Rattle.text.specs.Answers.{as_places}
 use Rattle.hatch_format.specs.declared.GradientColor.{GradientColor}
 use Rattle.hatch_format.specs.declared.GradientColorBits.{GradientColorBits}

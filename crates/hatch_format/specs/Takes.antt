@@ -1,16 +1,15 @@
 -- How many bits a layout takes at least: what makes a count that is above the bits left one without a layout. Assumes nothing.
-use Rattle.std.specs.Prelude.{◌≡◌, refl, Bool, true, false, List, [], ◌∷◌, ℕ, zero, suc, ◌+◌, ◌-◌, ◌*◌, ◌≤◌, ◌<◌, max, length}
-use Rattle.std.proofs.Common.{sym, ap, subst, ◌∙◌, arith}
-use Rattle.bitcursor.specs.declared.Refusal.{Refusal}
-use Rattle.loads.specs.Bits.{size, bits_of}
+use Rattle.std.specs.Prelude.{◌≡◌, refl, Bool, List, ℕ, zero, suc, ◌+◌, ◌*◌, ◌≤◌, length}
+use Rattle.std.proofs.Common.{ap, subst, arith}
 use Rattle.loads.specs.BitLaws.{length_bits}
 use Rattle.bitcursor.specs.Reading.{Out, place}
 use Rattle.bitcursor.specs.Code.{Code, Moves, tabled}
 use Rattle.bitcursor.specs.Bytes.{low_first}
 use Rattle.loads.specs.Bytes.{low_bytes}
+use Rattle.bitcursor.proofs.Longs.{BL_to}
 use Rattle.bitcursor.specs.Codes.{RC, RD, BS, BS_codes, BS_00, BS_01, BS_10, BS_11, BL, BL_codes, BL_00, BL_01, BL_10}
 use Rattle.bitcursor.specs.Doubles.{BD, BD_codes, BD_00, BD_01, BD_10}
-use Rattle.bitcursor.specs.Format.{Format, refuse, ◌>>=◌, either}
+use Rattle.bitcursor.specs.Format.{Format, ◌>>=◌}
 use Rattle.bitcursor.specs.Inputs.{one}
 use Rattle.bitcursor.specs.Fields.{coded}
 
@@ -80,8 +79,8 @@ pub takes_BD : Takes 2 (coded BD)
 takes_BD = takes_code 2 BD BD_long
 
 BL_long : (v : ℕ) (cs : List Bool) → BL.codes v cs → 2 ≤ length cs
-unfolding BL tabled
-BL_long v cs l = go v cs l
+unfolding BL
+BL_long v cs l = go v cs (BL_to v cs l)
   where
     go : (v : ℕ) (cs : List Bool) → BL_codes v cs → 2 ≤ length cs
     go v cs (BL_00 h) = omega arith
