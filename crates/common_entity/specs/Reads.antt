@@ -12,7 +12,8 @@ use Rattle.bitcursor.specs.Doubles.{BD}
 use Rattle.bitcursor.specs.Code.{raw, give}
 use Rattle.bitcursor.specs.Bytes.{low_first}
 use Rattle.bitcursor.specs.Codes.{BB, RC, RL, BS, BL}
-use Rattle.bitcursor.specs.Ranges.{bytes_pow, raw_below, low_below, BS_below, BL_below}
+use Rattle.bitcursor.specs.Ranges.{bytes_pow, raw_below, low_below, BS_below}
+use Rattle.bitcursor.proofs.Longs.{BL_below}
 use Rattle.bitcursor.specs.Held.{held, held_below}
 use Rattle.sequence.specs.Sequence.{then_read, value_of, resume, step_below}
 use Rattle.prefix_format.specs.declared.CommonEntityBits.{CommonEntityBits}

@@ -19,7 +19,7 @@ use Rattle.hatch_format.specs.Record.{sixteen}
 use Rattle.hatch_format.specs.Counts.{times_read, times}
 use Rattle.hatch_format.specs.Gradients.{color}
 use Rattle.hatch_format.specs.Call.{Call, call_on, hatch_call}
-use Rattle.hatch_format.specs.Demand3.{read_iff_laid}
+use Rattle.hatch_format.proofs.Demand3.{read_iff_laid}
 use Rattle.hatch_points.specs.declared.lists.Sizes.{Sizes}
 use Rattle.hatch_points.specs.Lists.{Lists, doubles_of, length_doubles, grow}
 use Rattle.hatch_rest.specs.Rests.{no_sizes, rest_entries}

@@ -9,7 +9,8 @@ use Rattle.bitcursor.specs.Inputs.{Places}
 use Rattle.hatch_format.specs.Values.{Rest, Body}
 use Rattle.hatch_format.specs.Record.{record_of, zero_record, as_doubles}
 use Rattle.hatch_format.specs.Call.{Call, hatch_call}
-use Rattle.hatch_format.specs.Demand3.{HatchLaid, read_iff_laid, refused_none, AlikeCalls, alike_same}
+use Rattle.hatch_format.specs.Demand3.{HatchLaid, AlikeCalls}
+use Rattle.hatch_format.proofs.Demand3.{read_iff_laid, refused_none, alike_same}
 use Rattle.hatch_record.specs.declared.Outcome.TheVariants.{Read, Refused}
 use Rattle.hatch_record.specs.declared.HatchBitsAnswer.{HatchBitsAnswer}
 use Rattle.hatch_record.specs.declared.HatchAnswer.{HatchAnswer}

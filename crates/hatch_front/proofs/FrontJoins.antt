@@ -7,7 +7,7 @@ use native.Mathlib.Omega.{arith}
 use lib.Dec.{leb}
 use Rattle.bitcursor.specs.declared.Refusal.{Refusal}
 use Rattle.bitcursor.specs.Reading.{Out, got, refused, and_then}
-use Rattle.bitcursor.specs.Ranges.{BL_below}
+use Rattle.bitcursor.proofs.Longs.{BL_below}
 use Rattle.bitcursor.specs.Format.{Format, pure, ◌>>=◌, relay}
 use Rattle.bitcursor.specs.Inputs.{one, both, Places, Payloads}
 use Rattle.bitcursor.specs.Fields.{main, part_in, moved_in}

@@ -22,7 +22,7 @@ use Rattle.hatch_format.specs.Layouts.{GradientLaid, BodyLaid}
 use Rattle.hatch_format.specs.Entries.{words, numbers}
 use Rattle.hatch_format.specs.Record.{record_of, as_doubles}
 use Rattle.hatch_format.specs.Call.{Call, hatch_call}
-use Rattle.hatch_format.specs.Demand3.{read_iff_laid}
+use Rattle.hatch_format.proofs.Demand3.{read_iff_laid}
 use Rattle.hatch_lists.specs.Within.{All, VertexWithin, FitsWithin, SplineWithin, EdgeWithin, SegmentsWithin, PathWithin, LineWithin}
 use Rattle.hatch_lists.specs.Holding.{Holding, holding_of, HoldingWithin}
 use Rattle.hatch_lists.specs.Whole.{counts_of_bits, counts_of, Whole}

@@ -14,7 +14,8 @@ use Rattle.bitcursor.specs.Format.{pure, refuse, ◌>>=◌}
 use Rattle.hatch_format.specs.declared.Caps.{Caps}
 use Rattle.hatch_format.specs.HandleRule.{in_payload}
 use Rattle.hatch_format.specs.Counts.{bounded}
-use Rattle.hatch_format.specs.Paths.{handle_count, handles_bounded}
+use Rattle.hatch_format.specs.Paths.{handle_count}
+use Rattle.hatch_format.proofs.Paths.{handles_bounded}
 use Rattle.hatch_points.specs.Gathered.{word}
 use Rattle.hatch_points.proofs.Laws.{Numberless}
 use Rattle.hatch_points.proofs.NoWords.{numberless}

@@ -11,7 +11,8 @@ use Rattle.loads.specs.Bits.{bit}
 use Rattle.bitcursor.specs.Code.{raw}
 use Rattle.bitcursor.specs.Codes.{BL}
 use Rattle.bitcursor.specs.Answers.{as_read}
-use Rattle.bitcursor.specs.Ranges.{raw_below, BL_below}
+use Rattle.bitcursor.specs.Ranges.{raw_below}
+use Rattle.bitcursor.proofs.Longs.{BL_below}
 use Rattle.sequence.specs.Sequence.{then_read, value_of, step_below}
 use Rattle.bitcursor.specs.Fields.{coded}
 use Rattle.hatch_format.specs.declared.Caps.{Caps}

@@ -1,7 +1,7 @@
 -- Above the limit the payload is refused; within it the number that the reader of `within` answers becomes the value.
 use mathlib.Core.Path.{sym, ap, ◌∙◌}
 use native.Mathlib.Omega.{arith}
-use Rattle.bitcursor.specs.Ranges.{BL_below}
+use Rattle.bitcursor.proofs.Longs.{BL_below}
 use Rattle.bitcursor.specs.Codes.{BL, signed_BL}
 use Rattle.bitcursor.specs.Answers.{as_i32, i32_of}
 use Rattle.bitcursor.proofs.Steps.{limit_within, limit_above}

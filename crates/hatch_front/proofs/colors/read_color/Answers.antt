@@ -8,7 +8,8 @@ use mir.ValLaws.{to_z-of_z}
 use Rattle.bitcursor.specs.declared.Read.{Read}
 use Rattle.bitcursor.specs.Bytes.{low_first}
 use Rattle.bitcursor.specs.Codes.{BS, BL, RC, signed}
-use Rattle.bitcursor.specs.Ranges.{BS_below, BL_below, low_below}
+use Rattle.bitcursor.specs.Ranges.{BS_below, low_below}
+use Rattle.bitcursor.proofs.Longs.{BL_below}
 use Rattle.bitcursor.specs.Held.{held, held_below}
 use Rattle.sequence.specs.Sequence.{value_of, step_below}
 use Rattle.bitcursor.specs.Format.{pure}

@@ -7,7 +7,8 @@ use mathlib.Core.Bool.{Bool, ◌||◌}
 use Prim.Native.Nat.{◌/◌}
 use Rattle.loads.specs.Bits.{odd}
 use Rattle.bitcursor.specs.Codes.{BL}
-use Rattle.bitcursor.specs.Ranges.{BL_below, read_below}
+use Rattle.bitcursor.specs.Ranges.{read_below}
+use Rattle.bitcursor.proofs.Longs.{BL_below}
 use Rattle.bitcursor.specs.Fields.{coded}
 use Rattle.bitcursor.specs.Format.{◌>>=◌, pure, then_got, then_refused}
 use Rattle.bitcursor.proofs.Steps.{read_value, read_refused}
