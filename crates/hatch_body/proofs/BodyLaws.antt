@@ -17,6 +17,7 @@ use Rattle.bitcursor.specs.Ranges.{BS_below}
 use Rattle.bitcursor.specs.Format.{relay}
 use Rattle.text.specs.declared.Places.{Places}
 use Rattle.text.specs.declared.version.Version.{Version}
+use Rattle.hatch_format.proofs.Rests.{rest_to}
 use Rattle.hatch_format.specs.declared.Caps.{Caps}
 use Rattle.hatch_format.specs.HandleRule.{Handles}
 use Rattle.hatch_format.specs.Values.{Rest as RestValue}
@@ -52,9 +53,9 @@ rest_not (refused k p) e = cc
 
 pub rest_range : (caps : Caps) (handles : Handles) (v : Version) (xs : List ℕ) (p : ℕ) {a : RestValue} {q : ℕ} → (rest caps handles v).read xs p ≡ got a q
     → (a.tail.pattern_style < 2 ^ 16) × (a.tail.pattern_type < 2 ^ 16)
-unfolding rest relay
+unfolding rest
 rest_range caps handles v xs p {a} {q} e =
-    let l = ((rest caps handles v).sound xs a p q e).2.2.2 in
+    let l = (rest_to caps handles v xs a p q ((rest caps handles v).sound xs a p q e)).2.2.2 in
     (BS_below a.tail.pattern_style l.1.code l.1.listed, BS_below a.tail.pattern_type l.2.1.code l.2.1.listed)
 
 -- ---- what the rest lays is the definition's words and numbers

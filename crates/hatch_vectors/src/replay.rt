@@ -3,6 +3,8 @@ ghost use Rattle.std.specs.Prelude.{◌≤◌, length};
 
 use crate::hatches;
 use crate::hatches::Asked;
+use std::io;
+use std::io::Write;
 use stored::items::item;
 use stored::record;
 use stored::record::{Found, ROOM};
@@ -40,13 +42,13 @@ fn called(r: &[u8], kind: u64, payload: &[u8], found: &mut [u64; ROOM]) -> usize
 }
 
 // Replays the record, which is to have so many items.
-pub fn replay(r: &[u8], items: u64) -> Found {
+pub fn replay<W: Write>(out: &mut W, r: &[u8], items: u64) -> io::Result<Found> {
     let end = record::payload_end(r, items);
     if end < record::PAYLOAD {
-        return Found::Malformed;
+        return Ok(Found::Malformed);
     }
     let kind = item(r, record::KIND);
     let mut found = record::room();
     let n = called(r, kind, &r[record::PAYLOAD..end], &mut found);
-    record::judged(r, kind, &found, n)
+    record::judged(out, r, kind, &found, n)
 }

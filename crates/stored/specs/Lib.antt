@@ -1,2 +1,3 @@
 -- The definitions that the contracts of the comparing program cite.
+pub mod Counts
 pub mod Items

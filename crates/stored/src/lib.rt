@@ -1,7 +1,12 @@
 // The stored answers of the Rust as the programs that replay them read them: records of 64-bit items (data/packed, which oracle/pack makes of
 // crates/vectors/data/list), the answer of a call as a list of numbers, and what is written of a comparison.
 // specs/ promises that a found answer is called the stored one exactly where every number agrees.
-ghost use Rattle.io.specs.Counts.{IsPrefixLen};
+#![tactic(auto)]
+
+ghost use Rattle.std.specs.Prelude.{◌≡◌, length};
+ghost use Rattle.stored.specs.Counts.{IsPrefixLen};
+
+use std::io::Read;
 
 pub mod answers;
 pub mod compare;
@@ -10,8 +15,40 @@ pub mod record;
 pub mod report;
 pub mod texts;
 
+// 65,536 zeros, room for the items of a record. The `ensures` gives only the length, which lending the array as a slice needs.
+pub fn large_buffer() -> [u8; 65536]
+    ensures { 65536 ≡ length result }
+{
+    [0; 65536]
+}
+
+// How many bytes one read puts at the start of `s`: 0 at the input's end, and where the read fails.
+fn read_some<R: Read>(file: &mut R, s: &mut [u8]) -> usize
+    ensures { IsPrefixLen result s.new }
+{
+    match file.read(s) {
+        Ok(n) => n,
+        Err(_) => 0,
+    }
+}
+
+// Reads until `s` is full, the input ends or a read fails, and returns how many bytes it put at the start of `s`.
+pub fn read_full<R: Read>(file: &mut R, s: &mut [u8]) -> usize
+    ensures { IsPrefixLen result s.new }
+{
+    let mut done = 0;
+    while done < s.len() {
+        let n = read_some(file, &mut s[done..]);
+        if n == 0 {
+            break;
+        }
+        done += n;
+    }
+    done
+}
+
 // Reads the items of a record, if there is room for so many; the number of bytes read.
-pub fn read_items(fd: i32, s: &mut [u8], count: u64) -> usize
+pub fn read_items<R: Read>(file: &mut R, s: &mut [u8], count: u64) -> usize
     ensures { IsPrefixLen result s.new }
 {
     let room = (s.len() / 8) as u64;
@@ -19,5 +56,5 @@ pub fn read_items(fd: i32, s: &mut [u8], count: u64) -> usize
         return 0;
     }
     let end = 8 * (count as usize);
-    io::read_full(fd, &mut s[0..end])
+    read_full(file, &mut s[0..end])
 }

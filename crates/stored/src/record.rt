@@ -9,6 +9,8 @@ ghost use Rattle.std.specs.Prelude.{◌+◌, ◌/◌, ◌≤◌, length};
 
 use crate::items::item;
 use crate::{compare, report};
+use std::io;
+use std::io::Write;
 
 // Room for the numbers of an answer.
 pub const ROOM: usize = 1024;
@@ -97,20 +99,26 @@ fn answer_at(r: &[u8]) -> usize
     first + 8 * a
 }
 
-// Compares the n numbers found with the record's answer.
-pub fn judged(r: &[u8], kind: u64, found: &[u64; ROOM], n: usize) -> Found
+// Compares the n numbers found with the record's answer, and writes a difference.
+pub fn judged<W: Write>(
+    out: &mut W,
+    r: &[u8],
+    kind: u64,
+    found: &[u64; ROOM],
+    n: usize,
+) -> io::Result<Found>
     requires { (80 ≤ length r.now) × (n ≤ 1024) }
 {
     let at = answer_at(r);
     if 0 < n {
         if compare::same_answer(r, at, found, n) {
-            return Found::Same(kind);
+            return Ok(Found::Same(kind));
         }
     }
-    report::difference(item(r, LINE), kind);
-    report::stored(r, at);
-    report::found(found, n);
-    Found::Differs(kind)
+    report::difference(out, item(r, LINE), kind)?;
+    report::stored(out, r, at)?;
+    report::found(out, found, n)?;
+    Ok(Found::Differs(kind))
 }
 
 // A function of its own, so that no proof of a caller counts the array's elements.

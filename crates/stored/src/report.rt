@@ -3,7 +3,8 @@ ghost use Rattle.std.specs.Prelude.{◌≤◌, length};
 
 use crate::items::item;
 use crate::record::{Found, ROOM};
-use libc::STDOUT_FILENO;
+use std::io;
+use std::io::Write;
 
 // Where `counts` has what is no kind: the codes that were compared by a lent cursor too, all that were compared, and those that differ.
 const CURSOR: usize = 24;
@@ -25,124 +26,133 @@ fn compared(counts: &mut [u64; 32], kind: u64) {
     }
 }
 
-pub fn write(text: &[u8]) {
-    io::write_all(STDOUT_FILENO, text);
+pub fn write<W: Write>(out: &mut W, text: &[u8]) -> io::Result<()> {
+    out.write_all(text)
 }
 
-pub fn decimal(n: u64) {
-    io::print_decimal(STDOUT_FILENO, n);
+pub fn decimal<W: Write>(out: &mut W, n: u64) -> io::Result<()> {
+    write!(out, "{n}")
 }
 
-fn write_ten(text: &[u8], at: usize) {
+fn write_ten<W: Write>(out: &mut W, text: &[u8], at: usize) -> io::Result<()> {
     if text.len() < 10 {
-        return;
+        return Ok(());
     }
     if at <= text.len() - 10 {
         let end = at + 10;
-        write(&text[at..end]);
+        return write(out, &text[at..end]);
     }
+    Ok(())
 }
 
 // The name of a kind, ten characters wide; thirteen names to a text.
-fn name(kind: u64) {
+fn name<W: Write>(out: &mut W, kind: u64) -> io::Result<()> {
     if kind < 13 {
-        write_ten(
+        return write_ten(
+            out,
             b"unknown   b         bb        3b        bs        bsu       bl        blu       bd        bll       rc        rs        rl        ",
             10 * (kind as usize),
         );
-        return;
     }
     if kind < 25 {
-        write_ten(
+        return write_ten(
+            out,
             b"rd        handle    dd        bd f64    rd f64    dd f64    prefix    tv        hatch     hatchs    reader    cursor    ",
             10 * ((kind - 13) as usize),
         );
     }
+    Ok(())
 }
 
-fn malformed(index: u64) {
-    write(b"differs: record ");
-    decimal(index);
-    write(b" is malformed\n");
+fn malformed<W: Write>(out: &mut W, index: u64) -> io::Result<()> {
+    write(out, b"differs: record ")?;
+    decimal(out, index)?;
+    write(out, b" is malformed\n")
 }
 
 // Adds what replaying the index-th record found; whether to go on: behind a malformed record nothing says where the next begins.
-pub fn count(found: Found, index: u64, counts: &mut [u64; 32]) -> bool {
+pub fn count<W: Write>(
+    out: &mut W,
+    found: Found,
+    index: u64,
+    counts: &mut [u64; 32],
+) -> io::Result<bool> {
     match found {
         Found::Same(kind) => {
             compared(counts, kind);
-            true
+            Ok(true)
         }
         Found::Lent(kind) => {
             compared(counts, kind);
             bump(counts, CURSOR);
-            true
+            Ok(true)
         }
         Found::Differs(kind) => {
             compared(counts, kind);
             bump(counts, DIFFER);
-            true
+            Ok(true)
         }
         Found::Malformed => {
-            malformed(index);
+            malformed(out, index)?;
             bump(counts, DIFFER);
-            false
+            Ok(false)
         }
     }
 }
 
 // A difference is written as these three: the request, the stored answer, the answer found.
-pub fn difference(line: u64, kind: u64) {
-    write(b"differs: line ");
-    decimal(line);
-    write(b" ");
-    name(kind);
+pub fn difference<W: Write>(out: &mut W, line: u64, kind: u64) -> io::Result<()> {
+    write(out, b"differs: line ")?;
+    decimal(out, line)?;
+    write(out, b" ")?;
+    name(out, kind)
 }
 
-pub fn stored(s: &[u8], at: usize)
+pub fn stored<W: Write>(out: &mut W, s: &[u8], at: usize) -> io::Result<()>
     requires { at ≤ length s.now }
 {
-    write(b" stored");
+    write(out, b" stored")?;
     let mut k = at;
     while 8 <= s.len() - k {
-        write(b" ");
-        decimal(item(s, k));
+        write(out, b" ")?;
+        decimal(out, item(s, k))?;
         k += 8;
     }
+    Ok(())
 }
 
-pub fn found(numbers: &[u64; ROOM], n: usize)
+pub fn found<W: Write>(out: &mut W, numbers: &[u64; ROOM], n: usize) -> io::Result<()>
     requires { n ≤ 1024 }
 {
-    write(b" found");
+    write(out, b" found")?;
     let mut k: usize = 0;
     while k < n {
-        write(b" ");
-        decimal(numbers[k]);
+        write(out, b" ")?;
+        decimal(out, numbers[k])?;
         k += 1;
     }
-    write(b"\n");
+    write(out, b"\n")
 }
 
-fn line(kind: u64, n: u64) {
+fn line<W: Write>(out: &mut W, kind: u64, n: u64) -> io::Result<()> {
     if n == 0 {
-        return;
+        return Ok(());
     }
-    name(kind);
-    decimal(n);
-    write(b"\n");
+    name(out, kind)?;
+    decimal(out, n)?;
+    write(out, b"\n")
 }
 
 // How many requests of each kind were compared, and the result.
-pub fn summary(counts: &[u64; 32]) {
+pub fn summary<W: Write>(out: &mut W, counts: &[u64; 32]) -> io::Result<()> {
     let mut kind: usize = 0;
     while kind < 30 {
-        line(kind as u64, counts[kind]);
+        line(out, kind as u64, counts[kind])?;
         kind += 1;
     }
-    write(b"vectors: ");
-    decimal(counts[COMPARED]);
-    write(b" compared, ");
-    decimal(counts[DIFFER]);
-    write(b" differ\n");
+    write(out, b"vectors: ")?;
+    decimal(out, counts[COMPARED])?;
+    write(out, b" compared, ")?;
+    decimal(out, counts[DIFFER])?;
+    write(out, b" differ\n")
 }

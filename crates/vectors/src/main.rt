@@ -2,6 +2,8 @@
 // (`read_tv`), src/string_stream.rs and src/common_entity.rs of dwg-rs. Crate `hatch_vectors` replays those for hatch bodies.
 // data/list has the requests with the Rust's answers, data/packed those of this program as 64-bit items; oracle/pack makes both.
 // It promises nothing of its own: it tests that the definitions, which the calls' contracts equate with, answer as the Rust does.
+#![tactic(auto)]
+
 mod codes;
 mod cursors;
 mod prefixes;
@@ -9,37 +11,39 @@ mod readers;
 mod replay;
 mod texts;
 
+use std::io::{Read, Write};
+use std::{fs, io};
+
 // The next record, the index-th, and the counts with it; whether to go on.
-fn step(fd: i32, index: u64, counts: &mut [u64; 32]) -> bool {
+fn step<R: Read, W: Write>(
+    file: &mut R,
+    out: &mut W,
+    index: u64,
+    counts: &mut [u64; 32],
+) -> io::Result<bool> {
     let mut first = [0u8; 8];
-    let got = io::read_full(fd, &mut first);
+    let got = stored::read_full(file, &mut first);
     if got == 0 {
-        return false;
+        return Ok(false);
     }
     let count = stored::items::item(&first, 0);
-    let mut space = io::large_buffer();
-    let n = stored::read_items(fd, &mut space, count);
-    let found = replay::replay(&space[..n], count);
-    stored::report::count(found, index, counts)
+    let mut space = stored::large_buffer();
+    let n = stored::read_items(file, &mut space, count);
+    let found = replay::replay(out, &space[..n], count)?;
+    stored::report::count(out, found, index, counts)
 }
 
 // Every record, and then what was compared. A loop has to end, and nothing says that a file does: so it stops after a million.
-fn replay_all(fd: i32) {
+fn replay_all<R: Read, W: Write>(file: &mut R, out: &mut W) -> io::Result<()> {
     let mut counts = [0u64; 32];
     let mut index: u64 = 1;
-    while index < 1_000_000 && step(fd, index, &mut counts) {
+    while index < 1_000_000 && step(file, out, index, &mut counts)? {
         index += 1;
     }
-    stored::report::summary(&counts);
+    stored::report::summary(out, &counts)
 }
 
-fn main() {
-    let path = b"packed";
-    let fd = os::open_read(path);
-    if fd < 0 {
-        os::fail(path);
-        return;
-    }
-    replay_all(fd);
-    libc::close(fd);
+fn main(rt: HostRuntime) -> io::Result<()> {
+    let mut file = fs::open(&rt, "packed")?;
+    replay_all(&mut file, &mut io::writer(&rt))
 }

@@ -2,6 +2,8 @@
 ghost use Rattle.std.specs.Prelude.{◌≤◌, length};
 
 use crate::{codes, cursors, prefixes, readers, texts};
+use std::io;
+use std::io::Write;
 use stored::items::item;
 use stored::record;
 use stored::record::{Found, ROOM};
@@ -25,43 +27,43 @@ fn called(r: &[u8], kind: u64, payload: &[u8], found: &mut [u64; ROOM]) -> usize
 }
 
 // Replays a code's request by a lent cursor, where the kind has a reader that takes one.
-fn replay_lent(r: &[u8], kind: u64, payload: &[u8]) -> Found
+fn replay_lent<W: Write>(out: &mut W, r: &[u8], kind: u64, payload: &[u8]) -> io::Result<Found>
     requires { 80 ≤ length r.now }
 {
     let start = item(r, record::START) as usize;
     let mut found = record::room();
     let n = cursors::replay(kind, payload, start, item(r, record::MORE), &mut found);
     if n == 0 {
-        return Found::Same(kind);
+        return Ok(Found::Same(kind));
     }
-    match record::judged(r, kind, &found, n) {
-        Found::Same(k) => Found::Lent(k),
-        Found::Lent(k) => Found::Lent(k),
-        Found::Differs(k) => Found::Differs(k),
-        Found::Malformed => Found::Malformed,
+    match record::judged(out, r, kind, &found, n)? {
+        Found::Same(k) => Ok(Found::Lent(k)),
+        Found::Lent(k) => Ok(Found::Lent(k)),
+        Found::Differs(k) => Ok(Found::Differs(k)),
+        Found::Malformed => Ok(Found::Malformed),
     }
 }
 
 // Replays the record's request on its payload: by value, and then by what can be lent.
-fn replay_on(r: &[u8], payload: &[u8]) -> Found
+fn replay_on<W: Write>(out: &mut W, r: &[u8], payload: &[u8]) -> io::Result<Found>
     requires { 80 ≤ length r.now }
 {
     let kind = item(r, record::KIND);
     let mut found = record::room();
     let n = called(r, kind, payload, &mut found);
-    match record::judged(r, kind, &found, n) {
-        Found::Same(k) => replay_lent(r, k, payload),
-        Found::Lent(k) => Found::Lent(k),
-        Found::Differs(k) => Found::Differs(k),
-        Found::Malformed => Found::Malformed,
+    match record::judged(out, r, kind, &found, n)? {
+        Found::Same(k) => replay_lent(out, r, k, payload),
+        Found::Lent(k) => Ok(Found::Lent(k)),
+        Found::Differs(k) => Ok(Found::Differs(k)),
+        Found::Malformed => Ok(Found::Malformed),
     }
 }
 
 // Replays the record, which is to have so many items.
-pub fn replay(r: &[u8], items: u64) -> Found {
+pub fn replay<W: Write>(out: &mut W, r: &[u8], items: u64) -> io::Result<Found> {
     let end = record::payload_end(r, items);
     if end < record::PAYLOAD {
-        return Found::Malformed;
+        return Ok(Found::Malformed);
     }
-    replay_on(r, &r[record::PAYLOAD..end])
+    replay_on(out, r, &r[record::PAYLOAD..end])
 }
