@@ -16,6 +16,7 @@ use Rattle.text.specs.declared.version.MaybeVersion.TheVariants.{Known, Unknown}
 use Rattle.text.specs.Releases.{version_of}
 use Rattle.hatch_format.specs.Values.{Body}
 use Rattle.hatch_format.specs.Entries.{words, numbers}
+use Rattle.hatch_format.proofs.Bodies.{hatch_to}
 use Rattle.hatch_format.specs.Hatch.{hatch}
 use Rattle.hatch_format.specs.Begins.{body_begins}
 use Rattle.hatch_format.specs.Call.{Call, payloads_of, starts_of, room_for, call_on, hatch_call}
@@ -49,11 +50,11 @@ record LooksLast (c : Call) : Type 0 where
 
 body_few : (c : Call) (v : Version) (a : Body) (q : Places) → length c.main ≤ limit
     → (hatch c.caps c.handles v).read (payloads_of c) (starts_of c) ≡ got a q → length (words a.rest) + length (numbers a.rest) ≤ 8 * limit
-unfolding hatch relay
+unfolding hatch
 body_few c v a q h e =
     let f = hatch c.caps c.handles v in
     let γ = payloads_of c in
-    let l = f.sound γ a (starts_of c) q e in
+    let l = hatch_to c.caps c.handles v γ a (starts_of c) q (f.sound γ a (starts_of c) q e) in
     let on : Onward γ (starts_of c) q = subst (λ (o : Out Places Body). Onward γ (starts_of c) (place o)) e (f.grows γ (starts_of c)) in
     let b = body_begins c.caps c.handles v γ a (starts_of c) q l in
     let r = l.2.2.2 in

@@ -27,6 +27,7 @@ use Rattle.hatch_format.specs.Layouts.{GradientLaid}
 use Rattle.hatch_format.specs.Entries.{words, numbers}
 use Rattle.hatch_format.specs.Patterns.{rest}
 use Rattle.hatch_format.specs.Gradients.{gradient}
+use Rattle.hatch_format.proofs.Gradients.{gradient_to}
 use Rattle.hatch_format.specs.Hatch.{plane, hatch}
 use Rattle.hatch_format.specs.Call.{room_for, call_on}
 use Rattle.hatch_format.specs.Begins.{BL_begins, BD_begins}
@@ -76,7 +77,8 @@ unfolding front named gradient plane part_in relay ◌>>=◌ pure
 front_within caps v γ p {f} {q} e =
     let l = (front caps v).sound γ f p q e in
     let on : Onward γ p q = subst (λ (o : Out Places Front). Onward γ p (place o)) e ((front caps v).grows γ p) in
-    let b : p.main < size γ.main = go l.0 l.1 (leb 3 (release_number v)) l.2 (first l.1 l.3.2) in
+    let laid = gradient_to caps.colors v (leb 3 (release_number v)) γ l.0 p l.1 l.2 in
+    let b : p.main < size γ.main = go l.0 l.1 (leb 3 (release_number v)) laid (first l.1 l.3.2) in
     omega (arith, b, on.main.inside)
   where
     first : (r : Places) {s : Places} {a : _} → (named v).lays γ a r s → r.main < size γ.main

@@ -1,0 +1,12 @@
+-- The call's answer, as numbers.
+use mathlib.Core.Path.{◌≡◌, sym, ap, ◌∙◌}
+use Rattle.bitcursor.specs.Codes.{BL}
+use Rattle.bitcursor.specs.Answers.{limited}
+use Rattle.boundary.specs.Boundary.{read_numbers}
+use Rattle.dwg_hatch.proofs.Joins.{as_read_lem}
+use Rattle.dwg_hatch.proofs.dwg_read_bl_u.Goals as goal
+
+pub returns : goal.returns
+returns c =
+    let a = c.args in
+    c.of_read.ensures ∙ ap read_numbers c.read_bl_u.ensures ∙ as_read_lem (limited BL.read a.s.now a.at)
