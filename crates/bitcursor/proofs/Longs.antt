@@ -1,5 +1,5 @@
 -- The table of BL's codes: the reading has just these, and no others. Assumes nothing.
-use Rattle.std.specs.Prelude.{◌≡◌, refl, Bool, [], ◌∷◌}
+use Rattle.std.specs.Prelude.{refl, Bool}
 use mathlib.Core.List.{List}
 use Prim.Native.Nat.{ℕ, ◌^◌, ◌<◌}
 use native.Mathlib.Omega.{arith}

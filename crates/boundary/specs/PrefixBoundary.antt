@@ -1,6 +1,6 @@
 -- What crosses the C boundary of a prefix call: its record as numbers, with the linetype scale as its 64 bits or as the double. On a
 -- refusal the record is zero throughout, and so is every number. Assumes nothing.
-use Rattle.std.specs.Prelude.{Bool, true, false, ℕ, get_or}
+use Rattle.std.specs.Prelude.{false, ℕ, get_or}
 use Rattle.std.specs.Float.Ieee.{of_bits}
 use Rattle.std.specs.Float.{binary64}
 use Rattle.bitcursor.specs.Refusals.{refusal_number}

@@ -12,8 +12,6 @@ use Rattle.hatch_format.specs.Call.{Call, hatch_call}
 use Rattle.hatch_format.specs.Demand3.{HatchLaid, AlikeCalls}
 use Rattle.hatch_format.proofs.Demand3.{read_iff_laid, refused_none, alike_same}
 use Rattle.hatch_record.specs.declared.Outcome.TheVariants.{Read, Refused}
-use Rattle.hatch_record.specs.declared.HatchBitsAnswer.{HatchBitsAnswer}
-use Rattle.hatch_record.specs.declared.HatchAnswer.{HatchAnswer}
 use Rattle.hatch.specs.Calls.{as_bits, as_data, filled}
 
 -- what is handed over of a reading and of a refusal, in both forms

@@ -1,25 +1,25 @@
 -- No more list entries than bits: a body's words and numbers together are no more than the bits that what follows its pattern's name is laid
 -- out in. One law for each way in which layouts are put together. Assumes nothing.
-use Rattle.std.specs.Prelude.{◌≡◌, refl, Bool, true, false, ℕ, suc, ◌+◌, ◌≤◌, ◌<◌, leb}
-use Rattle.std.proofs.Common.{sym, ap, ap₂, subst, ◌∙◌, length-append}
+use Rattle.std.specs.Prelude.{◌≡◌, refl, Bool, true, false, ℕ, ◌+◌, ◌≤◌, leb}
+use Rattle.std.proofs.Common.{length-append}
 use mathlib.Core.List.{List, [], ◌∷◌, ◌++◌}
 use native.Mathlib.Omega.{arith}
 use Rattle.std.proofs.Math.ListN.{length}
-use Rattle.bitcursor.specs.Code.{Code, tabled}
-use Rattle.bitcursor.specs.Codes.{B, B_codes, B_of, RC, RD, BS, BL}
+use Rattle.bitcursor.specs.Code.{tabled}
+use Rattle.bitcursor.specs.Codes.{B, B_codes, B_of}
 use Rattle.bitcursor.specs.Doubles.{BD}
 use Rattle.text.specs.declared.version.Version.{Version}
 use Rattle.text.specs.Releases.{release_number}
 use Rattle.hatch_format.specs.declared.Caps.{Caps}
 use Rattle.hatch_format.specs.HandleRule.{Handles, in_payload, in_stream}
 use Rattle.hatch_format.specs.Values.{Point, Vertex, Arc, Ellipse, Fits, unfitted, fitted, Spline, Edge, line, arc, ellipse, spline, Segments, polyline}
-use Rattle.hatch_format.specs.Values.{edges, Path, polylined, derived, PatternLine, Pattern, no_pattern, Ending, Tail, Rest, add_handles}
+use Rattle.hatch_format.specs.Values.{edges, Path, polylined, PatternLine, Pattern, Rest, add_handles}
 use Rattle.hatch_format.specs.Entries.{every, edge_words, segment_words, path_words, line_words, words, point_numbers, vertex_numbers, fit_numbers, edge_numbers}
 use Rattle.hatch_format.specs.Entries.{segment_numbers, path_numbers, line_numbers, numbers}
-use Rattle.bitcursor.specs.Chains.{◌⨾◌, Nothing, EachBy, Each}
+use Rattle.bitcursor.specs.Chains.{◌⨾◌, EachBy, Each}
 use Rattle.bitcursor.specs.Joins.{Coded}
-use Rattle.hatch_format.specs.Layouts.{Count, Listed, PointLaid, VertexLaid, ArcLaid, EllipseLaid, FitsLaid, SplineLaid, EdgeLaid, SegmentsLaid}
-use Rattle.hatch_format.specs.Layouts.{HandlesLaid, PathLaid, LineLaid, PatternLaid, EndingLaid, TailLaid, RestLaid}
+use Rattle.hatch_format.specs.Layouts.{PointLaid, VertexLaid, ArcLaid, EllipseLaid, FitsLaid, SplineLaid, EdgeLaid, SegmentsLaid}
+use Rattle.hatch_format.specs.Layouts.{HandlesLaid, PathLaid, LineLaid, PatternLaid, RestLaid}
 use Rattle.hatch_format.specs.Takes.{takes_RC, takes_RD, takes_BD, takes_BL, takes_BS}
 
 -- what is laid out so takes n bits at least

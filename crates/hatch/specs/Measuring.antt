@@ -1,15 +1,14 @@
 -- Measuring: what a call that takes both lists to be as long as can be says of the same call with lists of any lengths. Theorems about the
 -- call's own definition, with a reader and without, for any caps. Assumes nothing.
-use Rattle.std.specs.Prelude.{◌≡◌, refl, Bool, true, false, ◌&&◌, ◌⊎◌, ℕ, ◌+◌, ◌*◌, ◌≤◌, ◌<◌, leb, length}
+use Rattle.std.specs.Prelude.{◌≡◌, refl, Bool, true, false, ◌⊎◌, ℕ, ◌+◌, ◌*◌, ◌≤◌, ◌<◌, leb, length}
 use Rattle.std.proofs.Common.{sym, ap, subst, ◌∙◌, inl, inr, arith, leb→le, le-leb, leb-false}
 use Rattle.std.proofs.lemmas.Bool.{lt-leb}
 use Rattle.bitcursor.specs.declared.Refusal.{Refusal}
 use Rattle.bitcursor.specs.declared.Refusal.TheVariants.{TooFewBits, UnknownRelease, PayloadTooLong, ListTooShort}
 use Rattle.loads.specs.Bits.{size, limit}
 use Rattle.bitcursor.specs.Reading.{Out, got, refused, place, never}
-use Rattle.bitcursor.specs.Format.{relay}
 use Rattle.bitcursor.specs.Whole.{refused_by_fields}
-use Rattle.bitcursor.specs.Inputs.{Places, Payloads, Onward}
+use Rattle.bitcursor.specs.Inputs.{Places, Onward}
 use Rattle.text.specs.declared.version.Version.{Version}
 use Rattle.text.specs.declared.version.MaybeVersion.{MaybeVersion}
 use Rattle.text.specs.declared.version.MaybeVersion.TheVariants.{Known, Unknown}

@@ -14,7 +14,6 @@ use Rattle.bitcursor.specs.declared.Refusal.{Refusal}
 use Rattle.bitcursor.specs.declared.Refusal.TheVariants.{ListTooShort}
 use Rattle.bitcursor.specs.Reading.{Out, got, refused}
 use Rattle.bitcursor.specs.Ranges.{BS_below}
-use Rattle.bitcursor.specs.Format.{relay}
 use Rattle.text.specs.declared.Places.{Places}
 use Rattle.text.specs.declared.version.Version.{Version}
 use Rattle.hatch_format.proofs.Rests.{rest_to}
@@ -26,15 +25,13 @@ use Rattle.hatch_format.specs.Patterns.{rest}
 use Rattle.hatch_points.specs.declared.lists.Sizes.{Sizes}
 use Rattle.hatch_points.specs.Gathered.{Entries, gathered}
 use Rattle.hatch_points.specs.Gathers.{all_both}
-use Rattle.hatch_points.specs.Lists.{Lists, lists, doubles_of, store, grow, Stored, Kept}
+use Rattle.hatch_points.specs.Lists.{Lists, lists, doubles_of, store, grow, Stored}
 use Rattle.hatch_paths.specs.PathGathers.{all_paths}
 use Rattle.hatch_rest.specs.declared.rests.Rest.{Rest}
-use Rattle.hatch_rest.specs.declared.rests.RestWalk.{RestWalk}
 use Rattle.hatch_rest.specs.declared.rests.RestWalk.TheVariants.{Done, Refused}
 use Rattle.hatch_rest.specs.Tails.{Gives}
 use Rattle.hatch_rest.specs.Rests.{no_sizes, rest_of, rest_entries, rest_walk}
 use Rattle.hatch_front.specs.declared.Front.{Front}
-use Rattle.hatch_body.specs.declared.Parts.{Parts}
 use Rattle.hatch_body.specs.declared.BodyRead.{BodyRead}
 use Rattle.hatch_body.specs.declared.BodyRead.TheVariants.{Done as DoneBody, Refused as RefusedBody}
 use Rattle.hatch_body.specs.Parts.{placed, none_lent, Walked, long_enough, parts_if, rest_read, laid_if, rest_lists}

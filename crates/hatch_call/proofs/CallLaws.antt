@@ -1,7 +1,7 @@
 -- A whole call from the answers for its parts, and the tests in front of it. Assumes nothing.
 use mathlib.Core.Path.{◌≡◌, refl, sym, ap, ap₂, subst, ◌∙◌}
 use mathlib.Core.Bool.{Bool, true, false, ◌&&◌}
-use mathlib.Core.List.{List, []}
+use mathlib.Core.List.{List}
 use Prim.Native.Nat.{ℕ, ◌*◌, ◌^◌, ◌≤◌, ◌<◌}
 use native.Mathlib.Omega.{arith}
 use lib.Dec.{leb}
@@ -32,17 +32,16 @@ use Rattle.hatch_format.specs.Hatch.{plane, hatch}
 use Rattle.hatch_format.specs.Call.{room_for, call_on}
 use Rattle.hatch_format.specs.Begins.{BL_begins, BD_begins}
 use Rattle.hatch_points.specs.Lists.{Lists, grow}
-use Rattle.hatch_rest.specs.Rests.{no_sizes, rest_of, rest_entries}
+use Rattle.hatch_rest.specs.Rests.{no_sizes, rest_entries}
 use Rattle.hatch_front.specs.declared.Front.{Front as CodeFront}
 use Rattle.hatch_front.specs.declared.FrontRead.{FrontRead}
 use Rattle.hatch_front.specs.declared.FrontRead.TheVariants.{Done as DoneFront, Refused as RefusedFront}
 use Rattle.hatch_front.specs.Fronts.{Front, front, named, whole, hatch_front}
 use Rattle.hatch_front.specs.Answers.{ColorsAt, front_of, FrontIs}
-use Rattle.hatch_body.specs.declared.Parts.{Parts}
 use Rattle.hatch_body.specs.declared.BodyRead.{BodyRead}
-use Rattle.hatch_body.specs.declared.BodyRead.TheVariants.{Done, Refused as RefusedBody}
-use Rattle.hatch_body.specs.Parts.{BodyIs, Readable, placed, long_enough, parts_if, rest_read, laid_if, rest_lists}
-use Rattle.hatch_call.specs.Calls.{laid_over, CallIs}
+use Rattle.hatch_body.specs.declared.BodyRead.TheVariants.{Refused as RefusedBody}
+use Rattle.hatch_body.specs.Parts.{placed, long_enough, parts_if, rest_read, laid_if, rest_lists}
+use Rattle.hatch_call.specs.Calls.{CallIs}
 use Rattle.hatch_body.proofs.BodyLaws.{used_words, used_numbers, rest_range}
 
 -- ---- from the front's answer, what was read

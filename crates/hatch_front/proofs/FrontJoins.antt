@@ -28,7 +28,7 @@ use Rattle.hatch_front.specs.declared.Plane.{Plane}
 use Rattle.hatch_front.specs.declared.PlaneRead.{PlaneRead}
 use Rattle.hatch_front.specs.declared.PlaneRead.TheVariants.{Done as DonePlane, Refused as RefusedPlane}
 use Rattle.hatch_front.specs.declared.FrontRead.{FrontRead}
-use Rattle.hatch_front.specs.declared.FrontRead.TheVariants.{Done as DoneFront, Refused as RefusedFront}
+use Rattle.hatch_front.specs.declared.FrontRead.TheVariants.{Refused as RefusedFront}
 use Rattle.hatch_front.specs.declared.gradients.Block.{Block}
 use Rattle.hatch_front.specs.declared.gradients.BlockRead.{BlockRead}
 use Rattle.hatch_front.specs.declared.gradients.BlockRead.TheVariants.{Done as DoneBlock, Refused as RefusedBlock}

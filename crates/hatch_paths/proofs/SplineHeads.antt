@@ -5,7 +5,6 @@ use Prim.Native.Nat.{ℕ, ◌+◌, ◌*◌, ◌^◌, ◌≤◌, ◌<◌}
 use native.Mathlib.Omega.{arith}
 use lib.Dec.{eqb}
 use lib.ListN.{length}
-use Rattle.bitcursor.specs.declared.Read.{Read}
 use Rattle.bitcursor.specs.declared.Read.TheVariants.{Value}
 use Rattle.loads.specs.Bits.{bit}
 use Rattle.bitcursor.specs.Code.{raw}
@@ -13,7 +12,7 @@ use Rattle.bitcursor.specs.Codes.{BL}
 use Rattle.bitcursor.specs.Answers.{as_read}
 use Rattle.bitcursor.specs.Ranges.{raw_below}
 use Rattle.bitcursor.proofs.Longs.{BL_below}
-use Rattle.sequence.specs.Sequence.{then_read, value_of, step_below}
+use Rattle.sequence.specs.Sequence.{then_read, step_below}
 use Rattle.bitcursor.specs.Fields.{coded}
 use Rattle.hatch_format.specs.declared.Caps.{Caps}
 use Rattle.hatch_format.specs.Takes.{takes_BL}

@@ -1,10 +1,10 @@
 -- What an edge holds for the lists is what its walk gathers. Assumes nothing.
 use Rattle.std.specs.Prelude.{◌≡◌, Bool, leb, length}
 use Rattle.std.proofs.Math.Path.{refl, ap₂}
-use Rattle.std.proofs.Common.{sym, ap, subst, ◌∙◌}
+use Rattle.std.proofs.Common.{sym, ap, ◌∙◌}
 use Rattle.std.proofs.Math.Bool.{true, false}
 use mathlib.Core.List.{List, [], ◌∷◌, ◌++◌}
-use Prim.Native.Nat.{ℕ, zero, suc, ◌+◌, ◌*◌}
+use Prim.Native.Nat.{ℕ, zero, suc, ◌*◌}
 use Rattle.bitcursor.specs.declared.Refusal.TheVariants.{EdgeKind}
 use Rattle.loads.specs.Bits.{bit}
 use Rattle.bitcursor.specs.Reading.{Out, got, refused, and_then}
@@ -16,13 +16,13 @@ use Rattle.bitcursor.specs.Fields.{coded}
 use Rattle.text.specs.declared.version.Version.{Version}
 use Rattle.text.specs.Releases.{release_number}
 use Rattle.hatch_format.specs.declared.Caps.{Caps}
-use Rattle.hatch_format.specs.Values.{Point, Vertex, Arc, Ellipse, Fits, unfitted, fitted, Spline, Edge, line, arc, ellipse, spline}
+use Rattle.hatch_format.specs.Values.{Point, Vertex, Arc, Ellipse, Fits, unfitted, fitted, Spline, Edge, arc, ellipse, spline}
 use Rattle.hatch_format.specs.Entries.{every, point_numbers, vertex_numbers, fit_count, fit_numbers, edge_words, edge_numbers}
 use Rattle.hatch_format.specs.Counts.{times, bounded, counted}
 use Rattle.hatch_format.specs.Points.{point, vertex, arc_read, arc_edge, ellipse_read, ellipse_edge}
 use Rattle.hatch_format.specs.Splines.{fitted_by, fits_read, fits, spline_lists, spline_controls, spline_counts, spline_read, spline_edge}
 use Rattle.hatch_format.specs.Edges.{edge_of, edge_read, edge}
-use Rattle.hatch_points.specs.Gathered.{Entries, none, word, words, numbers, plus, all, gathered, same_first, first_gathers, last_gathers, more_gathers}
+use Rattle.hatch_points.specs.Gathered.{Entries, word, words, numbers, plus, all, gathered, same_first, first_gathers, last_gathers, more_gathers}
 use Rattle.hatch_points.specs.Walks.{raw_run, double_run, vertices_walk}
 use Rattle.hatch_paths.specs.PathWalks.{bit_walk, curve_walk, fits_walk, fitted_raw, spline_lists_walk, spline_walk, edge_of_walk, edge_walk}
 use Rattle.hatch_points.specs.Runs.{point_entries, vertex_entries, times_length, point_gathers, points_gather, vertices_gather}

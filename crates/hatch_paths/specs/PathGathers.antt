@@ -1,9 +1,9 @@
 -- What a path holds for the lists is what its walk gathers. Assumes nothing.
-use Rattle.std.specs.Prelude.{◌≡◌, Bool, ◌||◌, List, [], ◌∷◌, ◌++◌, leb, length}
+use Rattle.std.specs.Prelude.{◌≡◌, Bool, ◌||◌, List, [], ◌∷◌, ◌++◌, length}
 use Rattle.std.proofs.Math.Path.{refl, sym}
-use Rattle.std.proofs.Common.{ap, ap₂, subst, ◌∙◌, append-nil}
+use Rattle.std.proofs.Common.{ap, ◌∙◌, append-nil}
 use Rattle.std.proofs.Math.Bool.{true, false}
-use Prim.Native.Nat.{ℕ, zero, suc, ◌+◌, ◌*◌, ◌/◌}
+use Prim.Native.Nat.{ℕ, ◌/◌}
 use Rattle.loads.specs.Bits.{bit, odd}
 use Rattle.bitcursor.specs.Reading.{Out, got, refused, and_then}
 use Rattle.bitcursor.specs.Codes.{B, BL}
@@ -12,14 +12,14 @@ use Rattle.bitcursor.specs.Inputs.{one}
 use Rattle.bitcursor.specs.Fields.{coded}
 use Rattle.text.specs.declared.version.Version.{Version}
 use Rattle.hatch_format.specs.declared.Caps.{Caps}
-use Rattle.hatch_format.specs.Values.{Point, Vertex, Edge, Segments, polyline, edges, Path, polylined, derived}
+use Rattle.hatch_format.specs.Values.{Segments, polyline, edges, Path, polylined, derived}
 use Rattle.hatch_format.specs.Entries.{every, vertex_numbers, edge_words, edge_numbers, segment_words, path_words, path_numbers, segment_numbers}
 use Rattle.hatch_format.specs.HandleRule.{in_payload}
 use Rattle.hatch_format.specs.Counts.{times}
 use Rattle.hatch_format.specs.Points.{vertex, takes_vertex}
 use Rattle.hatch_format.specs.Edges.{edge, takes_edge}
 use Rattle.hatch_format.specs.Paths.{handle_count, segments_read, segments, path_read, path}
-use Rattle.hatch_points.specs.Gathered.{Entries, none, word, words, numbers, flag_entries, plus, all, gathered, same_first, first_gathers}
+use Rattle.hatch_points.specs.Gathered.{Entries, word, words, flag_entries, plus, all, gathered, same_first, first_gathers}
 use Rattle.hatch_points.specs.Gathered.{last_gathers, more_gathers, repeated}
 use Rattle.hatch_points.specs.Walks.{vertices_walk}
 use Rattle.hatch_paths.specs.PathWalks.{edge_walk, polyline_walk, edges_walk, segments_walk, handles_walk, after_flags_walk, path_walk}

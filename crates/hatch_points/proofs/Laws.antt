@@ -3,15 +3,15 @@
 use mathlib.Core.Path.{◌≡◌, refl, sym, ap, ap₂, subst, subst₂, ◌∙◌}
 use mathlib.Core.Bool.{Bool, true, false, ◌||◌}
 use mathlib.Core.List.{List, [], ◌∷◌, ◌++◌, append_assoc, append-nil}
-use Prim.Native.Nat.{ℕ, zero, suc, ◌+◌, ◌-◌, ◌*◌, ◌/◌, ◌≤◌, ◌<◌, max}
+use Prim.Native.Nat.{ℕ, suc, ◌+◌, ◌*◌, ◌/◌, ◌≤◌}
 use native.Mathlib.Nat.{add-zero, add_assoc}
 use native.Mathlib.Omega.{arith}
-use lib.Ieee.{Float, of_bits, binary64}
+use lib.Ieee.{Float}
 use lib.ListN.{length, length-append, set, take}
 use lib.Seq.{sets, set_out, length-sets, take-set-le, take-take}
 use Rattle.bitcursor.specs.declared.Refusal.{Refusal}
 use Rattle.loads.specs.Bits.{odd}
-use Rattle.bitcursor.specs.Reading.{Out, got, refused, and_then, never}
+use Rattle.bitcursor.specs.Reading.{Out, got, refused, and_then}
 use Rattle.bitcursor.specs.Format.{Format, pure, ◌>>=◌}
 use Rattle.bitcursor.specs.Inputs.{one}
 use Rattle.hatch_format.specs.Takes.{Takes, moved}

@@ -13,7 +13,7 @@ use Rattle.bitcursor.specs.Inputs.{one}
 use lib.ListN.{length, length-append}
 use lib.Ieee.{Float}
 use Rattle.hatch_points.specs.declared.lists.Sizes.{Sizes}
-use Rattle.hatch_points.specs.Gathered.{Entries, none, word, numbers, plus, repeated}
+use Rattle.hatch_points.specs.Gathered.{Entries, none, numbers, plus, repeated}
 use Rattle.bitcursor.specs.Doubles.{BD}
 use Rattle.hatch_points.specs.Walks.{single_walk}
 use Rattle.hatch_points.specs.declared.lists.Walk.{Walk}

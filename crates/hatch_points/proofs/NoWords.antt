@@ -1,28 +1,24 @@
 -- Which walks gather no words, and which no numbers; and the range of what becomes a word. Assumes nothing.
 use mathlib.Core.Path.{◌≡◌, refl, sym, ap, ◌∙◌}
-use mathlib.Core.Bool.{Bool, true, false}
-use mathlib.Core.List.{List, [], ◌∷◌}
-use Prim.Native.Nat.{ℕ, zero, suc, ◌+◌, ◌*◌, ◌^◌, ◌≤◌, ◌<◌}
+use mathlib.Core.Bool.{Bool}
+use mathlib.Core.List.{List, []}
+use Prim.Native.Nat.{ℕ, zero, suc, ◌<◌}
 use native.Mathlib.Omega.{arith}
 use lib.Dec.{eqb}
-use Rattle.bitcursor.specs.declared.Refusal.{Refusal}
-use Rattle.bitcursor.specs.declared.Refusal.TheVariants.{EdgeKind}
-use Rattle.hatch_format.specs.declared.Caps.{Caps}
 use Rattle.loads.specs.Bits.{bit}
-use Rattle.bitcursor.specs.Reading.{Out, got, refused, and_then, never}
+use Rattle.bitcursor.specs.Reading.{Out, got, refused, never}
 use lib.ListN.{length}
 use Rattle.loads.specs.BitLaws.{length_digits}
-use Rattle.bitcursor.specs.Code.{Code, raw}
-use Rattle.bitcursor.specs.Codes.{B, RD, BL}
+use Rattle.bitcursor.specs.Code.{raw}
+use Rattle.bitcursor.specs.Codes.{RD}
 use Rattle.hatch_format.specs.Takes.{Takes, takes_code}
 use Rattle.bitcursor.specs.Doubles.{BD}
-use Rattle.bitcursor.specs.Format.{pure, refuse, ◌>>=◌, relay}
+use Rattle.bitcursor.specs.Format.{pure, ◌>>=◌}
 use Rattle.bitcursor.specs.Fields.{coded}
-use Rattle.hatch_format.specs.Values.{Vertex}
 use Rattle.hatch_format.specs.Entries.{vertex_numbers}
-use Rattle.hatch_format.specs.Counts.{times, bounded}
+use Rattle.hatch_format.specs.Counts.{times}
 use Rattle.hatch_format.specs.Points.{vertex}
-use Rattle.hatch_points.specs.Gathered.{Entries, word, numbers, all, gathered}
+use Rattle.hatch_points.specs.Gathered.{Entries, numbers, all, gathered}
 use Rattle.hatch_points.specs.Walks.{raw_run, double_run, vertices_walk}
 use Rattle.hatch_points.specs.Runs.{vertex_entries, vertices_gather}
 use Rattle.hatch_points.specs.Gathers.{all_numbers}

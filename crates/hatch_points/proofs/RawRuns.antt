@@ -2,15 +2,15 @@
 -- Assumes nothing.
 use mathlib.Core.Path.{◌≡◌, refl, sym, ap, ap₂, ◌∙◌}
 use mathlib.Core.List.{List, [], ◌∷◌, ◌++◌}
-use mathlib.Core.Logic.{⊎_elim, ◌⊎◌, inl, inr}
+use mathlib.Core.Logic.{⊎_elim}
 use Prim.Native.Nat.{ℕ, zero, suc, ◌+◌, ◌-◌, ◌*◌, ◌/◌, ◌≤◌, ◌<◌, min}
 use native.Mathlib.Omega.{arith}
 use lib.Ieee.{Float, of_bits, binary64}
-use lib.ListN.{length, set, length-set}
+use lib.ListN.{length, set}
 use lib.Seq.{sets, length-sets}
 use Rattle.bitcursor.specs.declared.Refusal.TheVariants.{TooFewBits}
 use Rattle.loads.specs.Bits.{size}
-use Rattle.bitcursor.specs.Reading.{Out, got, refused, and_then}
+use Rattle.bitcursor.specs.Reading.{got, refused}
 use Rattle.bitcursor.specs.Bytes.{le_or_lt}
 use Rattle.loads.specs.Bytes.{low_number, bytes_at}
 use Rattle.bitcursor.specs.Codes.{RD}
@@ -18,7 +18,7 @@ use Rattle.bitcursor.specs.Stops.{low_there, low_short}
 use Rattle.bitcursor.specs.Format.{pure, ◌>>=◌, relay}
 use Rattle.bitcursor.specs.Fields.{coded}
 use Rattle.hatch_format.specs.Counts.{times, times_read}
-use Rattle.hatch_points.specs.Gathered.{Entries, numbers, gathered}
+use Rattle.hatch_points.specs.Gathered.{numbers, gathered}
 use Rattle.hatch_points.specs.Walks.{raw_run}
 use Rattle.hatch_points.specs.Lists.{doubles_of, doubles_append, length_doubles}
 use Rattle.hatch_points.specs.Stores.{raw_at}

@@ -1,8 +1,8 @@
 -- What a walk gathers for the lent lists, in reading order, and whether a path came from a boundary object; and what is gathered by reading
 -- a format: its values are forgotten, their entries kept. Assumes nothing.
-use Rattle.std.specs.Prelude.{◌≡◌, Bool, true, false, ◌||◌, List, [], ◌∷◌, ◌++◌}
+use Rattle.std.specs.Prelude.{◌≡◌, Bool, false, ◌||◌, List, [], ◌∷◌, ◌++◌}
 use Rattle.std.proofs.Math.Path.{refl, ap}
-use Rattle.std.proofs.Common.{sym, ◌∙◌}
+use Rattle.std.proofs.Common.{◌∙◌}
 use Prim.Native.Nat.{ℕ, zero, suc, ◌/◌}
 use Rattle.loads.specs.Bits.{odd}
 use Rattle.bitcursor.specs.Reading.{Out, got, refused, and_then}

@@ -1,30 +1,20 @@
 -- Laws by which a format's entries are shown to be what its walk gathers: counts with their items, and runs taken apart. Assumes nothing.
-use Rattle.std.specs.Prelude.{◌≡◌, Bool, true, false, ◌||◌, List, [], ◌∷◌, ◌++◌, leb, length}
+use Rattle.std.specs.Prelude.{◌≡◌, false, List, [], ◌∷◌, length}
 use Rattle.std.proofs.Math.Path.{refl, ap}
-use Rattle.std.proofs.Common.{sym, ap₂, subst, ◌∙◌, append-nil, arith}
-use Prim.Native.Nat.{ℕ, zero, suc, ◌+◌, ◌*◌, ◌/◌}
-use Rattle.bitcursor.specs.declared.Refusal.{Refusal}
-use Rattle.loads.specs.Bits.{bit, odd}
+use Rattle.std.proofs.Common.{sym, ◌∙◌}
+use Prim.Native.Nat.{ℕ, suc, ◌+◌}
 use Rattle.bitcursor.specs.Reading.{Out, got, refused, and_then}
 use Rattle.bitcursor.specs.Code.{Code}
-use Rattle.bitcursor.specs.Codes.{B, RC, RD, BS, BL}
 use Rattle.bitcursor.specs.Doubles.{BD}
-use Rattle.bitcursor.specs.Format.{Format, pure, refuse, ◌>>=◌, relay}
+use Rattle.bitcursor.specs.Format.{Format, pure, ◌>>=◌, relay}
 use Rattle.bitcursor.specs.Inputs.{one}
 use Rattle.bitcursor.specs.Fields.{coded}
-use Rattle.text.specs.declared.version.Version.{Version}
-use Rattle.text.specs.Releases.{release_number}
-use Rattle.hatch_format.specs.declared.Caps.{Caps}
-use Rattle.hatch_format.specs.Values.{Point, Vertex, Arc, Ellipse, Fits, unfitted, fitted, Spline, Edge, line, arc, ellipse, spline}
-use Rattle.hatch_format.specs.Entries.{every, point_numbers, vertex_numbers, fit_count, fit_numbers, edge_words, edge_numbers}
+use Rattle.hatch_format.specs.Entries.{every}
 use Rattle.hatch_format.specs.Takes.{Takes}
 use Rattle.hatch_format.specs.Counts.{times_read, times, bounded, counted, listed_read, listed}
-use Rattle.hatch_format.specs.Points.{point, vertex, arc_read, arc_edge, ellipse_read, ellipse_edge}
-use Rattle.hatch_format.specs.Splines.{fitted_by, fits_read, fits, spline_lists, spline_controls, spline_counts, spline_read, spline_edge}
-use Rattle.hatch_format.specs.Edges.{edge_of, edge_read, edge}
-use Rattle.hatch_points.specs.Gathered.{Entries, none, word, words, numbers, plus, all, gathered, same_first, first_gathers, repeated}
-use Rattle.hatch_points.specs.Walks.{raw_run, double_run, single_walk, vertices_walk}
-use Rattle.hatch_points.specs.Runs.{point_entries, vertex_entries, times_length, raw_add, point_gathers, points_gather, vertices_gather, times_gather}
+use Rattle.hatch_points.specs.Gathered.{Entries, none, numbers, plus, all, gathered, repeated}
+use Rattle.hatch_points.specs.Walks.{raw_run, double_run, single_walk}
+use Rattle.hatch_points.specs.Runs.{times_length, raw_add, times_gather}
 
 -- ---- lists of entries
 pub all_numbers : {A : Type 0} (f : A → List ℕ) (items : List A) → all (λ a. numbers (f a)) items ≡ numbers (every f items)

@@ -1,6 +1,6 @@
 -- Counts as the code tests them, and scalar fields in a row in front of a walk: each is read where the one before ended, and a refusal
 -- stays. Assumes nothing.
-use Rattle.std.specs.Prelude.{◌≡◌, Bool, true, false, List, [], ◌∷◌, leb, eqb}
+use Rattle.std.specs.Prelude.{◌≡◌, Bool, true, false, List, leb, eqb}
 use Rattle.std.proofs.Math.Path.{refl, ap}
 use Rattle.std.proofs.Common.{sym, ◌∙◌, arith, le-leb}
 use Prim.Native.Nat.{ℕ, ◌-◌, ◌≤◌, ◌<◌}
@@ -11,7 +11,7 @@ use Rattle.bitcursor.specs.declared.Read.TheVariants.{Value, Refused}
 use Rattle.loads.specs.Bits.{size}
 use Rattle.bitcursor.specs.Reading.{Out, got, refused, and_then}
 use Rattle.bitcursor.specs.Code.{Code, raw, ◌>>=◌ as ◌then◌, give, mapped, tabled}
-use Rattle.bitcursor.specs.Codes.{B, B_read, BL}
+use Rattle.bitcursor.specs.Codes.{B, B_read}
 use Rattle.bitcursor.specs.Answers.{as_read}
 use Rattle.sequence.specs.Sequence.{then_read, value_of}
 use Rattle.bitcursor.specs.Format.{Format, pure, refuse, ◌>>=◌, relay, either}

@@ -1,13 +1,13 @@
 -- Runs of items: n walks gather what n items hold, and points are runs of RD. Assumes nothing.
 use Rattle.std.specs.Prelude.{◌≡◌, Bool, length}
 use Rattle.std.proofs.Math.Path.{refl, sym, ap}
-use Rattle.std.proofs.Common.{subst, ◌∙◌, zero-add}
+use Rattle.std.proofs.Common.{◌∙◌, zero-add}
 use Rattle.std.proofs.Math.Bool.{true, false}
 use mathlib.Core.List.{List, [], ◌∷◌, ◌++◌}
 use Prim.Native.Nat.{ℕ, zero, suc, ◌+◌, ◌*◌}
 use native.Mathlib.Omega.{arith}
 use Rattle.bitcursor.specs.Reading.{Out, got, refused, and_then}
-use Rattle.bitcursor.specs.Code.{Code, give}
+use Rattle.bitcursor.specs.Code.{give}
 use Rattle.bitcursor.specs.Codes.{RD}
 use Rattle.bitcursor.specs.Doubles.{BD}
 use Rattle.bitcursor.specs.Held.{held}
@@ -16,10 +16,9 @@ use Rattle.bitcursor.specs.Inputs.{one}
 use Rattle.bitcursor.specs.Fields.{coded}
 use Rattle.hatch_format.specs.Values.{Point, Vertex}
 use Rattle.hatch_format.specs.Entries.{point_numbers, vertex_numbers}
-use Rattle.hatch_format.specs.Takes.{Takes}
-use Rattle.hatch_format.specs.Counts.{times_read, times, bounded, counted, listed_read, listed}
+use Rattle.hatch_format.specs.Counts.{times_read, times}
 use Rattle.hatch_format.specs.Points.{point_read, point, vertex_read, vertex}
-use Rattle.hatch_points.specs.Gathered.{Entries, none, numbers, plus, all, gathered, first_gathers, repeated}
+use Rattle.hatch_points.specs.Gathered.{Entries, numbers, plus, all, gathered, first_gathers, repeated}
 use Rattle.hatch_points.specs.Walks.{raw_run, double_run, vertex_walk, vertices_walk}
 
 -- ---- n items

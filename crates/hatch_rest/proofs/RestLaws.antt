@@ -1,8 +1,8 @@
 -- What follows the pattern's name, from the answers for its parts. Assumes nothing.
-use mathlib.Core.Path.{◌≡◌, refl, sym, ap, subst, ◌∙◌}
-use mathlib.Core.Bool.{Bool, true, false, ◌||◌}
+use mathlib.Core.Path.{◌≡◌, sym, ap, subst, ◌∙◌}
+use mathlib.Core.Bool.{Bool, true}
 use mathlib.Core.List.{List}
-use Prim.Native.Nat.{ℕ, ◌+◌, ◌*◌, ◌^◌, ◌≤◌, ◌<◌}
+use Prim.Native.Nat.{ℕ, ◌*◌, ◌≤◌}
 use native.Mathlib.Omega.{arith}
 use lib.Dec.{leb, eqb}
 use lib.ListN.{length}
@@ -37,13 +37,12 @@ use Rattle.hatch_rest.specs.declared.rests.RestWalk.TheVariants.{Done, Refused a
 use Rattle.hatch_points.specs.Gathered.{Entries, all, gathered, repeated}
 use Rattle.hatch_paths.specs.PathWalks.{path_walk}
 use Rattle.hatch_points.specs.Runs.{times_length}
-use Rattle.hatch_paths.specs.EdgeGathers.{fit_release}
 use Rattle.hatch_paths.specs.PathGathers.{path_entries, all_paths, paths_gather}
 use Rattle.hatch_points.specs.Lists.{Lists, grow, Ready, Walks}
 use Rattle.hatch_points.specs.Heads.{resumed, one_more, bit_more}
 use Rattle.hatch_rest.specs.Tails.{Gives, tail_of, tail_entries, tail_walk}
-use Rattle.hatch_rest.specs.Rests.{no_sizes, rest_of, rest_entries, rest_walk}
-use Rattle.hatch_points.proofs.Laws.{Step, ◌⊕◌, kept_same, kept_then, walk_kept, walks_as}
+use Rattle.hatch_rest.specs.Rests.{no_sizes, rest_entries, rest_walk}
+use Rattle.hatch_points.proofs.Laws.{◌⊕◌, kept_same, kept_then, walk_kept, walks_as}
 use Rattle.hatch_points.proofs.Rows.{ends_next, ends_ready, resumed_same, listed_row}
 use Rattle.hatch_rest.proofs.TailLaws.{gives_got, gives_kept, answers_refused, ValueRead, value_read, value_refused, pure_read}
 use Rattle.hatch_rest.proofs.TailEnds.{gives_step, gives_ready}

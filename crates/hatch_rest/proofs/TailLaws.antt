@@ -36,7 +36,7 @@ use Rattle.hatch_rest.specs.LineGathers.{line_walk}
 use Rattle.hatch_points.specs.Runs.{point_entries, times_length, times_gather, points_gather}
 use Rattle.hatch_points.specs.Gathers.{all_numbers}
 use Rattle.hatch_rest.specs.LineGathers.{line_entries, line_gathers}
-use Rattle.hatch_points.specs.Lists.{Lists, lists, store, grow, Kept, Stored, Ready, Walks}
+use Rattle.hatch_points.specs.Lists.{Lists, store, grow, Kept, Stored, Ready, Walks}
 use Rattle.hatch_points.specs.Heads.{resumed, one_more, bit_more}
 use Rattle.hatch_rest.specs.Tails.{Gives, pattern_entries, pattern_walk, ending_entries, ending_walk}
 use Rattle.hatch_points.proofs.Laws.{Step, step_as, kept_same, walk_ready, walk_kept, walks_as}

@@ -1,9 +1,9 @@
 -- Every text that is laid out, and every text that a call on one payload reads, has the padding that specs/Padding says. Assumes nothing.
-use Rattle.std.specs.Prelude.{◌≡◌, refl, Bool, true, false, List, [], ℕ, ◌+◌, ◌-◌, ◌*◌, ◌/◌, length}
+use Rattle.std.specs.Prelude.{◌≡◌, refl, Bool, true, false, List, [], ℕ, ◌+◌, ◌-◌, ◌*◌, length}
 use Rattle.std.proofs.Common.{sym, ap, subst, subst₂, ◌∙◌, arith}
 use Rattle.bitcursor.specs.Reading.{Out, got, refused, never}
 use Rattle.bitcursor.specs.Inputs.{Places, Payloads}
-use Rattle.bitcursor.specs.Fields.{Payload, main, string, bytes_in, place_in, lifted, moved_in}
+use Rattle.bitcursor.specs.Fields.{string, bytes_in, place_in, lifted, moved_in}
 use Rattle.text.specs.declared.Source.{Source}
 use Rattle.text.specs.declared.Source.TheVariants.{Main, String}
 use Rattle.text.specs.declared.Text.{Text}
@@ -18,7 +18,7 @@ use Rattle.text.specs.Answers.{placed, inline_text, reader_text, payloads}
 use Rattle.text.specs.FieldReads.{reader_reads}
 use Rattle.text.specs.Layouts.{ReaderText, over, laid, reader_to}
 use Rattle.text.specs.TextField.{InlineText, TextBy, TextLaid}
-use Rattle.text.specs.Padding.{units_in, laid_in, Padding, text_payload}
+use Rattle.text.specs.Padding.{Padding, text_payload}
 
 -- ---- the text that n units at r are
 module _ (xs : List ℕ) (r k n : ℕ) where

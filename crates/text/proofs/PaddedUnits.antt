@@ -4,12 +4,11 @@ use Rattle.std.specs.Prelude.{◌≡◌, refl, Bool, true, false, List, [], ◌�
 use Rattle.std.proofs.Common.{sym, ap, ap₂, subst₂, ◌∙◌, append-nil, eqb-true}
 use Rattle.std.proofs.Math.Path.{subst⁻¹}
 use Rattle.bitcursor.specs.declared.Refusal.TheVariants.{NotUtf16}
-use Rattle.bitcursor.specs.Code.{Code, give, refuse, ◌>>=◌, tabled, measured}
+use Rattle.bitcursor.specs.Code.{give, refuse, ◌>>=◌, tabled, measured}
 use Rattle.bitcursor.specs.Codes.{BS, BS_codes}
 use Rattle.bitcursor.specs.Handles.{checked}
 use Rattle.text.specs.Units.{AllBelow, unit_bits, units}
-use Rattle.text.specs.Utf16.{Utf16, paired_from, utf16_test}
-use Rattle.text.specs.Texts.{UnitWidth, narrow, wide, unit_bytes, unclosed, ends_in_zero, laid_out, Unpadded, Valid, valid, valid_to, valid_from, Written, written, written_of, TV_codes, TV_of, checked_units, TV_read}
+use Rattle.text.specs.Texts.{UnitWidth, unit_bytes, unclosed, ends_in_zero, laid_out, Unpadded, valid, valid_to, valid_from, Written, written_of, TV_codes, TV_of, checked_units, TV_read}
 
 -- units and padding give back what was laid out
 pub laid_back : (laid : List ℕ) → laid_out (unclosed laid) (ends_in_zero laid) ≡ laid

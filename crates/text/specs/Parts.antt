@@ -7,7 +7,7 @@ use mathlib.Core.List.{List}
 use Rattle.bitcursor.specs.declared.Refusal.TheVariants.{NotUtf16}
 use Rattle.loads.specs.Bits.{size}
 use Rattle.bitcursor.specs.Reading.{Out, got, refused, place, and_then, never}
-use Rattle.bitcursor.specs.Code.{Moves, give, refuse, ◌>>=◌, tabled, measured, measured_out}
+use Rattle.bitcursor.specs.Code.{Moves, give, refuse, ◌>>=◌, measured, measured_out}
 use Rattle.bitcursor.specs.Codes.{BS}
 use Rattle.bitcursor.specs.Handles.{checked}
 use Rattle.bitcursor.specs.Bytes.{le_or_lt}

@@ -1,9 +1,7 @@
 -- Inline text: a length code, that many units, one closing zero dropped and said, and 16-bit units valid UTF-16. Assumes nothing.
 use Rattle.std.specs.Prelude.{◌≡◌, refl, Bool, true, false, List, [], ◌∷◌, ◌++◌, ℕ, ◌^◌, eqb, length}
-use Rattle.std.proofs.Common.{sym, ap, ap₂, subst₂, ◌∙◌, append-nil, eqb-true}
-use Rattle.std.proofs.Math.Path.{subst⁻¹}
 use Rattle.bitcursor.specs.declared.Refusal.TheVariants.{NotUtf16}
-use Rattle.bitcursor.specs.Code.{Code, give, refuse, ◌>>=◌, tabled, measured}
+use Rattle.bitcursor.specs.Code.{Code, give, refuse, ◌>>=◌, measured}
 use Rattle.bitcursor.specs.Codes.{BS, BS_codes}
 use Rattle.bitcursor.specs.Handles.{checked}
 use Rattle.text.specs.Units.{AllBelow, unit_bits, units}

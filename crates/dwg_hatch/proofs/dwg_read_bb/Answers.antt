@@ -1,5 +1,5 @@
 -- The call's answer, as numbers.
-use mathlib.Core.Path.{◌≡◌, sym, ap, ◌∙◌}
+use mathlib.Core.Path.{ap, ◌∙◌}
 use Rattle.bitcursor.specs.Codes.{BB}
 use Rattle.bitcursor.specs.Answers.{limited}
 use Rattle.boundary.specs.Boundary.{read_numbers}

@@ -1,5 +1,5 @@
 -- The call's answer, as numbers.
-use mathlib.Core.Path.{◌≡◌, refl, sym, ap, ◌∙◌}
+use mathlib.Core.Path.{ap, ◌∙◌}
 use Rattle.boundary.specs.PrefixBoundary.{double_answer}
 use Rattle.dwg_hatch.proofs.dwg_read_common_entity_data.Goals as goal
 

@@ -1,5 +1,5 @@
 -- The call's answer, as numbers.
-use mathlib.Core.Path.{◌≡◌, sym, ap, ◌∙◌}
+use mathlib.Core.Path.{ap, ◌∙◌}
 use lib.Ieee.{to_bits, binary64}
 use Rattle.bitcursor.specs.Doubles.{DD}
 use Rattle.bitcursor.specs.Answers.{limited}

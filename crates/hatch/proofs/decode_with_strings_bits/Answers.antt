@@ -1,5 +1,5 @@
 -- The record of the parts that the call read.
-use mathlib.Core.Path.{ap, ◌∙◌}
+use mathlib.Core.Path.{◌∙◌}
 use lib.ListN.{length}
 use Rattle.hatch_format.specs.Call.{lent}
 use Rattle.hatch.specs.Calls.{call_of}

@@ -1,5 +1,4 @@
 -- The front, and the rest behind it; either refuses for the whole.
-use mathlib.Core.Path.{refl, sym, ap, ◌∙◌}
 use Rattle.text.specs.Answers.{payloads, places_of}
 use Rattle.hatch_format.specs.HandleRule.{in_payload}
 use Rattle.hatch_points.specs.Lists.{lists}

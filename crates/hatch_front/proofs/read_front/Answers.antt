@@ -1,5 +1,4 @@
 -- The gradient, then the plane and the name; either refuses for the whole.
-use mathlib.Core.Path.{refl, sym, ap, ◌∙◌}
 use lib.Dec.{leb}
 use Rattle.text.specs.Answers.{payloads, places_of}
 use Rattle.text.specs.Releases.{release_number}

@@ -1,6 +1,5 @@
 -- By cases of the answer.
-use mathlib.Core.Path.{◌≡◌, sym, ap, ◌∙◌}
-use Prim.Native.Nat.{ℕ}
+use mathlib.Core.Path.{sym, ap}
 use Rattle.boundary.specs.Boundary.{f64_numbers}
 use Rattle.boundary.proofs.answers.of_f64.Goals as goal
 

@@ -1,6 +1,5 @@
 -- By cases of the answer.
-use mathlib.Core.Path.{◌≡◌, sym, ap, ◌∙◌}
-use Prim.Native.Nat.{ℕ}
+use mathlib.Core.Path.{sym, ap}
 use Rattle.boundary.specs.Boundary.{handle_numbers}
 use Rattle.boundary.proofs.answers.of_handle.Goals as goal
 

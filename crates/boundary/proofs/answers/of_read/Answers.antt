@@ -1,6 +1,5 @@
 -- By cases of the answer.
-use mathlib.Core.Path.{◌≡◌, sym, ap, ◌∙◌}
-use Prim.Native.Nat.{ℕ}
+use mathlib.Core.Path.{sym, ap}
 use Rattle.boundary.specs.Boundary.{read_numbers}
 use Rattle.boundary.proofs.answers.of_read.Goals as goal
 

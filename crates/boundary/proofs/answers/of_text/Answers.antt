@@ -1,5 +1,5 @@
 -- By cases of the answer.
-use mathlib.Core.Path.{◌≡◌, sym, ap, ◌∙◌}
+use mathlib.Core.Path.{sym, ap}
 use Rattle.boundary.specs.Boundary.{text_numbers}
 use Rattle.boundary.proofs.answers.of_text.Goals as goal
 

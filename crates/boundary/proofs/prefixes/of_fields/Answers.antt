@@ -1,5 +1,4 @@
 -- Every field is copied; a number of 16 bits is the bits it is kept in.
-use mathlib.Core.Path.{◌≡◌, refl, sym, ap, ◌∙◌}
 use mir.Syntax.{w16}
 use mir.ValLaws.{to_z-of_z}
 use Rattle.boundary.proofs.prefixes.of_fields.Goals as goal

@@ -1,5 +1,4 @@
 -- The outcome and the record as numbers, the scale as the double.
-use mathlib.Core.Path.{◌≡◌, refl, sym, ap, ◌∙◌}
 use Rattle.boundary.proofs.prefixes.of_prefix.Goals as goal
 
 pub returns : goal.returns

@@ -1,5 +1,4 @@
 -- The outcome and the record as numbers, the place and the scale copied.
-use mathlib.Core.Path.{◌≡◌, refl, sym, ap, ◌∙◌}
 use Rattle.boundary.proofs.prefixes.of_prefix_bits.Goals as goal
 
 pub returns : goal.returns

@@ -9,7 +9,7 @@ use Rattle.hatch_record.specs.Records.{num_colors, doubles_in}
 use Rattle.hatch_record.proofs.RecordLaws.{plain_is, small_parts}
 use Rattle.hatch.specs.Calls.{call_of}
 use Rattle.hatch.proofs.Filled.{answer_is}
-use Rattle.boundary.specs.HatchBoundary.{body_answer, body_bits}
+use Rattle.boundary.specs.HatchBoundary.{body_answer}
 use Rattle.dwg_hatch.proofs.bodies.dwg_hatch_decode.Goals as goal
 
 pub colored-requires : goal.colored-requires

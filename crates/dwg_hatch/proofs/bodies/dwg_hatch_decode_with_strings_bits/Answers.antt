@@ -4,12 +4,11 @@ use Prim.Native.Nat.{◌<◌}
 use native.Mathlib.Omega.{arith}
 use lib.ListN.{length}
 use Rattle.hatch_format.specs.Call.{lent}
-use Rattle.hatch_record.specs.declared.HatchBitsAnswer.{HatchBitsAnswer}
-use Rattle.hatch_record.specs.Records.{num_colors, doubles_in}
+use Rattle.hatch_record.specs.Records.{num_colors}
 use Rattle.hatch_record.proofs.RecordLaws.{plain_is, small_parts}
 use Rattle.hatch.specs.Calls.{call_of}
 use Rattle.hatch.proofs.Filled.{answer_is}
-use Rattle.boundary.specs.HatchBoundary.{body_answer, body_bits}
+use Rattle.boundary.specs.HatchBoundary.{body_bits}
 use Rattle.dwg_hatch.proofs.bodies.dwg_hatch_decode_with_strings_bits.Goals as goal
 
 pub colored_bits-requires : goal.colored_bits-requires

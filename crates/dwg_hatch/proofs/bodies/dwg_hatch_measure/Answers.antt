@@ -1,5 +1,5 @@
 -- The call's answer, as numbers.
-use mathlib.Core.Path.{◌≡◌, ap, ◌∙◌}
+use mathlib.Core.Path.{ap, ◌∙◌}
 use Rattle.boundary.specs.HatchBoundary.{lengths_answer}
 use Rattle.dwg_hatch.proofs.bodies.dwg_hatch_measure.Goals as goal
 

@@ -1,10 +1,9 @@
 -- Each turn passes one colour more, or refuses for the whole.
-use mathlib.Core.Path.{sym, ap, ◌∙◌}
-use Prim.Native.Nat.{◌-◌, ◌≤◌, ◌<◌}
+use mathlib.Core.Path.{sym, ap}
 use native.Mathlib.Omega.{arith}
 use Rattle.hatch_format.specs.Gradients.{color}
 use Rattle.hatch_front.specs.Answers.{passed_of}
-use Rattle.hatch_front.proofs.ColorLaws.{ReadTo, none_read, one_read, one_refused, all_read, color_got, color_no}
+use Rattle.hatch_front.proofs.ColorLaws.{none_read, one_read, one_refused, all_read, color_got, color_no}
 use Rattle.hatch_front.proofs.colors.pass_colors.Goals as goal
 
 pub loop-i-init : goal.loop-i-init

@@ -1,13 +1,13 @@
 -- Each turn reads one colour more, or all are zero.
-use mathlib.Core.Path.{◌≡◌, sym, ap, ◌∙◌}
-use Prim.Native.Nat.{◌-◌, ◌≤◌, ◌<◌}
+use mathlib.Core.Path.{sym, ap, ◌∙◌}
+use Prim.Native.Nat.{◌<◌}
 use native.Mathlib.Omega.{arith}
 use lib.ListN.{set}
 use mathlib.Core.List.{List}
 use Rattle.hatch_format.specs.declared.GradientColorBits.{GradientColorBits}
 use Rattle.hatch_format.specs.Gradients.{color}
 use Rattle.hatch_front.specs.Answers.{sixteen_of}
-use Rattle.hatch_front.proofs.ColorLaws.{ReadTo, none_read, one_read, one_refused, all_read, filled, filled_none, filled_all, filled_more, color_got}
+use Rattle.hatch_front.proofs.ColorLaws.{none_read, one_read, one_refused, all_read, filled_none, filled_all, filled_more, color_got}
 use Rattle.hatch_front.proofs.ColorLaws.{color_no}
 use Rattle.hatch_front.proofs.colors.read_colors.Goals as goal
 

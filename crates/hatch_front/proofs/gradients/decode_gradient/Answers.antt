@@ -1,7 +1,6 @@
 -- Releases 1 and 2 have none; behind the block its name is read, and then the flag decides.
 use mathlib.Core.Path.{refl, sym, ap, subst, ◌∙◌}
-use Prim.Native.Nat.{ℕ, ◌^◌, ◌<◌}
-use borrow.Author.Tests.{not-true, not-false}
+use Prim.Native.Nat.{◌^◌, ◌<◌}
 use Rattle.text.specs.Answers.{payloads, places_of}
 use Rattle.text.specs.TextField.{TV_field}
 use Rattle.bitcursor.specs.Fields.{main, moved_in}
@@ -9,9 +8,8 @@ use Rattle.hatch_format.specs.Gradients.{block}
 use Rattle.hatch_format.specs.Values.{shown}
 use Rattle.hatch_front.specs.declared.Gradient.{Gradient}
 use Rattle.hatch_front.specs.declared.gradients.Block.{Block}
-use Rattle.hatch_front.specs.declared.gradients.GradientRead.{GradientRead}
 use Rattle.hatch_front.specs.declared.gradients.GradientRead.TheVariants.{Done}
-use Rattle.hatch_front.specs.Answers.{GradientIs, shown_read}
+use Rattle.hatch_front.specs.Answers.{shown_read}
 use Rattle.hatch_front.proofs.FrontLaws.{no_colors}
 use Rattle.hatch_front.proofs.FrontJoins.{texted_no, texted_on, gradient_texted, gradient_absent, block_got, block_none, single_small, gradient_is}
 use Rattle.hatch_front.proofs.gradients.decode_gradient.Goals as goal

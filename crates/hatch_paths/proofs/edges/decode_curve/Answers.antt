@@ -1,11 +1,10 @@
 -- A run of RD, a run of three BD and a bit, one behind the other.
-use mathlib.Core.Path.{◌≡◌, refl, sym, ap, ◌∙◌}
-use mathlib.Core.List.{List, []}
-use Rattle.bitcursor.specs.Format.{◌>>=◌, pure, then_got, then_refused}
-use Rattle.hatch_points.specs.Gathered.{Entries, plus}
+use mathlib.Core.Path.{sym, ◌∙◌}
+use Rattle.bitcursor.specs.Format.{then_got, then_refused}
+use Rattle.hatch_points.specs.Gathered.{plus}
 use Rattle.hatch_points.specs.Walks.{raw_run, double_run}
 use Rattle.hatch_paths.specs.PathWalks.{bit_walk, curve_walk}
-use Rattle.hatch_points.proofs.Laws.{Step, ◌⊕◌, walk_finished, walk_ready, walk_refused, walks_as, refuses, behind, words_kept, numbers_kept}
+use Rattle.hatch_points.proofs.Laws.{◌⊕◌, walk_finished, walk_ready, walk_refused, walks_as, refuses, behind, words_kept, numbers_kept}
 use Rattle.hatch_points.proofs.Laws.{plus_again, kept_then, kept_numbers, walk_kept}
 use Rattle.hatch_points.proofs.NoWords.{raw_wordless, double_wordless}
 use Rattle.hatch_paths.proofs.EdgeLaws.{bit_numberless}

@@ -1,13 +1,11 @@
 -- The kind is a word, and behind it stands what the kind has.
-use mathlib.Core.Path.{◌≡◌, refl, sym, ap, ap₂, ◌∙◌}
-use mathlib.Core.List.{List, [], ◌∷◌}
-use Prim.Native.Nat.{ℕ, suc, ◌+◌, ◌-◌, ◌*◌, ◌^◌, ◌≤◌, ◌<◌}
+use mathlib.Core.Path.{sym}
 use native.Mathlib.Omega.{arith}
 use Rattle.bitcursor.specs.Codes.{RC}
 use Rattle.bitcursor.specs.Bytes.{low_first}
 use Rattle.bitcursor.specs.Ranges.{low_below, read_below}
 use Rattle.bitcursor.specs.Fields.{coded}
-use Rattle.bitcursor.specs.Format.{◌>>=◌, pure, then_got, then_refused}
+use Rattle.bitcursor.specs.Format.{then_got, then_refused}
 use Rattle.bitcursor.proofs.Steps.{read_value, read_refused}
 use Rattle.hatch_format.specs.Takes.{takes_low}
 use Rattle.hatch_paths.specs.PathWalks.{edge_of_walk, edge_walk}

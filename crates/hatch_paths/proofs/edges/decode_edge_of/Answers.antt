@@ -1,12 +1,7 @@
 -- Each kind has its own walk; the others are refused.
-use mathlib.Core.Path.{◌≡◌, refl, sym, ap, ap₂, ◌∙◌}
-use mathlib.Core.List.{List, [], ◌∷◌}
-use Prim.Native.Nat.{ℕ, suc, ◌+◌, ◌-◌, ◌*◌, ◌^◌, ◌≤◌, ◌<◌}
-use native.Mathlib.Omega.{arith}
-use Rattle.bitcursor.specs.declared.Refusal.TheVariants.{EdgeKind}
-use Rattle.bitcursor.specs.Reading.{refused}
-use Rattle.hatch_points.specs.Walks.{raw_run}
-use Rattle.hatch_paths.specs.PathWalks.{curve_walk, spline_walk, edge_of_walk}
+use mathlib.Core.Path.{sym, ap}
+use Prim.Native.Nat.{ℕ}
+use Rattle.hatch_paths.specs.PathWalks.{edge_of_walk}
 use Rattle.hatch_points.proofs.Laws.{walks_as, refuses, words_kept, kept_same}
 use Rattle.hatch_points.proofs.NoWords.{raw_wordless}
 use Rattle.hatch_paths.proofs.EdgeLaws.{other_kind}

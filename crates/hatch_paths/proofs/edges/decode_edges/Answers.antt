@@ -1,10 +1,6 @@
 -- What is left to read, behind what is stored, is what the whole reads.
-use mathlib.Core.Path.{◌≡◌, refl, sym, ap, ap₂, ◌∙◌}
-use mathlib.Core.List.{List, [], ◌∷◌}
-use Prim.Native.Nat.{ℕ, suc, ◌+◌, ◌-◌, ◌*◌, ◌^◌, ◌≤◌, ◌<◌}
-use native.Mathlib.Omega.{arith}
-use Rattle.hatch_points.specs.Lists.{lists}
-use Rattle.hatch_points.proofs.Loops.{Along, start, walk_next, walk_refuses, loop_ends, along_kept}
+use mathlib.Core.Path.{◌∙◌}
+use Rattle.hatch_points.proofs.Loops.{start, walk_next, walk_refuses, loop_ends, along_kept}
 use Rattle.hatch_paths.specs.PathWalks.{edge_walk}
 use Rattle.hatch_paths.proofs.edges.decode_edges.Goals as goal
 

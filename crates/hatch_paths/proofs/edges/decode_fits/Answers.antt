@@ -1,16 +1,14 @@
 -- The count is a word, and behind it there are two RD a point and four of the tangents, or nothing.
-use mathlib.Core.Path.{◌≡◌, refl, sym, ap, ap₂, ◌∙◌}
-use mathlib.Core.List.{List, [], ◌∷◌}
-use Prim.Native.Nat.{ℕ, suc, ◌+◌, ◌-◌, ◌*◌, ◌^◌, ◌≤◌, ◌<◌}
+use mathlib.Core.Path.{sym, ap, ◌∙◌}
+use Prim.Native.Nat.{ℕ}
 use native.Mathlib.Omega.{arith}
-use mathlib.Core.Bool.{Bool, true, false}
-use lib.ListN.{length}
+use mathlib.Core.Bool.{Bool}
 use Rattle.bitcursor.specs.Codes.{BL}
-use Rattle.bitcursor.specs.Format.{◌>>=◌, pure, then_got, then_refused}
+use Rattle.bitcursor.specs.Format.{pure, then_got, then_refused}
 use Rattle.bitcursor.proofs.Steps.{read_value, read_refused}
 use Rattle.hatch_format.specs.Takes.{takes_BL}
 use Rattle.hatch_format.specs.Counts.{bounded, takes_bounded}
-use Rattle.hatch_points.specs.Gathered.{Entries, word, plus}
+use Rattle.hatch_points.specs.Gathered.{word}
 use Rattle.hatch_points.specs.Lists.{lists}
 use Rattle.hatch_points.specs.Walks.{raw_run}
 use Rattle.hatch_paths.specs.PathWalks.{fits_walk, fitted_raw}

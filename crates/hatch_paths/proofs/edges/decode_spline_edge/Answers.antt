@@ -1,14 +1,11 @@
 -- The fields in front are five words, and behind them stand the lists.
-use mathlib.Core.Path.{◌≡◌, refl, sym, ap, ap₂, ◌∙◌}
-use mathlib.Core.List.{List, [], ◌∷◌}
-use Prim.Native.Nat.{ℕ, suc, ◌+◌, ◌-◌, ◌*◌, ◌^◌, ◌≤◌, ◌<◌}
+use mathlib.Core.Path.{refl, sym, ap, ◌∙◌}
+use mathlib.Core.List.{[], ◌∷◌}
 use native.Mathlib.Omega.{arith}
-use mathlib.Core.Bool.{Bool}
 use lib.Dec.{eqb}
-use Rattle.bitcursor.specs.declared.Read.{Read}
 use Rattle.loads.specs.Bits.{bit}
 use lib.Seq.{sets}
-use Rattle.hatch_paths.specs.PathWalks.{spline_lists_walk, spline_walk}
+use Rattle.hatch_paths.specs.PathWalks.{spline_lists_walk}
 use Rattle.hatch_points.specs.Heads.{resumed}
 use Rattle.hatch_paths.specs.Splines.{spline_after_counts}
 use Rattle.hatch_points.proofs.Laws.{walks_as, refuses, words_then, kept_same}

@@ -1,16 +1,13 @@
 -- Knots, control points and fit points, one behind the other.
-use mathlib.Core.Path.{◌≡◌, refl, sym, ap, ◌∙◌}
-use mathlib.Core.List.{List, [], ◌∷◌}
-use Prim.Native.Nat.{ℕ, ◌+◌, ◌-◌, ◌*◌, ◌^◌, ◌≤◌, ◌<◌}
+use mathlib.Core.Path.{sym, ◌∙◌}
 use native.Mathlib.Omega.{arith}
-use mathlib.Core.Bool.{Bool}
 use lib.Dec.{eqb}
-use Rattle.bitcursor.specs.Format.{◌>>=◌, pure, then_got, then_refused}
-use Rattle.hatch_points.specs.Gathered.{Entries, plus}
+use Rattle.bitcursor.specs.Format.{then_got, then_refused}
+use Rattle.hatch_points.specs.Gathered.{plus}
 use Rattle.hatch_points.specs.Walks.{double_run, vertices_walk}
 use Rattle.hatch_paths.specs.PathWalks.{fits_walk, spline_lists_walk}
 use Rattle.hatch_format.specs.Takes.{takes_none}
-use Rattle.hatch_points.proofs.Laws.{words_still, Step, ◌⊕◌, walk_finished, walk_ready, walk_refused, walks_as, refuses, behind, words_kept}
+use Rattle.hatch_points.proofs.Laws.{words_still, ◌⊕◌, walk_finished, walk_ready, walk_refused, walks_as, refuses, behind, words_kept}
 use Rattle.hatch_points.proofs.Laws.{plus_again, onward, kept_then, kept_numbers, walk_kept}
 use Rattle.hatch_points.proofs.NoWords.{double_wordless, vertices_wordless}
 use Rattle.hatch_paths.proofs.edges.decode_spline_lists.Goals as goal

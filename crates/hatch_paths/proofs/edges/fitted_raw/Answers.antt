@@ -1,7 +1,5 @@
 -- Without points there are no tangents; else there are two RD a point, and four.
-use mathlib.Core.Path.{◌≡◌, refl, sym, ap, ◌∙◌}
-use mathlib.Core.List.{List, [], ◌∷◌}
-use Prim.Native.Nat.{ℕ, ◌+◌, ◌-◌, ◌*◌, ◌^◌, ◌≤◌, ◌<◌}
+use mathlib.Core.Path.{sym, ap}
 use native.Mathlib.Omega.{arith}
 use Rattle.hatch_paths.specs.PathWalks.{fitted_raw}
 use Rattle.hatch_paths.proofs.EdgeLaws.{fitted_some}

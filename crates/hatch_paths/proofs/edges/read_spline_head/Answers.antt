@@ -1,8 +1,4 @@
 -- Each step goes on from the one before it.
-use mathlib.Core.Path.{◌≡◌, refl, sym, ap, ◌∙◌}
-use mathlib.Core.List.{List, [], ◌∷◌}
-use Prim.Native.Nat.{ℕ, ◌+◌, ◌-◌, ◌*◌, ◌^◌, ◌≤◌, ◌<◌}
-use native.Mathlib.Omega.{arith}
 use Rattle.bitcursor.specs.Held.{held}
 use Rattle.hatch_paths.specs.Splines.{spline_head}
 use Rattle.hatch_paths.proofs.edges.read_spline_head.Goals as goal

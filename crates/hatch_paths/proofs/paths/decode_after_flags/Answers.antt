@@ -1,10 +1,8 @@
 -- Segments, and behind them the handle count.
-use mathlib.Core.Path.{◌≡◌, refl, sym, ap, ap₂, ◌∙◌}
-use mathlib.Core.List.{List, [], ◌∷◌}
-use Prim.Native.Nat.{ℕ, suc, ◌+◌, ◌-◌, ◌*◌, ◌^◌, ◌≤◌, ◌<◌}
+use mathlib.Core.Path.{refl, sym}
 use native.Mathlib.Omega.{arith}
-use Rattle.bitcursor.specs.Format.{◌>>=◌, pure, then_got, then_refused}
-use Rattle.hatch_points.specs.Gathered.{Entries, plus}
+use Rattle.bitcursor.specs.Format.{then_got, then_refused}
+use Rattle.hatch_points.specs.Gathered.{plus}
 use Rattle.hatch_paths.specs.PathWalks.{segments_walk, handles_walk, after_flags_walk}
 use Rattle.hatch_points.proofs.Laws.{walk_finished, walk_ready, walk_refused, walks_as, refuses, behind, numbers_kept, walk_kept}
 use Rattle.hatch_paths.proofs.EdgeLaws.{handles_numberless}

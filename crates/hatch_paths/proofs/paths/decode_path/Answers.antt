@@ -1,20 +1,16 @@
 -- The flags are a word, and say what follows and whether it came from a boundary object.
-use mathlib.Core.Path.{◌≡◌, refl, sym, ap, ap₂, ◌∙◌}
-use mathlib.Core.List.{List, [], ◌∷◌}
-use Prim.Native.Nat.{ℕ, suc, ◌+◌, ◌-◌, ◌*◌, ◌^◌, ◌≤◌, ◌<◌}
+use mathlib.Core.Path.{sym}
 use native.Mathlib.Omega.{arith}
-use mathlib.Core.Bool.{Bool, ◌||◌}
 use Prim.Native.Nat.{◌/◌}
 use Rattle.loads.specs.Bits.{odd}
 use Rattle.bitcursor.specs.Codes.{BL}
 use Rattle.bitcursor.specs.Ranges.{read_below}
 use Rattle.bitcursor.proofs.Longs.{BL_below}
 use Rattle.bitcursor.specs.Fields.{coded}
-use Rattle.bitcursor.specs.Format.{◌>>=◌, pure, then_got, then_refused}
+use Rattle.bitcursor.specs.Format.{then_got, then_refused}
 use Rattle.bitcursor.proofs.Steps.{read_value, read_refused}
 use Rattle.hatch_format.specs.Takes.{takes_BL}
 use Rattle.hatch_paths.specs.PathWalks.{after_flags_walk, path_walk}
-use Rattle.hatch_points.specs.Lists.{lists}
 use Rattle.hatch_points.proofs.Laws.{walks_as, refuses, flags_then, walks_by, onward, kept_same}
 use Rattle.hatch_paths.proofs.paths.decode_path.Goals as goal
 

@@ -1,9 +1,6 @@
-use mathlib.Core.Path.{◌≡◌, refl, sym, ap, ap₂, ◌∙◌}
-use mathlib.Core.List.{List, [], ◌∷◌}
-use Prim.Native.Nat.{ℕ, suc, ◌+◌, ◌-◌, ◌*◌, ◌^◌, ◌≤◌, ◌<◌}
-use native.Mathlib.Omega.{arith}
+use Prim.Native.Nat.{◌-◌}
 use Rattle.hatch_points.specs.Lists.{lists}
-use Rattle.hatch_points.proofs.Loops.{Along, start, walk_next, walk_refuses, loop_ends, along_kept}
+use Rattle.hatch_points.proofs.Loops.{Along}
 use Rattle.hatch_paths.specs.PathWalks.{path_walk}
 use Rattle.hatch_paths.proofs.paths.decode_paths.Given as goal
 

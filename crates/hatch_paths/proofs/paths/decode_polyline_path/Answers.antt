@@ -1,15 +1,13 @@
 -- Three words, and behind them the vertices.
-use mathlib.Core.Path.{◌≡◌, refl, sym, ap, ap₂, ◌∙◌}
-use mathlib.Core.List.{List, [], ◌∷◌}
-use Prim.Native.Nat.{ℕ, suc, ◌+◌, ◌-◌, ◌*◌, ◌^◌, ◌≤◌, ◌<◌}
+use mathlib.Core.Path.{refl, sym, ap, ap₂, ◌∙◌}
+use mathlib.Core.List.{[], ◌∷◌}
+use Prim.Native.Nat.{ℕ}
 use native.Mathlib.Omega.{arith}
-use mathlib.Core.Bool.{Bool}
 use lib.Dec.{eqb}
 use lib.Seq.{sets}
 use Rattle.loads.specs.Bits.{bit}
 use Rattle.sequence.specs.Sequence.{value_of}
 use Rattle.hatch_points.specs.Walks.{vertices_walk}
-use Rattle.hatch_paths.specs.PathWalks.{polyline_walk}
 use Rattle.hatch_points.specs.Heads.{resumed}
 use Rattle.hatch_points.proofs.Laws.{walks_as, refuses, words_then, words_kept, kept_same}
 use Rattle.hatch_points.proofs.NoWords.{vertices_wordless}

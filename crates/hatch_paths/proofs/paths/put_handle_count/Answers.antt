@@ -1,10 +1,7 @@
 -- The count is read, tested and stored.
-use mathlib.Core.Path.{◌≡◌, refl, sym, ap, ap₂, ◌∙◌}
-use mathlib.Core.List.{List, [], ◌∷◌}
-use Prim.Native.Nat.{ℕ, suc, ◌+◌, ◌-◌, ◌*◌, ◌^◌, ◌≤◌, ◌<◌}
+use mathlib.Core.List.{[]}
 use native.Mathlib.Omega.{arith}
 use Rattle.bitcursor.specs.Codes.{BL}
-use Rattle.bitcursor.specs.Format.{◌>>=◌, pure, then_got, then_refused}
 use Rattle.bitcursor.proofs.Steps.{read_value, read_refused}
 use Rattle.hatch_format.specs.Takes.{takes_BL}
 use Rattle.hatch_format.specs.Counts.{bounded, takes_bounded}

@@ -1,8 +1,6 @@
 -- The two tests are the definition's, and either refuses.
-use mathlib.Core.Path.{◌≡◌, refl, sym, ap, ◌∙◌}
-use Prim.Native.Nat.{ℕ, ◌-◌, ◌≤◌, ◌<◌}
+use mathlib.Core.Path.{sym, ap, ◌∙◌}
 use native.Mathlib.Omega.{arith}
-use Rattle.loads.specs.Bits.{size}
 use Rattle.hatch_points.specs.Heads.{bounds_of, bounds_many, bounds_short, bounds_kept}
 use Rattle.hatch_points.proofs.counts.bounds_check.Goals as goal
 

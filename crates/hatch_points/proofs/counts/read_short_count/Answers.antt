@@ -1,5 +1,5 @@
 -- A BS, and then the two tests.
-use mathlib.Core.Path.{◌≡◌, refl, sym, ap, ◌∙◌}
+use mathlib.Core.Path.{ap, ◌∙◌}
 use Rattle.bitcursor.specs.Codes.{BS}
 use Rattle.hatch_points.specs.Heads.{bounds_of, bounds_bounded}
 use Rattle.hatch_points.proofs.counts.read_short_count.Goals as goal

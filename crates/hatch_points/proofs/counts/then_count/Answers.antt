@@ -1,5 +1,5 @@
 -- A refusal stays; behind a value the count is read.
-use mathlib.Core.Path.{◌≡◌, refl, sym, ap, ◌∙◌}
+use mathlib.Core.Path.{sym, ap, ◌∙◌}
 use Rattle.bitcursor.specs.Codes.{BL}
 use Rattle.sequence.specs.Sequence.{then_read}
 use Rattle.hatch_format.specs.Counts.{bounded}

@@ -1,9 +1,7 @@
 -- The first numbers are stored, as many as there is room for; the others are passed, and stores past the lists' ends change nothing.
-use mathlib.Core.Path.{◌≡◌, refl, sym, ap, ◌∙◌}
-use mathlib.Core.List.{List, []}
-use Prim.Native.Nat.{ℕ, ◌+◌, ◌-◌, ◌*◌, ◌/◌, ◌≤◌, ◌<◌, min, max}
+use mathlib.Core.Path.{sym}
+use Prim.Native.Nat.{◌-◌}
 use native.Mathlib.Omega.{arith}
-use lib.ListN.{length}
 use Rattle.hatch_points.specs.Walks.{single_walk}
 use Rattle.hatch_points.specs.Gathers.{double_repeated}
 use Rattle.hatch_points.proofs.Laws.{walk_ready, walks_as}

@@ -1,5 +1,5 @@
 -- Both ways read the BD that stands there; its place alone is kept.
-use mathlib.Core.Path.{◌≡◌, ap, ◌∙◌}
+use mathlib.Core.Path.{ap, ◌∙◌}
 use Rattle.hatch_points.specs.Stores.{place_read}
 use Rattle.hatch_points.proofs.runs.pass_bd.Goals as goal
 

@@ -1,7 +1,6 @@
 -- What is left to read, behind the numbers that were passed, is what the whole reads; no list is lent.
-use mathlib.Core.Path.{◌≡◌, refl}
+use mathlib.Core.Path.{refl}
 use mathlib.Core.List.{[], ◌∷◌}
-use Prim.Native.Nat.{ℕ, ◌+◌, ◌-◌, ◌≤◌, ◌<◌}
 use native.Mathlib.Omega.{arith}
 use Rattle.bitcursor.specs.Doubles.{BD}
 use Rattle.bitcursor.specs.Fields.{coded}
@@ -9,9 +8,8 @@ use Rattle.hatch_format.specs.Takes.{takes_BD}
 use Rattle.hatch_points.specs.declared.lists.Sizes.{Sizes}
 use Rattle.hatch_points.specs.Gathered.{numbers}
 use Rattle.hatch_points.specs.Walks.{single_walk}
-use Rattle.hatch_points.specs.Lists.{lists}
 use Rattle.hatch_points.proofs.Laws.{more_numbers, kept_same, onward}
-use Rattle.hatch_points.proofs.Loops.{Along, start, next, loop_refuses, loop_ends, passed_value, passed_refused, single_read, single_refused}
+use Rattle.hatch_points.proofs.Loops.{start, next, loop_refuses, loop_ends, passed_value, passed_refused, single_read, single_refused}
 use Rattle.hatch_points.proofs.runs.pass_doubles.Goals as goal
 
 pub loop-i-init : goal.loop-i-init

@@ -1,5 +1,5 @@
 -- Each arm keeps the place.
-use mathlib.Core.Path.{◌≡◌, sym, ap}
+use mathlib.Core.Path.{sym, ap}
 use Rattle.hatch_points.specs.Stores.{place_read}
 use Rattle.hatch_points.proofs.runs.passed.Goals as goal
 

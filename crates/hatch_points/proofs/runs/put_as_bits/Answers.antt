@@ -1,9 +1,6 @@
 -- As many as there is room for are stored; stores past the list's end change nothing.
-use mathlib.Core.Path.{◌≡◌, sym, ap, ◌∙◌}
-use mathlib.Core.List.{List}
+use mathlib.Core.Path.{◌∙◌}
 use native.Mathlib.Omega.{arith}
-use lib.ListN.{length}
-use lib.Seq.{sets}
 use Rattle.hatch_points.specs.Stores.{raw_at}
 use Rattle.hatch_points.proofs.RawRuns.{bits_enough}
 use Rattle.hatch_points.proofs.runs.put_as_bits.Goals as goal

@@ -1,9 +1,6 @@
 -- What is left to read, behind what is stored, is what the whole reads; each turn reads and stores one.
-use mathlib.Core.Path.{◌≡◌, refl, sym, ap, ap₂, ◌∙◌}
-use mathlib.Core.List.{List, [], ◌∷◌}
-use Prim.Native.Nat.{ℕ, ◌+◌, ◌-◌, ◌*◌, ◌≤◌, ◌<◌}
+use mathlib.Core.List.{[], ◌∷◌}
 use native.Mathlib.Omega.{arith}
-use lib.ListN.{length}
 use Rattle.bitcursor.specs.Doubles.{BD}
 use Rattle.bitcursor.specs.Fields.{coded}
 use Rattle.bitcursor.proofs.Steps.{read_value, read_refused}
@@ -11,9 +8,9 @@ use Rattle.hatch_format.specs.Takes.{takes_BD}
 use Rattle.hatch_points.specs.declared.lists.Sizes.{Sizes}
 use Rattle.hatch_points.specs.Gathered.{numbers}
 use Rattle.hatch_points.specs.Walks.{single_walk}
-use Rattle.hatch_points.specs.Lists.{lists, Ready}
+use Rattle.hatch_points.specs.Lists.{lists}
 use Rattle.hatch_points.proofs.Laws.{more_numbers, kept_same, onward}
-use Rattle.hatch_points.proofs.Loops.{Along, start, next, loop_refuses, loop_ends, along_kept, single_read, single_refused}
+use Rattle.hatch_points.proofs.Loops.{start, next, loop_refuses, loop_ends, along_kept, single_read, single_refused}
 use Rattle.hatch_points.proofs.runs.put_doubles.Goals as goal
 
 pub loop-i-init : goal.loop-i-init

@@ -1,11 +1,7 @@
-use mathlib.Core.Path.{◌≡◌, refl, sym, ap, ap₂, ◌∙◌}
-use mathlib.Core.List.{List}
-use Prim.Native.Nat.{ℕ, ◌+◌, ◌-◌, ◌≤◌}
-use native.Mathlib.Omega.{arith}
-use lib.ListN.{length, set}
-use lib.Seq.{sets, length-sets}
+use mathlib.Core.Path.{◌≡◌}
+use Prim.Native.Nat.{◌-◌, ◌≤◌}
+use lib.Seq.{sets}
 use Rattle.hatch_points.specs.Stores.{raw_at}
-use Rattle.hatch_points.proofs.RawRuns.{one_more_bits}
 use Rattle.hatch_points.proofs.runs.put_run_bits.Given as goal
 
 abbrev pub invariant-loop-i : goal.invariant-loop-i

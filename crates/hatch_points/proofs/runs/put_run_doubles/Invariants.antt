@@ -1,13 +1,8 @@
-use mathlib.Core.Path.{◌≡◌, refl, sym, ap, ap₂, ◌∙◌}
-use mathlib.Core.List.{List}
-use Prim.Native.Nat.{ℕ, ◌+◌, ◌-◌, ◌≤◌}
-use native.Mathlib.Omega.{arith}
-use lib.Ieee.{Float, of_bits, binary64}
-use lib.ListN.{length, set}
-use lib.Seq.{sets, length-sets}
+use mathlib.Core.Path.{◌≡◌}
+use Prim.Native.Nat.{◌-◌, ◌≤◌}
+use lib.Seq.{sets}
 use Rattle.hatch_points.specs.Lists.{doubles_of}
 use Rattle.hatch_points.specs.Stores.{raw_at}
-use Rattle.hatch_points.proofs.RawRuns.{one_more_double}
 use Rattle.hatch_points.proofs.runs.put_run_doubles.Given as goal
 
 abbrev pub invariant-loop-i : goal.invariant-loop-i

@@ -1,16 +1,12 @@
 -- The bytes are there or they are not, by one comparison; what the lists have no room for is not stored.
 use mathlib.Core.Path.{◌≡◌, refl, sym, ap, ap₂, ◌∙◌}
-use mathlib.Core.List.{List, []}
-use Prim.Native.Nat.{ℕ, ◌+◌, ◌-◌, ◌*◌, ◌/◌, ◌≤◌, ◌<◌}
+use mathlib.Core.List.{[]}
+use Prim.Native.Nat.{ℕ, ◌+◌, ◌*◌}
 use native.Mathlib.Nat.{add-zero}
 use native.Mathlib.Omega.{arith}
-use lib.ListN.{length}
-use Rattle.bitcursor.specs.declared.Refusal.TheVariants.{TooFewBits}
 use Rattle.bitcursor.specs.Reading.{got, refused}
-use Rattle.loads.specs.Bits.{size}
 use Rattle.bitcursor.proofs.Steps.{passed_there, passed_short}
-use Rattle.hatch_points.specs.declared.lists.Sizes.{Sizes}
-use Rattle.hatch_points.specs.Gathered.{Entries, numbers}
+use Rattle.hatch_points.specs.Gathered.{numbers}
 use Rattle.hatch_points.specs.Lists.{lists}
 use Rattle.hatch_points.specs.Stores.{raw_at}
 use Rattle.hatch_points.proofs.Laws.{kept_same, more_numbers, refuses, ends}

@@ -1,12 +1,6 @@
 -- With a double behind each they are read one by one, without they are a run.
-use mathlib.Core.Path.{◌≡◌, refl, sym, ap, ◌∙◌}
-use mathlib.Core.List.{List, [], ◌∷◌}
-use Prim.Native.Nat.{ℕ, ◌+◌, ◌-◌, ◌*◌, ◌^◌, ◌≤◌, ◌<◌}
-use native.Mathlib.Omega.{arith}
-use mathlib.Core.Bool.{Bool, true, false}
-use Rattle.bitcursor.specs.Format.{Format}
-use Rattle.bitcursor.specs.Inputs.{one}
-use Rattle.hatch_points.specs.Gathered.{Entries}
+use mathlib.Core.Path.{sym, ap}
+use mathlib.Core.Bool.{Bool}
 use Rattle.hatch_points.specs.Walks.{vertices_walk}
 use Rattle.hatch_points.proofs.Laws.{walks_as}
 use Rattle.hatch_points.proofs.vertices.decode_points.Goals as goal

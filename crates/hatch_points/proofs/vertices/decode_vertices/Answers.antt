@@ -1,9 +1,6 @@
 -- The first points are stored, as far as there is room; the others are passed, and stores past the lists' ends change nothing.
-use mathlib.Core.Path.{◌≡◌, refl, sym, ap, ◌∙◌}
-use mathlib.Core.List.{List, []}
-use Prim.Native.Nat.{ℕ, ◌+◌, ◌-◌, ◌*◌, ◌/◌, ◌≤◌, ◌<◌, min, max}
+use Prim.Native.Nat.{◌+◌, ◌-◌, ◌/◌}
 use native.Mathlib.Omega.{arith}
-use lib.ListN.{length}
 use Rattle.hatch_points.specs.Walks.{vertex_walk}
 use Rattle.hatch_points.proofs.Laws.{walk_ready}
 use Rattle.hatch_points.proofs.Loops.{parts_walk, parts_refuse, past_room, used_after, many_3}

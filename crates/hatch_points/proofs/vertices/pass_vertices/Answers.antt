@@ -1,15 +1,12 @@
 -- What is left to read, behind the points that were passed, is what the whole reads; no list is lent.
-use mathlib.Core.Path.{◌≡◌, refl, subst}
-use mathlib.Core.List.{[], ◌∷◌}
-use Prim.Native.Nat.{ℕ, ◌+◌, ◌-◌, ◌≤◌, ◌<◌}
+use mathlib.Core.Path.{refl, subst}
 use native.Mathlib.Omega.{arith}
 use Rattle.hatch_points.specs.Vertices.{vertex_at, ExtraPassed}
 use Rattle.hatch_points.specs.declared.lists.Sizes.{Sizes}
 use Rattle.hatch_points.specs.Gathered.{numbers}
 use Rattle.hatch_points.specs.Walks.{vertex_walk}
-use Rattle.hatch_points.specs.Lists.{lists}
 use Rattle.hatch_points.proofs.Laws.{more_numbers, kept_same}
-use Rattle.hatch_points.proofs.Loops.{Along, start, next, loop_refuses, loop_ends}
+use Rattle.hatch_points.proofs.Loops.{start, next, loop_refuses, loop_ends}
 use Rattle.hatch_points.proofs.vertices.pass_vertices.Goals as goal
 
 pub loop-i-init : goal.loop-i-init

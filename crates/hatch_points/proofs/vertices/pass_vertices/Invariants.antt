@@ -1,14 +1,8 @@
-use mathlib.Core.Path.{◌≡◌, refl, subst}
-use mathlib.Core.List.{[], ◌∷◌}
-use Prim.Native.Nat.{ℕ, ◌+◌, ◌-◌, ◌≤◌, ◌<◌}
-use native.Mathlib.Omega.{arith}
-use Rattle.hatch_points.specs.Vertices.{vertex_at, ExtraPassed}
-use Rattle.hatch_points.specs.declared.lists.Sizes.{Sizes}
-use Rattle.hatch_points.specs.Gathered.{numbers}
+use mathlib.Core.List.{[]}
+use Prim.Native.Nat.{◌-◌}
 use Rattle.hatch_points.specs.Walks.{vertex_walk}
 use Rattle.hatch_points.specs.Lists.{lists}
-use Rattle.hatch_points.proofs.Laws.{more_numbers, kept_same}
-use Rattle.hatch_points.proofs.Loops.{Along, start, next, loop_refuses, loop_ends}
+use Rattle.hatch_points.proofs.Loops.{Along}
 use Rattle.hatch_points.proofs.vertices.pass_vertices.Given as goal
 
 abbrev pub invariant-loop-i : goal.invariant-loop-i

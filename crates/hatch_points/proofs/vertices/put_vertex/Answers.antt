@@ -1,10 +1,5 @@
 -- Three stores, one behind the other; where neither list reaches the first, none changes anything.
-use mathlib.Core.Path.{◌≡◌, refl, sym, ap, ◌∙◌}
-use Prim.Native.Nat.{ℕ, ◌+◌, ◌*◌, ◌≤◌}
-use native.Mathlib.Omega.{arith}
 use lib.Ieee.{of_bits, binary64}
-use Rattle.hatch_points.specs.Lists.{doubles_of}
-use Rattle.hatch_points.specs.Vertices.{vertex_at}
 use Rattle.hatch_points.proofs.VertexLaws.{three}
 use Rattle.hatch_points.proofs.vertices.put_vertex.Goals as goal
 

@@ -1,16 +1,14 @@
 -- What is left to read, behind what is stored, is what the whole reads; each turn reads and stores one vertex.
-use mathlib.Core.Path.{◌≡◌, refl, sym, ap, subst, ◌∙◌}
-use mathlib.Core.List.{List, [], ◌∷◌}
-use Prim.Native.Nat.{ℕ, ◌+◌, ◌-◌, ◌*◌, ◌≤◌, ◌<◌}
+use mathlib.Core.Path.{subst}
+use mathlib.Core.List.{[]}
 use native.Mathlib.Omega.{arith}
-use lib.ListN.{length}
 use Rattle.hatch_points.specs.declared.lists.Sizes.{Sizes}
 use Rattle.hatch_points.specs.Gathered.{numbers}
 use Rattle.hatch_points.specs.Walks.{vertex_walk}
-use Rattle.hatch_points.specs.Lists.{lists, Ready}
+use Rattle.hatch_points.specs.Lists.{lists}
 use Rattle.hatch_points.specs.Vertices.{vertex_at, Extra}
 use Rattle.hatch_points.proofs.Laws.{more_numbers, kept_same}
-use Rattle.hatch_points.proofs.Loops.{Along, start, next, loop_refuses, loop_ends, along_kept}
+use Rattle.hatch_points.proofs.Loops.{start, next, loop_refuses, loop_ends, along_kept}
 use Rattle.hatch_points.proofs.vertices.put_vertices.Goals as goal
 
 pub loop-i-init : goal.loop-i-init

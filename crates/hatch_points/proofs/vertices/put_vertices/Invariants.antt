@@ -1,15 +1,8 @@
-use mathlib.Core.Path.{◌≡◌, refl, sym, ap, subst, ◌∙◌}
-use mathlib.Core.List.{List, [], ◌∷◌}
-use Prim.Native.Nat.{ℕ, ◌+◌, ◌-◌, ◌*◌, ◌≤◌, ◌<◌}
-use native.Mathlib.Omega.{arith}
-use lib.ListN.{length}
-use Rattle.hatch_points.specs.declared.lists.Sizes.{Sizes}
-use Rattle.hatch_points.specs.Gathered.{numbers}
+use mathlib.Core.List.{[]}
+use Prim.Native.Nat.{◌-◌}
 use Rattle.hatch_points.specs.Walks.{vertex_walk}
-use Rattle.hatch_points.specs.Lists.{lists, Ready}
-use Rattle.hatch_points.specs.Vertices.{vertex_at, Extra}
-use Rattle.hatch_points.proofs.Laws.{more_numbers, kept_same}
-use Rattle.hatch_points.proofs.Loops.{Along, start, next, loop_refuses, loop_ends, along_kept}
+use Rattle.hatch_points.specs.Lists.{lists}
+use Rattle.hatch_points.proofs.Loops.{Along}
 use Rattle.hatch_points.proofs.vertices.put_vertices.Given as goal
 
 abbrev pub invariant-loop-i : goal.invariant-loop-i

@@ -1,5 +1,5 @@
 -- The point is there or it is not, by one comparison; behind it the double decides, whichever way it is read.
-use mathlib.Core.Path.{◌≡◌, sym, ap₂, ◌∙◌}
+use mathlib.Core.Path.{sym, ap₂, ◌∙◌}
 use native.Mathlib.Omega.{arith}
 use Rattle.bitcursor.specs.Reading.{refused}
 use Rattle.bitcursor.proofs.Steps.{passed_there, passed_short}

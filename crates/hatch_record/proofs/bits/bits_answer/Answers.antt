@@ -1,5 +1,5 @@
 -- Without colours nothing is read again.
-use mathlib.Core.Path.{◌≡◌, sym, ap, ◌∙◌}
+use mathlib.Core.Path.{◌≡◌, ◌∙◌}
 use native.Mathlib.Omega.{arith}
 use Rattle.hatch_record.specs.Records.{num_colors}
 use Rattle.hatch_record.proofs.RecordLaws.{plain_is, small_parts}

@@ -1,6 +1,5 @@
 -- The parts, and their colours read from where they stand.
 use mathlib.Core.Path.{sym, subst}
-use Rattle.hatch_body.specs.declared.Parts.{Parts}
 use Rattle.hatch_body.specs.Parts.{Small}
 use Rattle.hatch_record.proofs.RecordLaws.{small_parts, colored_within}
 use Rattle.hatch_record.proofs.bits.colored_bits.Goals as goal

@@ -1,8 +1,5 @@
 -- The pixel size, the count of the seed points, and the points as a run of RD.
-use mathlib.Core.Path.{sym, ap}
 use native.Mathlib.Omega.{arith}
-use Rattle.hatch_format.specs.Patterns.{ending}
-use Rattle.hatch_rest.specs.Tails.{ending_entries, ending_walk}
 use Rattle.hatch_rest.proofs.TailLaws.{ending_ready, ending_fields_refused, ending_seeds_refused, ending_done}
 use Rattle.hatch_rest.proofs.patterns.decode_ending.Goals as goal
 

@@ -1,8 +1,4 @@
 -- The fields in a row, the count of the lines, and the lines.
-use mathlib.Core.Path.{sym, ap}
-use mathlib.Core.Bool.{false}
-use Rattle.hatch_format.specs.Patterns.{pattern}
-use Rattle.hatch_rest.specs.Tails.{pattern_entries, pattern_walk}
 use Rattle.hatch_rest.proofs.TailLaws.{pattern_ready, pattern_fields_refused, pattern_lines_refused, pattern_done}
 use Rattle.hatch_rest.proofs.patterns.decode_open_pattern.Goals as goal
 

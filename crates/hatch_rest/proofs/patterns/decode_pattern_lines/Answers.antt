@@ -1,9 +1,6 @@
 -- What is left to read, behind what is stored, is what the whole reads; each turn walks one line.
-use Prim.Native.Nat.{◌-◌}
-use native.Mathlib.Omega.{arith}
 use Rattle.hatch_rest.specs.LineGathers.{line_walk}
-use Rattle.hatch_points.specs.Lists.{lists}
-use Rattle.hatch_points.proofs.Loops.{Along, start, walk_next, walk_refuses, loop_ends, along_kept}
+use Rattle.hatch_points.proofs.Loops.{start, walk_next, walk_refuses, loop_ends, along_kept}
 use borrow.Author.Rules.{rules}
 use Rattle.hatch_rest.proofs.patterns.decode_pattern_lines.Goals as goal
 

@@ -1,8 +1,7 @@
 use Prim.Native.Nat.{◌-◌}
-use native.Mathlib.Omega.{arith}
 use Rattle.hatch_rest.specs.LineGathers.{line_walk}
 use Rattle.hatch_points.specs.Lists.{lists}
-use Rattle.hatch_points.proofs.Loops.{Along, start, walk_next, walk_refuses, loop_ends, along_kept}
+use Rattle.hatch_points.proofs.Loops.{Along}
 use Rattle.hatch_rest.proofs.patterns.decode_pattern_lines.Given as goal
 
 abbrev pub invariant-loop-i : goal.invariant-loop-i

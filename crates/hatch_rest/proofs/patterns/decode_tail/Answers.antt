@@ -1,7 +1,5 @@
 -- Style and type in a row, then the pattern, then the last fields.
-use mathlib.Core.Path.{refl, sym, ap}
-use Rattle.hatch_format.specs.Patterns.{tail}
-use Rattle.hatch_rest.specs.Tails.{tail_entries, tail_walk}
+use mathlib.Core.Path.{refl}
 use Rattle.hatch_rest.proofs.TailLaws.{}
 use Rattle.hatch_rest.proofs.TailEnds.{tail_ready, tail_fields_refused, tail_pattern_refused, ending_asks, tail_ending_refused, tail_done}
 use Rattle.hatch_rest.proofs.patterns.decode_tail.Goals as goal

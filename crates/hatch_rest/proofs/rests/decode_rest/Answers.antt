@@ -1,13 +1,7 @@
 -- Two switches and a count, the paths, and what follows them, one behind the other.
-use mathlib.Core.Path.{◌≡◌, refl, sym, ap, ap₂, subst, ◌∙◌}
-use mathlib.Core.Bool.{Bool}
-use Prim.Native.Nat.{ℕ}
+use mathlib.Core.Path.{◌∙◌}
 use lib.Dec.{eqb}
-use Rattle.sequence.specs.Sequence.{value_of}
-use Rattle.hatch_format.specs.Patterns.{tail, rest}
-use Rattle.hatch_rest.specs.Tails.{Gives, tail_entries, tail_walk}
 use Rattle.hatch_rest.specs.declared.rests.RestWalk.TheVariants.{Done}
-use Rattle.hatch_rest.specs.Rests.{rest_entries, rest_walk}
 use Rattle.hatch_points.proofs.Laws.{walk_ready}
 use Rattle.hatch_rest.proofs.TailLaws.{}
 use Rattle.hatch_rest.proofs.RestLaws.{tail_by, rest_ready, rest_fields_refused, rest_paths_refused, rest_tail_refused, rest_done}
