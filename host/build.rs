@@ -22,7 +22,7 @@ fn main() {
         _ => {
             let repository = repository.canonicalize().unwrap_or(repository);
             let set = if named.is_some() { format!(", which {FOLDER} names") } else { String::new() };
-            let make = "rt staticlib dwg_hatch";
+            let make = "./dwg-hatch --help";
             println!("cargo::error=there is no {FILE} in {}{set}: make it by `{make}` in {}", folder.display(), repository.display());
         }
     }

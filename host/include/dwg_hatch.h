@@ -201,7 +201,7 @@ typedef struct DwgMoveAnswer {
  * DWG_PAYLOAD_TOO_LONG (place: `start`), then DWG_TOO_FEW_BITS, DWG_RESERVED_TAG, DWG_COUNT_TOO_LARGE, DWG_EDGE_KIND and DWG_NOT_UTF16 as the
  * fields have it; never DWG_LIST_TOO_SHORT. Then string_place and both lengths are 0.
  *
- * Proved (crates/hatch/specs/Measuring.antt, `measures` and `never-short`): where measuring reads, a call that is lent lists of these lengths or
+ * Proved (crates/hatch/specs/Measuring.antt, `measures` and `never_short`): where measuring reads, a call that is lent lists of these lengths or
  * longer reads the same hatch with the same final places, and one that is lent a shorter list is refused, DWG_LIST_TOO_SHORT, at these places; where
  * measuring is refused, every such call is, with the same refusal and places. */
 DwgLengthsAnswer dwg_hatch_measure(const uint8_t *main, size_t main_length, size_t start, uint64_t release);
@@ -213,7 +213,7 @@ DwgLengthsAnswer dwg_hatch_measure(const uint8_t *main, size_t main_length, size
  * DWG_LIST_TOO_SHORT. Then both lengths are 0.
  *
  * string_start is compared once with the payload's length, and is then where the reader stands: a start at the end of a large payload costs what one at bit
- * 0 does. Proved (crates/hatch_format/specs/Starts.antt, `start-inside`, `start-past` and `same-past`): that the reader stands at every start within the
+ * 0 does. Proved (crates/hatch_format/specs/Starts.antt, `start_inside`, `start_past` and `same_past`): that the reader stands at every start within the
  * payload, its length in bits included, and that the refusal past it is the same for every payload of that length, whatever its bits are. */
 DwgLengthsAnswer dwg_hatch_measure_with_strings(const uint8_t *main, size_t main_length, size_t start, const uint8_t *string,
                                                 size_t string_length, size_t string_start, size_t string_end, uint64_t release);

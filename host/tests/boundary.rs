@@ -57,12 +57,13 @@ fn in_c(signature: &str) -> String {
     parameters.collect::<Vec<_>>().join(", ")
 }
 
-/// Each struct's name and fields, one line each, up to its closing brace. Only `#[repr(C)]` structs are taken.
+/// Each struct's name and fields, one line each, up to its closing brace. Only `#[repr(C)]` structs are taken; what they derive crosses no boundary.
 fn structs(text: &str) -> Vec<String> {
     let mut found = Vec::new();
     let mut rest = lines(text).into_iter();
     while rest.any(|line| line == "#[repr(C)]") {
-        found.extend(rest.by_ref().take_while(|line| *line != "}").map(str::to_string));
+        let body = rest.by_ref().take_while(|line| *line != "}");
+        found.extend(body.filter(|line| !line.starts_with("#[derive(")).map(str::to_string));
     }
     found
 }

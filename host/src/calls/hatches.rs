@@ -91,7 +91,7 @@ impl<'a> HatchBody<'a> {
 
     /// The lengths that the lists must have. Refuses as [`HatchBody::decode_into`] does, but never for a list.
     ///
-    /// Proved (crates/hatch/specs/Measuring.antt, `measures` and `never-short`): where measuring reads, [`HatchBody::decode_into`] with lists of these
+    /// Proved (crates/hatch/specs/Measuring.antt, `measures` and `never_short`): where measuring reads, [`HatchBody::decode_into`] with lists of these
     /// lengths or longer reads the same hatch with the same final places, and with a shorter list it is refused (`ListTooShort`) at these places; where
     /// measuring is refused, every such call is, with the same reason and places.
     ///
