@@ -89,7 +89,8 @@ unfolding cases padded_cases all_same
     signed_BS BS BS_read BD BD_read BLL BLL_read B B_read BB RC RD RL BL BL_read HANDLE HANDLE_read HANDLE_value tagged by_tag checked
     raw ◌>>=◌ tabled mapped measured give refuse held low_first high_first bytes bytes_read low_number skip window bits_of digits number limited
     pure refuse_format bind_format peek relay either part_in at_least
-    reader_text inline_text units units_read checked_units released TV TV_read TV_field TV_field_read has_reader reader_text_format from_reader past_end room_for
+    reader_text inline_text units units_read checked_units released TV TV_read TV_field TV_field_read has_reader reader_text_format from_reader
+    past_end room_for
     here inline
     prefix_call prefix_by extended chain graphics graphics_block name
     call_on hatch hatch_read plane plane_read gradient gradient_read block block_read color color_read rest rest_read tail tail_read ending ending_read

@@ -93,7 +93,8 @@ module _ (row : Row) (xs : List ℕ) (p : ℕ) where
       (BS_small x, BL_small (has_rgb row k) x₁, BL_small (has_alpha row k) x₂)
 
   pub styles_small : (x : Read)
-      → ((styles_of row xs x).linetype < 2 ^ 8) × ((styles_of row xs x).plot < 2 ^ 8) × ((styles_of row xs x).material < 2 ^ 8) × ((styles_of row xs x).shadow < 2 ^ 8)
+      → ((styles_of row xs x).linetype < 2 ^ 8) × ((styles_of row xs x).plot < 2 ^ 8) × ((styles_of row xs x).material < 2 ^ 8)
+      × ((styles_of row xs x).shadow < 2 ^ 8)
   unfolding styles_of BB RC
   styles_small x =
       let x₁ = then_read (BD.read xs) x in

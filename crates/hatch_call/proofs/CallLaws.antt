@@ -178,7 +178,8 @@ module _ (caps : Caps) (handles : Handles) (nw nn : ℕ) (γ : Payloads) (p : Pl
       started h = on_start caps handles nw nn γ p release ∙ rw (e, le-leb _ _ f, le-leb _ _ g, h)
 
 -- a call that is refused before its fields
-pub refused_is : (xs : List ℕ) {o : Out Places Body} {k : Refusal} {p : CodePlaces} (l : Lists) → o ≡ refused k (places_of p) → CallIs xs o l l (RefusedBody k p)
+pub refused_is : (xs : List ℕ) {o : Out Places Body} {k : Refusal} {p : CodePlaces} (l : Lists) → o ≡ refused k (places_of p)
+    → CallIs xs o l l (RefusedBody k p)
 refused_is xs l e = rw e (record { body = refl; readable = tt; lists = refl })
 
 pub call_as : (xs : List ℕ) {o o' : Out Places Body} {u : BodyRead} (l : Lists) {l' : Lists} → o ≡ o' → CallIs xs o' l l' u → CallIs xs o l l' u

@@ -34,5 +34,24 @@ module _ (caps : Caps) (handles : Handles) (v : Version) where
 
   pub hatch_from : (γ : Payloads) (a : Body) (p q : Places) → BodyLaid caps handles v γ a p q → (hatch_read caps handles v).lays γ a p q
   unfolding hatch_read gradient plane rest part_in TV_field relay ◌>>=◌ pure
-  hatch_from γ a p q l =
-      (a.gradient, l.0, gradient_from caps.colors v _ γ _ _ _ l.1, (a.plane, l.2.0, l.2.1, (a.name, l.2.2.0, l.2.2.1, (a.rest, q, in_main (rest_from caps handles v) l.2.2.2, (refl, refl)))))
+  hatch_from γ a p q l = (
+    a.gradient,
+    l.0,
+    gradient_from caps.colors v _ γ _ _ _ l.1,
+    (
+      a.plane,
+      l.2.0,
+      l.2.1,
+      (
+        a.name,
+        l.2.2.0,
+        l.2.2.1,
+        (
+          a.rest,
+          q,
+          in_main (rest_from caps handles v) l.2.2.2,
+          (refl, refl),
+        ),
+      ),
+    ),
+  )

@@ -19,9 +19,43 @@ module _ (caps : Caps) (handles : Handles) (v : Version) where
   unfolding rest_read paths path listed_by tail relay ◌>>=◌ pure
   rest_to xs a p q l =
       let e = l.3.3.3.3 in
-      rw (e.0, e.1) (l.1, l.2, (l.3.1, l.3.2, (l.3.3.1, (l.3.3.2.0, l.3.3.2.1, each_by add_handles (λ s b r t. path_to caps handles v s xs b r t) 0 _ _ _ l.3.3.2.2), l.3.3.3.2)))
+      rw (e.0, e.1) (
+        l.1,
+        l.2,
+        (
+          l.3.1,
+          l.3.2,
+          (
+            l.3.3.1,
+            (
+              l.3.3.2.0,
+              l.3.3.2.1,
+              each_by add_handles (λ s b r t. path_to caps handles v s xs b r t) 0 _ _ _ l.3.3.2.2,
+            ),
+            l.3.3.3.2,
+          ),
+        ),
+      )
 
   pub rest_from : (xs : List ℕ) (a : Rest) (p q : ℕ) → RestLaid xs caps handles v a p q → (rest_read caps handles v).lays xs a p q
   unfolding rest_read paths path listed_by tail relay ◌>>=◌ pure
-  rest_from xs a p q l =
-      (a.solid, l.0, l.1, (a.associative, l.2.0, l.2.1, (a.paths, l.2.2.0, (l.2.2.1.0, l.2.2.1.1, each_by add_handles (λ s b r t. path_from caps handles v s xs b r t) 0 _ _ _ l.2.2.1.2), (a.tail, q, l.2.2.2, (refl, refl)))))
+  rest_from xs a p q l = (
+    a.solid,
+    l.0,
+    l.1,
+    (
+      a.associative,
+      l.2.0,
+      l.2.1,
+      (
+        a.paths,
+        l.2.2.0,
+        (
+          l.2.2.1.0,
+          l.2.2.1.1,
+          each_by add_handles (λ s b r t. path_from caps handles v s xs b r t) 0 _ _ _ l.2.2.1.2,
+        ),
+        (a.tail, q, l.2.2.2, (refl, refl)),
+      ),
+    ),
+  )

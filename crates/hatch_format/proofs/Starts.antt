@@ -24,7 +24,8 @@ module _ (caps : Caps) (handles : Handles) (nw nn : ℕ) (γ : Payloads) (p : Pl
   unfolding call_on
   on_start release = go (version_of release) (leb (length γ.main) limit) (leb (length γ.string) limit) (leb p.string (size γ.string))
     where
-      go : (m : MaybeVersion) (s t u : Bool) → call_by caps handles nw nn γ p m s t u ≡ call_from caps handles nw nn γ p m s t (start_by (size γ.string) p.string u)
+      go : (m : MaybeVersion) (s t u : Bool) → call_by caps handles nw nn γ p m s t u ≡ call_from caps handles nw nn γ p m s t (start_by
+          (size γ.string) p.string u)
       go Unknown s t u = refl
       go (Known v) false t u = refl
       go (Known v) true false u = refl

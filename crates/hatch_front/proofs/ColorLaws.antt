@@ -82,7 +82,8 @@ unfolding none_read
 filled_none xs at = refl
 
 -- ---- the same as doubles
-pub set_doubles : (l : List GradientColorBits) (i : ℕ) (c : GradientColorBits) → set (colors_as_doubles l) i (color_as_doubles c) ≡ colors_as_doubles (set l i c)
+pub set_doubles : (l : List GradientColorBits) (i : ℕ) (c : GradientColorBits)
+    → set (colors_as_doubles l) i (color_as_doubles c) ≡ colors_as_doubles (set l i c)
 set_doubles [] i c = refl
 set_doubles (a ∷ l) zero c = refl
 set_doubles (a ∷ l) (suc i) c = ap (λ (m : List GradientColor). color_as_doubles a ∷ m) (set_doubles l i c)

@@ -163,7 +163,8 @@ block_row xs cap p =
     (block_by a b c d e f cs)) (Value 0 p) refl
     ∙ one_more xs (λ a. coded BL) (λ a b. coded BD >>= λ c. coded BD >>= λ d. coded BL >>= λ e. coded BD >>= λ f. list >>= λ cs. pure
     (block_by a b c d e f cs)) x₁ refl
-    ∙ one_more xs (λ b. coded BD) (λ b c. coded BD >>= λ d. coded BL >>= λ e. coded BD >>= λ f. list >>= λ cs. pure (block_by (value_of x₁) b c d e f cs)) x₂ refl
+    ∙ one_more xs (λ b. coded BD) (λ b c. coded BD >>= λ d. coded BL >>= λ e. coded BD >>= λ f. list >>= λ cs. pure (block_by
+    (value_of x₁) b c d e f cs)) x₂ refl
     ∙ one_more xs (λ c. coded BD) (λ c d. coded BL >>= λ e. coded BD >>= λ f. list >>= λ cs. pure (block_by (value_of x₁) (value_of x₂) c d e f cs)) x₃ refl
     ∙ one_more xs (λ d. coded BL) (λ d e. coded BD >>= λ f. list >>= λ cs. pure (block_by (value_of x₁) (value_of x₂) (value_of x₃) d e f cs)) x₄ refl
     ∙ one_more xs (λ e. coded BD) (λ e f. list >>= λ cs. pure (block_by (value_of x₁) (value_of x₂) (value_of x₃) (value_of x₄) e f cs)) x₅ refl

@@ -63,7 +63,8 @@ module _ (caps : Caps) (handles : Handles) (v : Version) (γ : Payloads) where
 
       planes : (fill : Gradient) (o : Out Places Plane)
           → and_then o (λ a r. and_then ((TV_field v).read γ r) (λ name q. whole (front_with fill (named_as a name)) q))
-          ≡ and_then (and_then (and_then o (λ a r. and_then ((TV_field v).read γ r) (λ name q. got (named_as a name) q))) (λ n q. got (front_with fill n) q)) whole
+          ≡ and_then (and_then (and_then o (λ a r. and_then ((TV_field v).read γ r) (λ name q. got (named_as a name) q))) (λ n q. got
+          (front_with fill n) q)) whole
       planes fill (got a q) = texts fill a ((TV_field v).read γ q)
       planes fill (refused k q) = refl
 

@@ -169,7 +169,8 @@ module _ (caps : Caps) where
   counted_edges n = record { at = λ k rest e p. go k ((times n (edge caps)).read tt p) ∙ ap (prepend (no_item ∷ [])) (run.at k rest e p) }
     where
       run : Before (gathered (λ a. edge_item a ∷ [])) (times n (edge caps)) (times_then n (item_then (edge_step caps)))
-      run = before_times (λ a. edge_item a ∷ []) (edge caps) (item_then (edge_step caps)) n (before_item edge_item (edge caps) (edge_step caps) (says_edge caps))
+      run = before_times (λ a. edge_item a ∷ []) (edge caps) (item_then (edge_step caps)) n (before_item edge_item (edge caps) (edge_step caps)
+          (says_edge caps))
 
       go : (k : Lists → Step Left (List Item)) (o : Out Lists (List Edge))
           → items_then edges_of (and_then o (λ es r. got (edges es) r)) k ≡ prepend (no_item ∷ []) (items_then (gathered (λ a. edge_item a ∷ [])) o k)

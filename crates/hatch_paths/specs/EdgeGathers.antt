@@ -142,7 +142,8 @@ module _ (xs : List ℕ) where
           (vertices_gather xs rational controls q) (λ cs q i.
           first_gathers list_entries xs q fit_entries (fits caps.fit_points fit_release) (fits_walk caps.fit_points fit_release) _ _
           (fits_gathers caps.fit_points fit_release q) (λ fs q j.
-          last_gathers list_entries xs q _ (ap (λ (e : Entries). plus (numbers ks) (plus e (fit_entries fs))) (sym (all_numbers (vertex_numbers rational) cs))))))
+          last_gathers list_entries xs q _ (ap (λ (e : Entries). plus (numbers ks) (plus e (fit_entries fs))) (sym (all_numbers
+          (vertex_numbers rational) cs))))))
 
       -- what the lists were made of
       pub lists_made : (a : Spline) (p q : ℕ) → (spline_lists caps v degree rational periodic knots controls).read xs p ≡ got a q

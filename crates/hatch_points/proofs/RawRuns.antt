@@ -47,7 +47,8 @@ one_more_bits xs p n i b =
     ∙ ap (λ (k : ℕ). set (sets b i (raw_at xs p n)) (i + k) (low_number (bytes_at xs (p + 64 * n) 8))) (length_raw xs p n))
 
 pub one_more_double : (xs : List ℕ) (p n i : ℕ) (l : List Float)
-    → set (sets l i (doubles_of (raw_at xs p n))) (i + n) (of_bits binary64 (low_number (bytes_at xs (p + 64 * n) 8))) ≡ sets l i (doubles_of (raw_at xs p (n + 1)))
+    → set (sets l i (doubles_of (raw_at xs p n))) (i + n) (of_bits binary64 (low_number (bytes_at xs (p + 64 * n) 8))) ≡ sets l i (doubles_of
+    (raw_at xs p (n + 1)))
 one_more_double xs p n i l =
     sym (ap (λ (ns : List ℕ). sets l i (doubles_of ns)) (raw_snoc xs p n) ∙ ap (sets l i) (doubles_append (raw_at xs p n) _)
     ∙ sets_append l i (doubles_of (raw_at xs p n)) _

@@ -87,7 +87,8 @@ module _ (xs : List ℕ) where
   raw_add m n p = ap (gathered numbers) (times_add (coded RD) xs m n p) ∙ go ((times m (coded RD)).read xs p)
     where
       second : (ms : List ℕ) (o : Out ℕ (List ℕ))
-          → gathered numbers (and_then o (λ more r. got (ms ++ more) r)) ≡ and_then (and_then o (λ ns q. got (numbers ns) q)) (λ b r. got (plus (numbers ms) b) r)
+          → gathered numbers (and_then o (λ more r. got (ms ++ more) r)) ≡ and_then (and_then o (λ ns q. got (numbers ns) q)) (λ b r. got (plus
+          (numbers ms) b) r)
       second ms (got ns q) = refl
       second ms (refused k q) = refl
 

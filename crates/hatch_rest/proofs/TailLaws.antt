@@ -217,7 +217,8 @@ module _ (xs : List ℕ) (caps : Caps) where
     pub ending_fields_refused : {l : Lists} {z : Sizes} {k : Refusal} {q : ℕ} → x₂ ≡ Refused k q
         → (RefusedEnding k q ≡ ending_walk z ((ending caps has).read xs p)) × Gives xs ending_entries ((ending caps has).read xs p) l z l
     ending_fields_refused {z = z} i =
-        answers_refused ending_entries ((ending caps has).read xs p) (ending_walk z) (ending_row ∙ ap (resumed xs (ending_after_count (value_of x₁))) i) kept_same
+        answers_refused ending_entries ((ending caps has).read xs p) (ending_walk z) (ending_row
+        ∙ ap (resumed xs (ending_after_count (value_of x₁))) i) kept_same
 
     module _ {n q : ℕ} (i : x₂ ≡ Value n q) where
       behind_seeds : (ending caps has).read xs p ≡ (ending_after_count (value_of x₁) n).read xs q

@@ -39,7 +39,8 @@ head_if false i ws = broken
 
 -- two counts behind two switches
 counts_by : (bulge : Bool) (n h : ℕ) (ws : List ℕ)
-    → and_next (and_next (a_count 100_000 (n ∷ (h ∷ ws))) (λ m. next (polyline_item bulge m))) (λ i vs. and_next (a_count 1_024 vs) (λ handles. next (head_of i 0)))
+    → and_next (and_next (a_count 100_000 (n ∷ (h ∷ ws))) (λ m. next (polyline_item bulge m))) (λ i vs. and_next (a_count 1_024 vs) (λ handles. next
+    (head_of i 0)))
     ≡ head_if (leb n 100_000 && leb h 1_024) (polyline_item bulge n) ws
 counts_by bulge n h ws = go (leb n 100_000) refl (leb h 1_024) refl
   where
@@ -120,4 +121,5 @@ module _ (ws : List ℕ) (at : ℕ) (h : at < length ws) {w : ℕ} (ew : w ≡ g
       ∙ ap (λ (b : Bool). head_by document_caps b (drop (at + 1) ws)) e) r k
 
   pub head_edges : polylined w ≡ false → (r : HeadAt) → FindsHead ws (at + 1) r (edges_step document_caps) → FindsHead ws at r (head_step document_caps)
-  head_edges e r k = on ws at (head_step document_caps) (edges_step document_caps) (head_of_lem ∙ ap (λ (b : Bool). head_by document_caps b (drop (at + 1) ws)) e) r k
+  head_edges e r k = on ws at (head_step document_caps) (edges_step document_caps) (head_of_lem
+      ∙ ap (λ (b : Bool). head_by document_caps b (drop (at + 1) ws)) e) r k

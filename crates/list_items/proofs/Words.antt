@@ -59,10 +59,12 @@ module _ (ws : List ℕ) (at : ℕ) (h : at < length ws) where
   switch_broken k = ap a_switch (first_word ws at h) ∙ switch_bad (get_or ws at 0) (drop (at + 1) ws) k
 
   pub count_found : (most : ℕ) → get_or ws at 0 ≤ most → a_count most (drop at ws) ≡ next (get_or ws at 0) (drop (at + 1) ws)
-  count_found most k = ap (a_count most) (first_word ws at h) ∙ ap (λ (b : Bool). count_if b (get_or ws at 0) (drop (at + 1) ws)) (le-leb (get_or ws at 0) most k)
+  count_found most k = ap (a_count most) (first_word ws at h)
+      ∙ ap (λ (b : Bool). count_if b (get_or ws at 0) (drop (at + 1) ws)) (le-leb (get_or ws at 0) most k)
 
   pub count_broken : (most : ℕ) → most < get_or ws at 0 → a_count most (drop at ws) ≡ broken
-  count_broken most k = ap (a_count most) (first_word ws at h) ∙ ap (λ (b : Bool). count_if b (get_or ws at 0) (drop (at + 1) ws)) (lt-leb (get_or ws at 0) most k)
+  count_broken most k = ap (a_count most) (first_word ws at h)
+      ∙ ap (λ (b : Bool). count_if b (get_or ws at 0) (drop (at + 1) ws)) (lt-leb (get_or ws at 0) most k)
 
 -- ---- steps that take so many words, and need them
 abbrev pub Takes : {A : Type 0} → ℕ → (List ℕ → Step (List ℕ) A) → Type 0
@@ -169,7 +171,8 @@ spline_by d (suc zero) (suc (suc p)) k c f ws = rw (lt-leb (suc (suc p)) 1 (omeg
 -- the words from an index on, one by one
 pub spline_at : (ws : List ℕ) (at : ℕ) → 6 ≤ length ws - at → spline_step document_caps (drop at ws)
     ≡ found_if (spline_words (get_or ws (at + 1) 0) (get_or ws (at + 2) 0) (get_or ws (at + 3) 0) (get_or ws (at + 4) 0) (get_or ws (at + 5) 0))
-    (item (get_or ws (at + 3) 0) (get_or ws (at + 4) 0) (2 + get_or ws (at + 1) 0) (get_or ws (at + 5) 0) (tangent_numbers (get_or ws (at + 5) 0))) (drop (at + 6) ws)
+    (item (get_or ws (at + 3) 0) (get_or ws (at + 4) 0) (2 + get_or ws (at + 1) 0) (get_or ws (at + 5) 0) (tangent_numbers (get_or ws (at + 5) 0)))
+    (drop (at + 6) ws)
 spline_at ws at h =
     let w₀ = first_word ws at (omega arith) in
     let w₁ = next_word ws at 1 2 refl (omega arith) in
@@ -178,8 +181,10 @@ spline_at ws at h =
     let w₄ = next_word ws at 4 5 refl (omega arith) in
     let w₅ = next_word ws at 5 6 refl (omega arith) in
     ap (spline_step document_caps) (w₀ ∙ ap (λ (l : List ℕ). get_or ws at 0 ∷ l) (w₁ ∙ ap (λ (l : List ℕ). get_or ws (at + 1) 0 ∷ l) (w₂
-    ∙ ap (λ (l : List ℕ). get_or ws (at + 2) 0 ∷ l) (w₃ ∙ ap (λ (l : List ℕ). get_or ws (at + 3) 0 ∷ l) (w₄ ∙ ap (λ (l : List ℕ). get_or ws (at + 4) 0 ∷ l) w₅)))))
-    ∙ spline_by (get_or ws at 0) (get_or ws (at + 1) 0) (get_or ws (at + 2) 0) (get_or ws (at + 3) 0) (get_or ws (at + 4) 0) (get_or ws (at + 5) 0) (drop (at + 6) ws)
+    ∙ ap (λ (l : List ℕ). get_or ws (at + 2) 0 ∷ l) (w₃ ∙ ap (λ (l : List ℕ). get_or ws (at + 3) 0 ∷ l) (w₄
+    ∙ ap (λ (l : List ℕ). get_or ws (at + 4) 0 ∷ l) w₅)))))
+    ∙ spline_by (get_or ws at 0) (get_or ws (at + 1) 0) (get_or ws (at + 2) 0) (get_or ws (at + 3) 0) (get_or ws (at + 4) 0) (get_or ws (at + 5) 0)
+    (drop (at + 6) ws)
 
 -- the same of numbers that were read there, by what the test says of them
 module _ (ws : List ℕ) (at : ℕ) (h : 6 ≤ length ws - at) {r p k c f : ℕ} (er : r ≡ get_or ws (at + 1) 0) (ep : p ≡ get_or ws (at + 2) 0)

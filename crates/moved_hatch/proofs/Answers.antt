@@ -67,7 +67,8 @@ module _ {A : Type 0} (m : Arithmetic A) (value : A → Float) (c : HatchCounts)
         unlike : false ≡ true → ⊥
         unlike e = let z : ◌≡◌ {A = ℕ} 0 1 = cc in omega arith
 
-        tested : (a : Holding) → Holds m value c upright ws ns x₀ y₀ a → (u t : Bool) → upright ≡ u → tests a ≡ t → Answers m value c upright ws ns x₀ y₀ (judged (held_roles a) u t)
+        tested : (a : Holding) → Holds m value c upright ws ns x₀ y₀ a → (u t : Bool) → upright ≡ u → tests a ≡ t
+            → Answers m value c upright ws ns x₀ y₀ (judged (held_roles a) u t)
         tested a h false t e f = tilted a h e
         tested a h true false e f = beyond a h e (λ w. unlike (sym f ∙ tests_complete a w))
         tested a h true true e f = all_moved a h e (tests_sound a f)

@@ -36,7 +36,8 @@ unfolding difference_bits
 difference_patterns a o p q = sym (ap₂ (λ u v. bits_of (difference u v)) (of_bits-to_bits binary64 a p) (of_bits-to_bits binary64 o q))
 
 module _ (x₀ y₀ : Float) (p : IsDouble x₀) (q : IsDouble y₀) where
-  one_pattern : (r : Role) (a : Float) → IsDouble a → bits_of (moved_one difference x₀ y₀ r a) ≡ moved_one difference_bits (bits_of x₀) (bits_of y₀) r (bits_of a)
+  one_pattern : (r : Role) (a : Float) → IsDouble a → bits_of (moved_one difference x₀ y₀ r a) ≡ moved_one difference_bits (bits_of x₀) (bits_of y₀) r
+      (bits_of a)
   one_pattern x a i = difference_patterns a x₀ i p
   one_pattern y a i = difference_patterns a y₀ i q
   one_pattern other a i = refl

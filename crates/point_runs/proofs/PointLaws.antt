@@ -227,10 +227,12 @@ module _ {A : Type 0} (in_range : A → Bool) (stride : ℕ) where
   ahead_first l from n e = ap (λ m. in_range_from in_range from (point_run stride m) l) (sub-zero n) ∙ e
 
   module _ (z : A) (two : 2 ≤ stride) (l : List A) (n at i : ℕ) (room : at + stride ≤ length l) (lt : i < n) (h : Ahead in_range stride l n at i) where
-    split : (in_range (get_or l at z) && in_range (get_or l (at + 1) z) ≡ true) × (in_range_from in_range (at + stride) (point_run stride (n - (i + 1))) l ≡ true)
+    split : (in_range (get_or l at z) && in_range (get_or l (at + 1) z) ≡ true)
+        × (in_range_from in_range (at + stride) (point_run stride (n - (i + 1))) l ≡ true)
     split =
         let e : n - i ≡ suc (n - (i + 1)) = omega arith in
-        (and-eq-true_iff (in_range (get_or l at z) && in_range (get_or l (at + 1) z)) (in_range_from in_range (at + stride) (point_run stride (n - (i + 1))) l)).0
+        (and-eq-true_iff (in_range (get_or l at z) && in_range (get_or l (at + 1) z)) (in_range_from in_range (at + stride) (point_run stride (n -
+        (i + 1))) l)).0
         (sym (ap (λ m. in_range_from in_range at (point_run stride m) l) e ∙ run_next in_range stride two l z at (n - (i + 1)) (omega arith)) ∙ h)
 
     pub x_ahead : in_range (get_or l at z) ≡ true

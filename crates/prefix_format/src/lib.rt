@@ -1,6 +1,7 @@
 // The entity prefix, defined: src/common_entity.rs of dwg-rs; section 20.4.1 of the specification. The functions that read it are in crate common_entity.
 // Which release has which field is one table (`rows`); the readers and their definition both look there, and nowhere else.
-// specs/ has its layouts, the record, a whole call, and when a call has a layout; proofs/Format proves the layouts, and proofs/Demand3 the third demand of a call.
+// specs/ has its layouts, the record, a whole call, and when a call has a layout; proofs/Format proves the layouts, and proofs/Demand3 the third demand of a
+// call.
 #![tactic(auto)]
 
 use bitcursor::Refusal;

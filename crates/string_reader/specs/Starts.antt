@@ -57,7 +57,8 @@ module _ (xs ys : List ℕ) (e : length ys ≡ length xs) (p : ℕ) where
 
   pub same_start : start_at ys p ≡ start_at xs p
   unfolding limited
-  same_start = ap (by_length (length ys)) (by_one_test ys p) ∙ ap (λ (n : ℕ). by_length n (start_in (8 * n) p)) e ∙ ap (by_length (length xs)) (sym (by_one_test xs p))
+  same_start = ap (by_length (length ys)) (by_one_test ys p) ∙ ap (λ (n : ℕ). by_length n (start_in (8 * n) p)) e
+      ∙ ap (by_length (length xs)) (sym (by_one_test xs p))
 
   pub same_text_past : (end : ℕ) → size xs ≤ p → text_at ys p end ≡ text_at xs p end
   unfolding limited

@@ -39,7 +39,8 @@ pub returns-then-not-first-second : goal.returns-then-not-first-second
 returns-then-not-first-second c =
     let a = c.args in
     judged_beyond is_within a.stride c.requires.1 a.numbers.now c.loop-left.invariant c.loop-left-test.true
-    c.pair_within-first.ensures c.pair_within-second.ensures (refused (c.pair_within-first.result && c.pair_within-second.result) c.if-not-first-second.true refl)
+    c.pair_within-first.ensures c.pair_within-second.ensures (refused
+    (c.pair_within-first.result && c.pair_within-second.result) c.if-not-first-second.true refl)
 
 pub overflow_mul-at : goal.overflow_mul-at
 overflow_mul-at c =
@@ -57,7 +58,8 @@ pub loop-left-preserved : goal.loop-left-preserved
 loop-left-preserved c =
     let a = c.args in
     judged_next is_within a.stride c.requires.1 a.numbers.now c.loop-left.invariant c.loop-left-test.true
-    c.pair_within-first.ensures c.pair_within-second.ensures (passed (c.pair_within-first.result && c.pair_within-second.result) c.if-not-first-second.false refl)
+    c.pair_within-first.ensures c.pair_within-second.ensures (passed
+    (c.pair_within-first.result && c.pair_within-second.result) c.if-not-first-second.false refl)
 
 pub last_within-requires : goal.last_within-requires
 last_within-requires c =

@@ -7,9 +7,9 @@ use super::records::{block, drawing, end, modular_short, prefix_of, FIRST_OBJECT
 use super::{bounded, cut_of, draw_of, hatch, line, read_of, record};
 use crate::commands::input::Kind;
 
-/// The only line that tells what is wrong, behind the file's name, which a test has for itself, since tests run side by side.
-fn wrong(test: &str, bytes: &[u8]) -> String {
-    let given = cut_of(&format!("{test}-wrong"), bytes, "");
+/// The only line that tells what is wrong, behind the file's name.
+fn wrong(bytes: &[u8]) -> String {
+    let given = cut_of("wrong", bytes, "");
     bounded(&given, bytes, 0);
     assert_eq!((given.status, given.errors.len()), (1, 1), "{:?}", given.errors);
     given.errors[0].split_once("wrong.dwg: ").expect("the file's name").1.to_string()
@@ -62,7 +62,7 @@ fn every_number_is_tested_before_it_is_used() {
         (one(&[]), "handle 20: its type, size and handle at byte 54 cannot be read: refusal 1 at bit 0: ".to_string()),
     ];
     for (bytes, expected) in cases {
-        let wrong = wrong("number", &bytes);
+        let wrong = wrong(&bytes);
         assert!(wrong.starts_with(&expected) && wrong.ends_with("save the drawing anew"), "{wrong}\n{expected}");
     }
 }
@@ -79,7 +79,7 @@ fn an_object_that_is_wrong_is_told_by_its_handle() {
         (begin(78, 60, &prefix_of(2, 0).0), "its prefix ends at bit 92, behind its fields' end at bit 60"),
     ];
     for (payload, expected) in cases {
-        let wrong = wrong("object", &one(&payload));
+        let wrong = wrong(&one(&payload));
         assert!(wrong.strip_prefix("handle 20: ").is_some_and(|wrong| wrong.starts_with(expected)), "{wrong}\n{expected}");
     }
 }
@@ -91,7 +91,7 @@ fn a_map_that_runs_in_circles_comes_to_an_end() {
     let objects = [modular_short(payload.len()), payload].concat();
     let map = [block(&[(0x20, FIRST_OBJECT as i64)]).repeat(5000), end()].concat();
     let bytes = drawing(&objects, &map);
-    let wrong = wrong("circles", &bytes);
+    let wrong = wrong(&bytes);
     assert!(wrong.starts_with(&format!("its objects come to more than its {} bytes, so that some lie over one another, and reading ends here", bytes.len())));
 }
 

@@ -1,3 +1,4 @@
+-- So far the numbers agree, item by item.
 use Rattle.std.proofs.Common.{◌≡◌, ℕ, ◌+◌, ◌-◌, ◌*◌, ◌<◌, ◌≤◌, get_or}
 use Rattle.stored.specs.Items.{item_at}
 use Rattle.stored.proofs.compare.same.Given as goal
