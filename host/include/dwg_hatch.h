@@ -213,7 +213,7 @@ DwgLengthsAnswer dwg_hatch_measure(const uint8_t *main, size_t main_length, size
  * DWG_LIST_TOO_SHORT. Then both lengths are 0.
  *
  * string_start is compared once with the payload's length, and is then where the reader stands: a start at the end of a large payload costs what one at bit
- * 0 does. Proved (crates/hatch_format/specs/Starts.antt, `start_inside`, `start_past` and `same_past`): that the reader stands at every start within the
+ * 0 does. Proved (crates/hatch_format/proofs/Starts.antt, `start_inside`, `start_past` and `same_past`): that the reader stands at every start within the
  * payload, its length in bits included, and that the refusal past it is the same for every payload of that length, whatever its bits are. */
 DwgLengthsAnswer dwg_hatch_measure_with_strings(const uint8_t *main, size_t main_length, size_t start, const uint8_t *string,
                                                 size_t string_length, size_t string_start, size_t string_end, uint64_t release);

@@ -1,5 +1,5 @@
 -- Document 01's cases marked †, document 02's, and the proof that each holds. Assumes nothing.
-use Rattle.std.specs.Prelude.{List, [], ◌∷◌, ◌++◌, ℕ, ℤ, pos, negsuc, length, replicate}
+use Rattle.std.specs.Prelude.{List, [], ◌∷◌, ℕ, ℤ, pos, negsuc, length, replicate}
 use Rattle.loads.specs.Bits.{bits_of, digits, number, window}
 use Rattle.bitcursor.specs.Code.{give, refuse, raw, ◌>>=◌, tabled, mapped, measured}
 use Rattle.bitcursor.specs.Bytes.{bytes, bytes_read, low_first, high_first, skip}

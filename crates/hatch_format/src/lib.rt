@@ -1,6 +1,6 @@
 // The hatch body, defined: src/entities/hatch.rs of dwg-rs; section 20.4.75 of the specification. The functions that read it are in crate hatch.
 // specs/ has its values, its layouts, the format that reads them, and the record and the list entries that a call hands over;
-// specs/Call defines a whole call, and specs/Demand3 proves of it each sentence of the third demand.
+// specs/Call defines a whole call, specs/Demand3 what the third demand says of it, and proofs/Demand3 proves each of its sentences.
 #![tactic(auto)]
 
 ghost use Rattle.std.specs.Prelude.{◌≡◌};

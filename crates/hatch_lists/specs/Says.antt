@@ -161,14 +161,14 @@ fixed_times {A} m n f h = says_reads (go n) (λ p. refl)
         (λ items. fixed_pure (a ∷ items))))
 
 -- ---- words and then the numbers of an item
-module _ {A R : Type 0} (ρ : A → R) (type_size : R → Item) where
+module _ {A R : Type 0} (ρ : A → R) (size_of : R → Item) where
   -- so many numbers, and what they make is always r
-  pub parses_fixed : (f : Format lists A) (r : R) → Fixed (item_size (type_size r)) f → ((a : A) (p q : Lists) → f.read tt p ≡ got a q → ρ a ≡ r)
-      → Says ρ f (stepping type_size (next r))
+  pub parses_fixed : (f : Format lists A) (r : R) → Fixed (item_size (size_of r)) f → ((a : A) (p q : Lists) → f.read tt p ≡ got a q → ρ a ≡ r)
+      → Says ρ f (stepping size_of (next r))
   parses_fixed f r h k = record { at = λ p. go p (leb size (length p.numbers)) (f.read tt p) (h.at p) (λ a q. k a p q) }
     where
       size : ℕ
-      size = item_size (type_size r)
+      size = item_size (size_of r)
 
       left_in : Step Left (Unit {0}) → Left
       left_in (next u l) = l
@@ -184,13 +184,13 @@ module _ {A R : Type 0} (ρ : A → R) (type_size : R → Item) where
       go p true (refused j q) e m = absurd (differ e)
       go p false (refused j q) e m = refl
 
-module _ {A B R : Type 0} (ρ : B → R) (type_size : R → Item) (f : Format lists A) (g : A → Format lists B)
+module _ {A B R : Type 0} (ρ : B → R) (size_of : R → Item) (f : Format lists A) (g : A → Format lists B)
     (P : List ℕ → Step (List ℕ) A) (Q : A → List ℕ → Step (List ℕ) R) where
-  pub parses_then : SaysWords f P → ((a : A) → Says ρ (g a) (stepping type_size (Q a))) → Says ρ (f >>= g) (stepping type_size (λ ws. and_next (P ws) Q))
+  pub parses_then : SaysWords f P → ((a : A) → Says ρ (g a) (stepping size_of (Q a))) → Says ρ (f >>= g) (stepping size_of (λ ws. and_next (P ws) Q))
   parses_then h k =
-      says_as (says_then (λ (a : A). a) ρ f g (λ l. with_numbers l.numbers (P l.words)) (λ a. stepping type_size (Q a)) h k)
+      says_as (says_then (λ (a : A). a) ρ f g (λ l. with_numbers l.numbers (P l.words)) (λ a. stepping size_of (Q a)) h k)
       (λ p. go (length p.numbers) (P p.words))
     where
-      go : (n : ℕ) (o : Step (List ℕ) A) → and_next (with_numbers n o) (λ a. stepping type_size (Q a)) ≡ passing type_size n (and_next o Q)
+      go : (n : ℕ) (o : Step (List ℕ) A) → and_next (with_numbers n o) (λ a. stepping size_of (Q a)) ≡ passing size_of n (and_next o Q)
       go n (next a ws) = refl
       go n broken = refl

@@ -20,11 +20,11 @@ pass_if true a size ws n = next a (left_of ws (n - size))
 pass_if false a size ws n = broken
 
 abbrev pub passing : {A : Type 0} → (A → Item) → ℕ → Step (List ℕ) A → Step Left A
-passing type_size n (next a ws) = pass_if (leb (item_size (type_size a)) n) a (item_size (type_size a)) ws n
-passing type_size n broken = broken
+passing size_of n (next a ws) = pass_if (leb (item_size (size_of a)) n) a (item_size (size_of a)) ws n
+passing size_of n broken = broken
 
 abbrev pub stepping : {A : Type 0} → (A → Item) → (List ℕ → Step (List ℕ) A) → Left → Step Left A
-stepping type_size step l = passing type_size l.numbers (step l.words)
+stepping size_of step l = passing size_of l.numbers (step l.words)
 
 -- items before those of another walk
 abbrev pub prepend : List Item → Step Left (List Item) → Step Left (List Item)

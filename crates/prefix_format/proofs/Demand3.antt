@@ -27,6 +27,11 @@ by Unknown b xs p = refused UnknownRelease p
 by (Known v) true xs p = (prefix v).read xs p
 by (Known v) false xs p = refused PayloadTooLong p
 
+-- a call's fields are read as the certified prefix reads them
+pub by_certified : (release : ℕ) (xs : List ℕ) (p : ℕ) → prefix_call release xs p ≡ released (λ v. limited (prefix v).read) (version_of release) xs p
+unfolding prefix_call prefix relay
+by_certified release xs p = refl
+
 call_by : (release : ℕ) (xs : List ℕ) (p : ℕ) → prefix_call release xs p ≡ by (version_of release) (leb (length xs) limit) xs p
 unfolding prefix_call released limited prefix relay
 call_by release xs p = go (version_of release) (leb (length xs) limit) refl

@@ -3,12 +3,14 @@
 use Rattle.std.specs.Prelude.{◌≡◌, refl, Bool, true, false, List, [], ◌∷◌, ◌++◌, ℕ, ◌^◌, eqb, length}
 use Rattle.std.proofs.Common.{sym, ap, ap₂, subst₂, ◌∙◌, append-nil, eqb-true}
 use Rattle.std.proofs.Math.Path.{subst⁻¹}
+use Rattle.bitcursor.specs.Joins.{Coded}
+use Rattle.std.specs.Prelude.{◌↔◌}
 use Rattle.bitcursor.specs.declared.Refusal.TheVariants.{NotUtf16}
-use Rattle.bitcursor.specs.Code.{give, refuse, ◌>>=◌, tabled, measured}
+use Rattle.bitcursor.specs.Code.{Laid, give, refuse, ◌>>=◌, tabled, measured}
 use Rattle.bitcursor.specs.Codes.{BS, BS_codes}
 use Rattle.bitcursor.specs.Handles.{checked}
 use Rattle.text.specs.Units.{AllBelow, unit_bits, units}
-use Rattle.text.specs.Texts.{UnitWidth, unit_bytes, unclosed, ends_in_zero, laid_out, Unpadded, valid, valid_to, valid_from, Written, written_of, TV_codes, TV_of, checked_units, TV_read}
+use Rattle.text.specs.Texts.{UnitWidth, unit_bytes, unclosed, ends_in_zero, laid_out, Unpadded, valid, valid_to, valid_from, Written, written_of, TV_codes, TV_of, checked_units, TV_read, TV}
 
 -- units and padding give back what was laid out
 pub laid_back : (laid : List ℕ) → laid_out (unclosed laid) (ends_in_zero laid) ≡ laid
@@ -92,3 +94,11 @@ TV_from w t cs (TV_of {us = us} {padded = padded} {ds = ds} h a u v) =
       (laid, bs, [], (refl, a, refl), rw (y, e, f) (refl, refl), sym (append-nil bs)),
       refl,
     )
+
+-- a text in a payload is one of the table there
+pub TV_laid : (w : UnitWidth) (xs : List ℕ) (t : Written) (p q : ℕ) → Coded xs (TV w) t p q ↔ Laid (TV_codes w) xs t p q
+unfolding TV
+TV_laid w xs t p q = (
+  λ l. record { code = l.code; listed = TV_to w t l.code l.listed; stands = l.stands; ends = l.ends },
+  λ l. record { code = l.code; listed = TV_from w t l.code l.listed; stands = l.stands; ends = l.ends },
+)
