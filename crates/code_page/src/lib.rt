@@ -1,6 +1,6 @@
 // Text of 8-bit units by Windows code page 1252, as 16-bit units and back: src/code_page.rs of dwg-rs (its page 1252); document 02, L3.
 // A step of its own behind reading, which keeps raw units. All tests come before the first store.
-// specs/ have the mapping file's table and what a call answers: 14, then 11, and every entry of the output; that each way undoes the other is proved there and in proofs/.
+// specs/ have the table and what a call answers: 14, then 11, and every entry of the output; that each way undoes the other stands there and in proofs/.
 #![tactic(auto)]
 
 ghost use Rattle.code_page.specs.Mapping.{unit_of, byte_of};
