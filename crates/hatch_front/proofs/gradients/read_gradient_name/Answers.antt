@@ -1,9 +1,7 @@
 -- The name decides, and the flag what is handed over.
-use mathlib.Core.Path.{sym, ap, ◌∙◌}
+use mathlib.Core.Path.{sym, ap}
 use Rattle.text.specs.Answers.{payloads, places_of}
 use Rattle.text.specs.TextField.{TV_field}
-use Rattle.hatch_front.specs.declared.Gradient.{Gradient}
-use Rattle.hatch_front.specs.declared.gradients.GradientRead.TheVariants.{Done}
 use Rattle.hatch_front.specs.Answers.{shown_read}
 use Rattle.hatch_front.proofs.FrontJoins.{field_got, field_none}
 use Rattle.hatch_front.proofs.gradients.read_gradient_name.Goals as goal
@@ -15,7 +13,7 @@ returns-in-Found c =
     let a = c.args in
     let γ = payloads a.main.now a.string.now a.reader a.end in
     let read = field_got ((TV_field a.v).read γ (places_of a.at)) at-read-tv-field.ensures c.in-Found.is in
-    ap (λ (g : Gradient). Done g c.in-Found.p) at-shown.ensures ∙ sym (ap (shown_read a.block) read)
+    rw at-shown.ensures (sym (ap (shown_read a.block) read))
 
 pub returns-in-Refused : goal.returns-in-Refused
 returns-in-Refused c = let at-read-tv-field = c.read_tv_field in
