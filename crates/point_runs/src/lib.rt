@@ -38,17 +38,22 @@ fn four_within<C: Coordinate>(numbers: &[C], at: usize, stride: usize) -> C::Jud
     first.and(second)
 }
 
-// Of the last points of a run, fewer than four.
+// Of the last points of a run, fewer than four. By `if`, since a `match` becomes a table of jumps, which takes longer where a run is short.
 fn last_within<C: Coordinate>(numbers: &[C], at: usize, n: usize, stride: usize) -> C::Judged
     requires { (at + n * stride ≤ length numbers.now) × (2 ≤ stride) × (n ≤ 3) }
     ensures { C.Judged.holds result ≡ in_range_from C.within at (point_run stride n) numbers.now }
 {
-    match n {
-        0 => C::Judged::of_none(),
-        1 => point_within(numbers, at, stride),
-        2 => pair_within(numbers, at, stride),
-        _ => pair_within(numbers, at, stride).and(point_within(numbers, at + 2 * stride, stride)),
+    if n == 0 {
+        return C::Judged::of_none();
     }
+    if n == 1 {
+        return point_within(numbers, at, stride);
+    }
+    let first = pair_within(numbers, at, stride);
+    if n == 2 {
+        return first;
+    }
+    first.and(point_within(numbers, at + 2 * stride, stride))
 }
 
 // Whether the coordinates of n points are in range, with so many numbers from each point to the next. Four points a turn, and out at the first turn

@@ -12,8 +12,11 @@ minus-requires g c =
 pub minus-requires-2 : goal.minus-requires-2
 minus-requires-2 g c =
     let a = c.args in
-    (both_may g.C.Coordinate.can_minus a.stride c.requires.1 a.numbers.now
-    (record { there = omega arith; is_x = c.index-numbers-at.is; is_y = c.index-numbers-at-2.is }) c.requires.2).1
+    let may = both_may g.C.Coordinate.can_minus a.stride c.requires.1 a.numbers.now
+    (record { there = omega arith; is_x = c.index-numbers-at.is; is_y = c.index-numbers-at-2.is }) c.requires.2 in
+    let of_x = may.0.1 in
+    let of_y = may.1.1 in
+    (may.1.0, cc)
 
 pub returns : goal.returns
 returns g c =
