@@ -3,6 +3,4 @@ use Rattle.whole_lists.proofs.Judged.{ends_path}
 use Rattle.whole_lists.proofs.next_path.Goals as goal
 
 pub returns : goal.returns
-returns c =
-    let a = c.args in
-    ends_path a.words.now a.numbers a.word a.number c.requires.1 c.pass_all.result c.pass_all.ensures
+returns c = ends_path c.args.words.now c.args.numbers c.args.word c.args.number c.requires.1 c.pass_all.result c.pass_all.ensures
