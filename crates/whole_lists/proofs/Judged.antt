@@ -74,8 +74,7 @@ module _ (c : HatchCounts) (ws ns : List ℕ) (fits : Fitting c (length ws) (len
   walk_is = next_held (held_if true c ws ns) ∙ ap is_next items_walk
 
   end_is : (e : Option ListEnd) → Ends used c.numbers_used (start_of c) e
-      → ends_whole e c.words_used c.numbers_used c.num_seed_points
-      ≡ is_next (walk_at (finish c.num_seed_points) used c.numbers_used (start_of c))
+      → ends_whole c e ≡ is_next (walk_at (finish c.num_seed_points) used c.numbers_used (start_of c))
   end_is (Some end) p =
       let b = eqb (c.numbers_used - end.number) (c.num_seed_points * 2) in
       ap (λ (n : ℕ). leb n end.word && b) (sym used_long) ∙ none_left used end.word b p.word_within
@@ -89,7 +88,7 @@ judges_no c ws n e ns l = sym (ap (λ (b : Bool). is_held (held_if b c ws ns)) (
 
 pub judges_end : (c : HatchCounts) (ws : List ℕ) (n : ℕ) (b : Bool) (e : Option ListEnd) → fitting c (length ws) n ≡ true
     → Ends (take c.words_used ws) c.numbers_used (start_of c) e
-    → b ≡ ends_whole e c.words_used c.numbers_used c.num_seed_points → Judges c ws n b
+    → b ≡ ends_whole c e → Judges c ws n b
 unfolding held
 judges_end c ws n b e fit p same ns l =
     let yes : fitting c (length ws) (length ns) ≡ true = ap (fitting c (length ws)) l ∙ fit in

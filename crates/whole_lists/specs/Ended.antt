@@ -15,14 +15,14 @@ use Rattle.whole_lists.specs.declared.ListEnd.{ListEnd}
 use Rattle.whole_lists.specs.Stepped.{walk_at}
 
 -- ---- all items are passed, whatever comes behind them; or the walk breaks off
-pub record Passed (ws : List ℕ) (numbers : ℕ) (p : Place) (word number : ℕ) : Type 0 where
+pub record Passed (ws : List ℕ) (numbers : ℕ) (p : Place) (end : ListEnd) : Type 0 where
   pub items : List Item
-  pub same : (rest : Walk) → walk_at rest ws numbers p ≡ prepend items (rest (left_of (drop word ws) (numbers - number)))
-  pub word_within : word ≤ length ws
-  pub number_within : number ≤ numbers
+  pub same : (rest : Walk) → walk_at rest ws numbers p ≡ prepend items (rest (left_of (drop end.word ws) (numbers - end.number)))
+  pub word_within : end.word ≤ length ws
+  pub number_within : end.number ≤ numbers
 
 abbrev pub Ends : List ℕ → ℕ → Place → Option ListEnd → Type 0
-Ends ws numbers p (Some end) = Passed ws numbers p end.word end.number
+Ends ws numbers p (Some end) = Passed ws numbers p end
 Ends ws numbers p None = (rest : Walk) → walk_at rest ws numbers p ≡ broken
 
 -- ---- where a path ends that is read from a word and a number on
@@ -38,9 +38,9 @@ abbrev pub EndsPath : List ℕ → ℕ → ℕ → ℕ → Option ListEnd → Ty
 EndsPath ws numbers word number r = (ns : List ℕ) → length ns ≡ numbers → r ≡ path_end ws ns word number
 
 -- ---- whole: the walk ends behind the last word, before the numbers of so many seed points and no more
-abbrev pub ends_whole : Option ListEnd → ℕ → ℕ → ℕ → Bool
-ends_whole (Some end) words numbers seeds = leb words end.word && eqb (numbers - end.number) (seeds * 2)
-ends_whole None words numbers seeds = false
+abbrev pub ends_whole : HatchCounts → Option ListEnd → Bool
+ends_whole c (Some end) = leb c.words_used end.word && eqb (c.numbers_used - end.number) (c.num_seed_points * 2)
+ends_whole c None = false
 
 abbrev pub is_held : Held → Bool
 is_held (whole a) = true

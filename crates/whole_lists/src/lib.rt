@@ -138,14 +138,14 @@ pub fn next_item(words: &[u32], numbers: usize, at: Place) -> Option<(Item, Plac
 }
 
 // All items from a place on: the word and the number behind the last of them; or the lists are not whole.
+#[tactic(auto, using(crate::proofs::Loops::along_next))]
 fn pass_all(words: &[u32], numbers: usize, from: Place) -> Option<ListEnd>
     requires { Within words.now numbers from }
     ensures { Ends words.now numbers from result }
 {
     let mut at = from;
     while !at.is_finished() {
-        let (_, to) = next_item(words, numbers, at)?;
-        at = to;
+        (_, at) = next_item(words, numbers, at)?;
     }
     Some(ListEnd {
         word: at.word,
@@ -154,6 +154,7 @@ fn pass_all(words: &[u32], numbers: usize, from: Place) -> Option<ListEnd>
 }
 
 // Where the path that begins at a word and a number ends, in lists of so many numbers; or it is not whole.
+#[tactic(auto, using(crate::proofs::Judged::ends_path))]
 pub fn next_path(words: &[u32], numbers: usize, word: usize, number: usize) -> Option<ListEnd>
     requires { (word ≤ length words.now) × (number ≤ numbers) }
     ensures { EndsPath words.now numbers word number result }
@@ -195,7 +196,7 @@ fn is_fitting(c: HatchCounts, words: usize, numbers: usize) -> bool
 // Whether a walk over a record's lists ended behind the last word, before the numbers of the seed points and no more.
 fn is_end(end: ListEnd, c: HatchCounts) -> bool
     requires { (end.number ≤ c.numbers_used) × (c.num_seed_points ≤ 1_024) }
-    ensures { result ≡ ends_whole (Some end) c.words_used c.numbers_used c.num_seed_points }
+    ensures { result ≡ ends_whole c (Some end) }
 {
     c.words_used <= end.word && c.numbers_used - end.number == c.num_seed_points * 2
 }

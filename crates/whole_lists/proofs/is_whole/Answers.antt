@@ -15,13 +15,13 @@ returns-then-not-is_fitting c =
 pub returns-in-Some : goal.returns-in-Some
 returns-in-Some c =
     let a = c.args in
-    let yes = sym c.is_fitting.ensures ∙ c.if-not-is_fitting.false in
+    let fit = sym c.is_fitting.ensures ∙ c.if-not-is_fitting.false in
     let ends = subst (λ p. Ends (take a.c.words_used a.words.now) a.c.numbers_used p (Some c.in-Some.end)) c.start.ensures c.in-Some.ensures in
-    judges_end a.c a.words.now a.numbers c.is_end.result (Some c.in-Some.end) yes ends c.is_end.ensures
+    judges_end a.c a.words.now a.numbers c.is_end.result (Some c.in-Some.end) fit ends c.is_end.ensures
 
 pub returns-in-None : goal.returns-in-None
 returns-in-None c =
     let a = c.args in
-    let yes = sym c.is_fitting.ensures ∙ c.if-not-is_fitting.false in
+    let fit = sym c.is_fitting.ensures ∙ c.if-not-is_fitting.false in
     let ends = subst (λ p. Ends (take a.c.words_used a.words.now) a.c.numbers_used p None) c.start.ensures c.in-None.ensures in
-    judges_end a.c a.words.now a.numbers false None yes ends refl
+    judges_end a.c a.words.now a.numbers false None fit ends refl
