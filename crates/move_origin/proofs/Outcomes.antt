@@ -16,14 +16,12 @@ use Rattle.hatch_lists.specs.Coordinates.{Role, item_roles, held_roles}
 use Rattle.hatch_lists.proofs.CoordinateLaws.{roles_of_items}
 use Rattle.hatch_lists.specs.Walks.{left_of}
 use Rattle.hatch_lists.specs.FollowsWhole.{items_held}
-use Rattle.whole_lists.specs.declared.Place.{Place}
 use Rattle.whole_lists.specs.Ended.{is_held, Judges}
 use Rattle.whole_lists.proofs.Judged.{items_walk}
 use Rattle.moved_hatch.specs.declared.MoveRefusal.TheVariants.{ListsNotWhole, OtherPlane, CoordinateOutOfRange}
 use Rattle.moved_hatch.specs.Moving.{Arithmetic, patterns, Outcome, moves, refuses, judged, outcome_of, outcome, all_in_range, moved, after}
 use Rattle.moved_hatch.specs.MovedLists.{patterns_length}
-use Rattle.moved_hatch.specs.Parts.{moved_from, in_range_from, Movable}
-use Rattle.move_origin.specs.Walked.{start_of, Walks, roles_in, roles_at}
+use Rattle.move_origin.specs.Walked.{Walks, roles_in, roles_of}
 
 module _ {A : Type 0} (m : Arithmetic A) (c : HatchCounts) (ws : List ℕ) (ns : List A) where
   abbrev here : Held
@@ -37,8 +35,8 @@ module _ {A : Type 0} (m : Arithmetic A) (c : HatchCounts) (ws : List ℕ) (ns :
   pub record Holds : Type 0 where
     pub hatch : Holding
     pub is_held_here : here ≡ whole hatch
-    pub walks : Walks used_of (length ns) c.numbers_used (start_of c) c.num_seed_points
-    pub roles : roles_at used_of c.numbers_used (start_of c) c.num_seed_points ≡ held_roles hatch
+    pub walks : Walks c used_of (length ns)
+    pub roles : roles_of c used_of ≡ held_roles hatch
 
   holds_of : (h : Holding) → here ≡ whole h → Holds
   unfolding held
@@ -54,7 +52,6 @@ module _ {A : Type 0} (m : Arithmetic A) (c : HatchCounts) (ws : List ℕ) (ns :
         walks =
             record {
               room = omega (arith, f.numbers_long, patterns_length m.pattern ns);
-              within = record { word = omega arith; number = omega arith; parts = omega arith };
               few = f.seeds;
               items = held_items h;
               left = left_of [] 0;
@@ -76,26 +73,6 @@ module _ {A : Type 0} (m : Arithmetic A) (c : HatchCounts) (ws : List ℕ) (ns :
   -- the same of an answer that was found to be so
   pub holds_where : {b : Bool} → Judges c ws (length ns) b → b ≡ true → Holds
   holds_where j e = holds (subst (Judges c ws (length ns)) e j)
-
-  -- ---- the walk from a place that is the start
-  module _ {p : Place} (start : p ≡ start_of c) where
-    abbrev roles_from : Place → List Role
-    roles_from q = roles_at used_of c.numbers_used q c.num_seed_points
-
-    pub walks_from : Holds → Walks used_of (length ns) c.numbers_used p c.num_seed_points
-    walks_from h = subst (λ (q : Place). Walks used_of (length ns) c.numbers_used q c.num_seed_points) (sym start) h.walks
-
-    pub range_from : {b : Bool} → b ≡ in_range_from m.in_range p.number (roles_from p) ns → in_range_from m.in_range 0 (roles_from (start_of c)) ns ≡ b
-    range_from e = sym (e ∙ ap (λ (q : Place). in_range_from m.in_range q.number (roles_from q) ns) start)
-
-    pub movable_from : (x₀ y₀ : A) → m.in_range x₀ && m.in_range y₀ ≡ true → in_range_from m.in_range 0 (roles_from (start_of c)) ns ≡ true
-        → Movable m.in_range x₀ y₀ p.number (roles_from p) ns
-    movable_from x₀ y₀ e f =
-        subst (λ (q : Place). Movable m.in_range x₀ y₀ q.number (roles_from q) ns) (sym start) (record { origin = e; coordinates = f })
-
-    pub moved_by : (x₀ y₀ : A) {l : List A} → l ≡ moved_from m.difference x₀ y₀ p.number (roles_from p) ns
-        → l ≡ moved_from m.difference x₀ y₀ 0 (roles_from (start_of c)) ns
-    moved_by x₀ y₀ e = e ∙ ap (λ (q : Place). moved_from m.difference x₀ y₀ q.number (roles_from q) ns) start
 
   pub words_long : Holds → c.words_used ≤ length ws
   words_long h = (held_whole c ws (patterns m.pattern ns) h.hatch h.is_held_here).fits.words_long
@@ -122,7 +99,7 @@ module _ {A : Type 0} (m : Arithmetic A) (c : HatchCounts) (ws : List ℕ) (ns :
 
     -- all three of the range
     range_is : (h : Holds) {o a : Bool} → m.in_range x₀ && m.in_range y₀ ≡ o
-        → in_range_from m.in_range 0 (roles_at used_of c.numbers_used (start_of c) c.num_seed_points) ns ≡ a
+        → all_in_range m.in_range (roles_of c used_of) ns ≡ a
         → m.in_range x₀ && (m.in_range y₀ && all_in_range m.in_range (held_roles h.hatch) ns) ≡ o && a
     range_is h {o} {a} e f =
         let k : all_in_range m.in_range (held_roles h.hatch) ns ≡ a = ap (λ (rs : List Role). all_in_range m.in_range rs ns) (sym h.roles) ∙ f in
@@ -144,17 +121,17 @@ module _ {A : Type 0} (m : Arithmetic A) (c : HatchCounts) (ws : List ℕ) (ns :
     refused_origin h e f = judged_is h e (range_is h f refl)
 
     pub refused_13 : Holds → upright ≡ true → m.in_range x₀ && m.in_range y₀ ≡ true
-        → in_range_from m.in_range 0 (roles_at used_of c.numbers_used (start_of c) c.num_seed_points) ns ≡ false
+        → all_in_range m.in_range (roles_of c used_of) ns ≡ false
         → outcome m c upright ws ns x₀ y₀ ≡ refuses CoordinateOutOfRange
     refused_13 h e f g = judged_is h e (range_is h f g)
 
     pub moves_all : (h : Holds) → upright ≡ true → m.in_range x₀ && m.in_range y₀ ≡ true
-        → in_range_from m.in_range 0 (roles_at used_of c.numbers_used (start_of c) c.num_seed_points) ns ≡ true
+        → all_in_range m.in_range (roles_of c used_of) ns ≡ true
         → outcome m c upright ws ns x₀ y₀ ≡ moves (held_roles h.hatch)
     moves_all h e f g = judged_is h e (range_is h f g)
 
     -- the list afterwards, by the roles that the walk finds
     pub after_all : (h : Holds) {o : Outcome} → o ≡ moves (held_roles h.hatch)
-        → moved_from m.difference x₀ y₀ 0 (roles_at used_of c.numbers_used (start_of c) c.num_seed_points) ns ≡ after m o x₀ y₀ ns
+        → moved m.difference x₀ y₀ (roles_of c used_of) ns ≡ after m o x₀ y₀ ns
     after_all h {o} e =
         ap (λ (rs : List Role). moved m.difference x₀ y₀ rs ns) h.roles ∙ sym (ap (λ (k : Outcome). after m k x₀ y₀ ns) e)
