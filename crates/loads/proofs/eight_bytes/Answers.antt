@@ -1,10 +1,11 @@
--- Two times four bytes are the 64 bits of the eight.
+-- Eight bytes, the first on top, are the number of their 64 bits.
+use mathlib.Core.Path.{ap, ◌∙◌}
 use native.Mathlib.Omega.{arith}
-use Rattle.loads.proofs.LoadLaws.{two_halves}
+use Rattle.std.specs.Int.{w64, from_be_bytes}
+use Rattle.loads.proofs.LoadLaws.{from_eight}
 use Rattle.loads.proofs.eight_bytes.Goals as goal
 
 pub returns : goal.returns
-returns c = let high = c.four_bytes in
-    let low = c.four_bytes-2 in
-    let a = c.args in
-    two_halves a.s.now a.q high.result low.result (omega arith) high.ensures.0 low.ensures.0
+returns c = let a = c.args in
+    c.from_be_bytes.ensures ∙ ap (from_be_bytes w64) c.bytes.ensures
+    ∙ from_eight a.s.now (λ i. omega (arith, c.type_inv.s i)) a.q (omega arith)

@@ -5,5 +5,5 @@ use Rattle.loads.proofs.low_at.Goals as goal
 
 pub returns : goal.returns
 returns c = let a = c.args in
-    low_shift a.s.now a.at a.n c.high_at.result c.swap.result (omega arith) (omega arith) c.high_at.ensures
-    c.swap.ensures
+    low_shift a.s.now a.at a.n c.high_at.result c.swap_bytes.result (omega arith) (omega arith) c.high_at.ensures
+    c.swap_bytes.ensures

@@ -10,7 +10,7 @@ pub returns : goal.returns
 returns c =
     let eight = c.eight_bytes-x in
     let a = c.args in
-    rw (eight.ensures, c.wide.ensures.0)
+    rw (eight.ensures, c.from.ensures)
     (word_shift a.s.now (λ i. omega (arith, c.type_inv.s i)) a.at (omega arith))
 
 pub returns-then-r-eq0 : goal.returns-then-r-eq0
