@@ -2,13 +2,13 @@
 use mathlib.Core.Path.{◌≡◌, refl, sym, ap, subst, ◌∙◌}
 use mathlib.Core.List.{List, [], ◌∷◌}
 use Prim.Native.Nat.{ℕ, zero, suc, ◌+◌, ◌-◌, ◌*◌, ◌/◌, ◌%◌, ◌^◌, ◌≤◌, ◌<◌}
-use native.Mathlib.Nat.{add-zero, add-mul, mul_assoc, mul-add-div_right, mul-mod_left, mod-eq_of_lt, div-one}
+use native.Mathlib.Nat.{add-zero, add-mul, mul_assoc, mul-add-div_right, mul-mod_left, mod-eq_of_lt, div-one, lt_of_lt_of_le}
 use native.Mathlib.Omega.{arith}
 use lib.ListN.{length, get_or, take, drop}
 use lib.Seq.{drop-cons}
 use lib.Arith.{digits_lt}
 use lib.Dec.{lit<}
-use lib.Pow.{pow-add, pow_pos, high, low, mod-pow-add, shl_lt, shl-shr, shr_lt}
+use lib.Pow.{pow-add, pow_pos, pow_mono, high, low, mod-pow-add, shl_lt, shl-shr, shr_lt}
 use Rattle.std.specs.Int.{w16, w64, from_be_bytes}
 use Rattle.loads.specs.Bits.{window, number}
 use Rattle.loads.specs.BitLaws.{number_append, number_lt, window_add, window_whole}
@@ -16,6 +16,14 @@ use Rattle.loads.proofs.Parts.{big_at, part, part_at}
 
 pub window_lt : (s : List ℕ) (at n : ℕ) → at + n ≤ 8 * length s → number (window s at n) < 2 ^ n
 window_lt s at n h = rw (window_whole s at n (omega arith)) at (number_lt (window s at n))
+
+-- no bits are the number 0, and fewer than eight bytes leave room for one more
+pub none : (s : List ℕ) (at : ℕ) → number (window s at 0) ≡ 0
+unfolding window number
+none s at = refl
+
+pub short_lt : (s : List ℕ) (at i : ℕ) → at + 8 * i ≤ 8 * length s → i < 8 → number (window s at (8 * i)) < 2 ^ 56
+short_lt s at i h h₈ = lt_of_lt_of_le (window_lt s at (8 * i) h) (pow_mono {j = 56} (omega arith))
 
 -- m bits and then n
 pub number_split : (s : List ℕ) (at m n : ℕ) → at + (m + n) ≤ 8 * length s
@@ -114,6 +122,9 @@ byte_more s at i v b h e f =
     let m : 8 * (i + 1) ≡ 8 * i + 8 = omega arith in
     let k : at + i * 8 ≡ at + 8 * i = omega arith in
     rw (e, f, m, k) (sym (number_split s at (8 * i) 8 (omega arith)))
+
+-- what `high_at` does with a word, and byte by byte
+pub ruleset first_bytes = (none, short_lt, window_lt, word_first, byte_more)
 
 -- ---- the bits from a place to the end of the eighth byte, on top of a word
 module _ (s : List ℕ) (at : ℕ) where

@@ -8,6 +8,7 @@ ghost use Rattle.loads.specs.Bits.{limit, number, window};
 ghost use Rattle.loads.specs.Bytes.{low_number, bytes_at};
 
 // The n bits at `at`.
+#[tactic(auto, using(crate::proofs::Parts::in_one, crate::proofs::Parts::in_two))]
 pub fn bits_at(s: &[u8], at: usize, n: usize) -> u64
     requires { (1 ≤ n) × ((n ≤ 8) × (at + n ≤ 8 * length s.now)) }
     ensures { result ≡ number (window s.now at n) }
@@ -31,6 +32,7 @@ fn bytes<const N: usize>(s: &[u8], q: usize) -> [u8; N]
 }
 
 // The 64 bits of the eight bytes at q.
+#[tactic(auto, using(crate::proofs::LoadLaws::from_eight))]
 fn eight_bytes(s: &[u8], q: usize) -> u64
     requires { q + 8 ≤ length s.now }
     ensures { result ≡ number (window s.now (8 * q) 64) }
@@ -39,6 +41,7 @@ fn eight_bytes(s: &[u8], q: usize) -> u64
 }
 
 // The 64 bits at `at`.
+#[tactic(auto, using(crate::proofs::LoadLaws::word_shift, crate::proofs::LoadLaws::window_lt))]
 fn word_at(s: &[u8], at: usize) -> u64
     requires { at + 64 ≤ 8 * length s.now }
     ensures { result ≡ number (window s.now at 64) }
@@ -53,6 +56,7 @@ fn word_at(s: &[u8], at: usize) -> u64
 }
 
 // The n bytes at `at` as a number, the high one first.
+#[tactic(auto, using(crate::proofs::LoadLaws::first_bytes))]
 pub fn high_at(s: &[u8], at: usize, n: usize) -> u64
     requires { (length s.now ≤ limit) × ((1 ≤ n) × ((n ≤ 8) × (at + 8 * n ≤ 8 * length s.now))) }
     ensures { result ≡ number (window s.now at (8 * n)) }
@@ -68,6 +72,7 @@ pub fn high_at(s: &[u8], at: usize, n: usize) -> u64
 }
 
 // The n bytes at `at` as a number, the low one first.
+#[tactic(auto, using(crate::proofs::Swaps::low_shift))]
 pub fn low_at(s: &[u8], at: usize, n: usize) -> u64
     requires { (length s.now ≤ limit) × ((1 ≤ n) × ((n ≤ 8) × (at + 8 * n ≤ 8 * length s.now))) }
     ensures { result ≡ low_number (bytes_at s.now at n) }
@@ -76,6 +81,7 @@ pub fn low_at(s: &[u8], at: usize, n: usize) -> u64
 }
 
 // The eight bytes at `at` as a number, the low one first. It asks for no length: for runs that are known to be there.
+#[tactic(auto, using(crate::proofs::Swaps::low_word))]
 pub fn eight_at(s: &[u8], at: usize) -> u64
     requires { at + 64 ≤ 8 * length s.now }
     ensures { result ≡ low_number (bytes_at s.now at 8) }
@@ -84,6 +90,7 @@ pub fn eight_at(s: &[u8], at: usize) -> u64
 }
 
 // The bits from `at` to the end of the eighth byte, on top of the word.
+#[tactic(auto, using(crate::proofs::LoadLaws::top_shift))]
 pub fn top_at(s: &[u8], at: usize) -> u64
     requires { at / 8 + 8 ≤ length s.now }
     ensures { result ≡ number (window s.now at (64 - at % 8)) * 2 ^ (at % 8) }
@@ -91,11 +98,21 @@ pub fn top_at(s: &[u8], at: usize) -> u64
     eight_bytes(s, at / 8) << (at % 8)
 }
 
+// The 64 bits behind the two at `at`; `top` is what `top_at` has there.
+#[tactic(auto, using(crate::proofs::LoadLaws::from_two, crate::proofs::LoadLaws::top_behind, crate::proofs::LoadLaws::window_lt))]
+fn word_behind(s: &[u8], at: usize, top: u64) -> u64
+    requires { (at / 8 + 10 ≤ length s.now) × (top ≡ number (window s.now at (64 - at % 8)) * 2 ^ (at % 8)) }
+    ensures { result ≡ number (window s.now (at + 2) 64) }
+{
+    let last = u64::from(u16::from_be_bytes(bytes(s, at / 8 + 8)));
+    (top << 2) + (last >> (14 - at % 8))
+}
+
 // The eight bytes behind the two bits at `at`, the low one first; `top` is what `top_at` has there.
+#[tactic(auto, using(crate::proofs::Swaps::low_word))]
 pub fn low_behind(s: &[u8], at: usize, top: u64) -> u64
     requires { (at / 8 + 10 ≤ length s.now) × (top ≡ number (window s.now at (64 - at % 8)) * 2 ^ (at % 8)) }
     ensures { result ≡ low_number (bytes_at s.now (at + 2) 8) }
 {
-    let last = u64::from(u16::from_be_bytes(bytes(s, at / 8 + 8)));
-    ((top << 2) + (last >> (14 - at % 8))).swap_bytes()
+    word_behind(s, at, top).swap_bytes()
 }
