@@ -1,4 +1,6 @@
 pub mod FormatShorts
+pub mod FormatSteps
+pub mod Smalls
 pub mod Longs
 pub mod Nans
 pub mod Signs

@@ -1,65 +1,53 @@
--- From what a call answered to what the definition reads, and through a code's tag: the steps of the readers' proofs.
--- Assumes nothing.
-use mathlib.Core.Path.{◌≡◌, refl, sym, ap, ap₂, ◌∙◌}
-use mathlib.Core.Bool.{Bool, true, false}
-use mathlib.Core.List.{List}
-use mathlib.Core.Logic.{⊎_elim}
-use Prim.Native.Nat.{ℕ, zero, suc, ◌+◌, ◌-◌, ◌*◌, ◌/◌, ◌≤◌, ◌<◌}
-use native.Mathlib.Omega.{arith}
-use lib.ListN.{length}
-use borrow.Author.Tests.{le-leb, lt-leb}
+-- What the readings of codes are, step by step, as the readers take them; and through a code's tag. Assumes nothing.
+use Rattle.std.specs.Prelude.{◌≡◌, refl, true, false, Bool, List, ℕ, zero, suc, ◌+◌, ◌-◌, ◌*◌, ◌/◌, ◌≤◌, ◌<◌, ◌^◌, length, Result}
+use Rattle.std.proofs.Common.{sym, ap, ◌∙◌, arith, le-leb, ⊎_elim}
+use Rattle.std.proofs.lemmas.Bool.{lt-leb}
+use Rattle.std.specs.Result.{IsErr, IsErrAnd}
+use Rattle.std.proofs.lemmas.Result.{err_from_is_err_and}
 use Rattle.bitcursor.specs.declared.Refusal.{Refusal}
+use Rattle.bitcursor.specs.declared.Refused.{Refused}
 use Rattle.bitcursor.specs.declared.Refusal.TheVariants.{TooFewBits, PayloadTooLong}
-use Rattle.bitcursor.specs.declared.Read.{Read}
-use Rattle.bitcursor.specs.declared.Read.TheVariants.{Value, Refused}
-use Rattle.bitcursor.specs.declared.Passed.{Passed}
-use Rattle.bitcursor.specs.declared.Passed.TheVariants.{To, Refused as RefusedPassed}
 use Rattle.loads.specs.Bits.{size, limit}
-use Rattle.bitcursor.specs.Reading.{Out, got, refused}
-use Rattle.bitcursor.specs.Code.{Code, raw, ◌>>=◌, mapped, tabled, give}
+use Rattle.bitcursor.specs.Reading.{Out, got, refused, and_then, never}
+use Rattle.bitcursor.specs.Code.{Code, raw, ◌>>=◌, mapped, tabled, give, refuse}
+use Rattle.bitcursor.specs.Refusals.{OfFields}
 use Rattle.bitcursor.specs.Codes.{by_tag, tagged}
-use Rattle.bitcursor.specs.Ranges.{raw_below, read_below}
-use Rattle.bitcursor.specs.Bytes.{skip, le_or_lt}
+use Rattle.bitcursor.specs.Ranges.{raw_below, low_below, read_below}
+use Rattle.bitcursor.specs.Bytes.{low_first, skip, le_or_lt}
 use Rattle.bitcursor.specs.Stops.{skip_there, skip_short}
-use Rattle.bitcursor.specs.declared.Handle.{Handle}
-use Rattle.bitcursor.specs.declared.ReadHandle.{ReadHandle}
-use Rattle.bitcursor.specs.declared.ReadHandle.TheVariants.{Value as ValueHandle, Refused as RefusedHandle}
 use Rattle.bitcursor.specs.Handles.{checked}
-use Rattle.bitcursor.specs.Answers.{as_read, as_passed, as_handle, limited}
+use Rattle.bitcursor.specs.Answers.{outcome, limited}
 
--- what was read, from what the call answered
-pub read_value : (o : Out ℕ ℕ) {x : Read} {v p : ℕ} → x ≡ as_read o → x ≡ Value v p → o ≡ got v p
-read_value (got a q) {x} {v} {p} e h =
-    let ev : a ≡ v = cc in
-    let ep : q ≡ p = cc in
-    ap₂ got ev ep
-read_value (refused n q) {x} {v} {p} e h = let z : ◌≡◌ {A = ℕ} 0 1 = cc in absurd (omega arith)
-
-pub read_refused : (o : Out ℕ ℕ) {x : Read} {r : Refusal} {p : ℕ} → x ≡ as_read o → x ≡ Refused r p → o ≡ refused r p
-read_refused (got a q) {x} {r} {p} e h = let z : ◌≡◌ {A = ℕ} 0 1 = cc in absurd (omega arith)
-read_refused (refused n q) {x} {r} {p} e h =
-    let en : n ≡ r = cc in
-    let ep : q ≡ p = cc in
-    ap₂ refused en ep
-
--- ---- one code after another
-module _ {A B : Type 0} (f : Code A) (g : A → Code B) (xs : List ℕ) (p : ℕ) where
-  pub then_got : {a : A} {q : ℕ} → f.read xs p ≡ got a q → (f >>= g).read xs p ≡ (g a).read xs q
+-- ---- each code's reading by its parts
+module _ {A B : Type 0} where
+  pub joined_read : (f : Code A) (g : A → Code B) (xs : List ℕ) (p : ℕ) → (f >>= g).read xs p ≡ and_then (f.read xs p) (λ a q. (g a).read xs q)
   unfolding ◌>>=◌
-  then_got e = rw e
+  joined_read f g xs p = refl
 
-  pub then_refused : {r : Refusal} {q : ℕ} → f.read xs p ≡ refused r q → (f >>= g).read xs p ≡ refused r q
-  unfolding ◌>>=◌
-  then_refused e = rw e
-
-module _ {A B : Type 0} (h : A → B) (f : Code A) (xs : List ℕ) (p : ℕ) where
-  pub mapped_got : {a : A} {q : ℕ} → f.read xs p ≡ got a q → (mapped h f).read xs p ≡ got (h a) q
+  pub mapped_read : (h : A → B) (f : Code A) (xs : List ℕ) (p : ℕ) → (mapped h f).read xs p ≡ and_then (f.read xs p) (λ a q. got (h a) q)
   unfolding mapped tabled ◌>>=◌ give
-  mapped_got e = rw e
+  mapped_read h f xs p = refl
 
-  pub mapped_refused : {r : Refusal} {q : ℕ} → f.read xs p ≡ refused r q → (mapped h f).read xs p ≡ refused r q
-  unfolding mapped tabled ◌>>=◌ give
-  mapped_refused e = rw e
+module _ {A : Type 0} where
+  pub given_read : (a : A) (xs : List ℕ) (p : ℕ) → (give a).read xs p ≡ got a p
+  unfolding give
+  given_read a xs p = refl
+
+  pub refuse_read : (n : Refusal) (of_fields : OfFields n) (xs : List ℕ) (p : ℕ) → (refuse {A = A} n of_fields).read xs p ≡ refused n p
+  unfolding refuse
+  refuse_read n of_fields xs p = refl
+
+  pub tabled_read : (f : Code A) (L : A → List Bool → Type 0) (to : (a : A) (cs : List Bool) → f.codes a cs → L a cs)
+      (from : (a : A) (cs : List Bool) → L a cs → f.codes a cs) (xs : List ℕ) (p : ℕ) → (tabled f L to from).read xs p ≡ f.read xs p
+  unfolding tabled
+  tabled_read f L to from xs p = refl
+
+-- ---- the range of what was read
+pub raw_small : (n : ℕ) (xs : List ℕ) (p : ℕ) {v q : ℕ} → got v q ≡ (raw n).read xs p → v < 2 ^ n
+raw_small n xs p e = read_below (raw n) (raw_below n) xs p (sym e)
+
+pub low_small : (k : ℕ) (xs : List ℕ) (p : ℕ) {v q : ℕ} → got v q ≡ (low_first k).read xs p → v < 256 ^ k
+low_small k xs p e = read_below (low_first k) (low_below k) xs p (sym e)
 
 -- ---- by the tag
 last_tag : {A : Type 0} (a b c d : Code A) (xs : List ℕ) (q t : ℕ) → (t ≡ 0 → ⊥) → (t ≡ 1 → ⊥) → (t ≡ 2 → ⊥) → (by_tag a b c d t).read xs q ≡ d.read xs q
@@ -86,40 +74,41 @@ behind_tag a b xs q (suc zero) h = refl
 behind_tag a b xs q (suc (suc zero)) h = refl
 behind_tag a b xs q (suc (suc (suc t))) h = refl
 
--- x is what `read_bits` answered for the tag
-module _ {A : Type 0} (a b c d : Code A) (xs : List ℕ) (p : ℕ) {x : Read} (e : x ≡ as_read ((raw 2).read xs p)) where
-  on_tag : {t q : ℕ} → x ≡ Value t q → (tagged a b c d).read xs p ≡ (by_tag a b c d t).read xs q
-  unfolding tagged
-  on_tag h = then_got (raw 2) (by_tag a b c d) xs p (read_value _ e h)
+-- what a code with a tag reads, once the tag was read
+module _ {A : Type 0} (a b c d : Code A) (xs : List ℕ) (p : ℕ) {t q : ℕ} (e : got t q ≡ (raw 2).read xs p) where
+  on_tag : (tagged a b c d).read xs p ≡ (by_tag a b c d t).read xs q
+  unfolding tagged ◌>>=◌
+  on_tag = ap (λ (o : Out ℕ ℕ). and_then o (λ v r. (by_tag a b c d v).read xs r)) (sym e)
 
-  pub tag_00 : {t q : ℕ} → x ≡ Value t q → t ≡ 0 → (tagged a b c d).read xs p ≡ a.read xs q
+  pub tag_00 : t ≡ 0 → (tagged a b c d).read xs p ≡ a.read xs q
   unfolding by_tag
-  tag_00 {t} {q} h z = on_tag h ∙ ap (λ (k : ℕ). (by_tag a b c d k).read xs q) z
+  tag_00 z = on_tag ∙ ap (λ (k : ℕ). (by_tag a b c d k).read xs q) z
 
-  pub tag_01 : {t q : ℕ} → x ≡ Value t q → t ≡ 1 → (tagged a b c d).read xs p ≡ b.read xs q
+  pub tag_01 : t ≡ 1 → (tagged a b c d).read xs p ≡ b.read xs q
   unfolding by_tag
-  tag_01 {t} {q} h z = on_tag h ∙ ap (λ (k : ℕ). (by_tag a b c d k).read xs q) z
+  tag_01 z = on_tag ∙ ap (λ (k : ℕ). (by_tag a b c d k).read xs q) z
 
-  pub tag_10 : {t q : ℕ} → x ≡ Value t q → t ≡ 2 → (tagged a b c d).read xs p ≡ c.read xs q
+  pub tag_10 : t ≡ 2 → (tagged a b c d).read xs p ≡ c.read xs q
   unfolding by_tag
-  tag_10 {t} {q} h z = on_tag h ∙ ap (λ (k : ℕ). (by_tag a b c d k).read xs q) z
+  tag_10 z = on_tag ∙ ap (λ (k : ℕ). (by_tag a b c d k).read xs q) z
 
-  pub tag_11 : {t q : ℕ} → x ≡ Value t q → (t ≡ 0 → ⊥) → (t ≡ 1 → ⊥) → (t ≡ 2 → ⊥) → (tagged a b c d).read xs p ≡ d.read xs q
-  tag_11 {t} {q} h h₀ h₁ h₂ = on_tag h ∙ last_tag a b c d xs q t h₀ h₁ h₂
+  pub tag_11 : (t ≡ 0 → ⊥) → (t ≡ 1 → ⊥) → (t ≡ 2 → ⊥) → (tagged a b c d).read xs p ≡ d.read xs q
+  tag_11 h₀ h₁ h₂ = on_tag ∙ last_tag a b c d xs q t h₀ h₁ h₂
 
-  pub tag_three : {t q : ℕ} → x ≡ Value t q → t ≡ 3 → (tagged a b c d).read xs p ≡ d.read xs q
+  pub tag_three : t ≡ 3 → (tagged a b c d).read xs p ≡ d.read xs q
   unfolding by_tag
-  tag_three {t} {q} h z = on_tag h ∙ ap (λ (k : ℕ). (by_tag a b c d k).read xs q) z
+  tag_three z = on_tag ∙ ap (λ (k : ℕ). (by_tag a b c d k).read xs q) z
 
   -- one of 00 and 01
-  pub tag_rest : {t q : ℕ} → x ≡ Value t q → (t ≡ 2 → ⊥) → (t ≡ 3 → ⊥) → (tagged a b c d).read xs p ≡ (by_tag a b b b t).read xs q
-  tag_rest {t} {q} h h₂ h₃ = on_tag h ∙ first_tags a b c d xs q t (read_below (raw 2) (raw_below 2) xs p (read_value _ e h)) h₂ h₃
+  pub tag_rest : (t ≡ 2 → ⊥) → (t ≡ 3 → ⊥) → (tagged a b c d).read xs p ≡ (by_tag a b b b t).read xs q
+  tag_rest h₂ h₃ = on_tag ∙ first_tags a b c d xs q t (raw_small 2 xs p e) h₂ h₃
 
-  pub tag_none : {r : Refusal} {q : ℕ} → x ≡ Refused r q → (tagged a b c d).read xs p ≡ refused r q
-  unfolding tagged
-  tag_none h = then_refused (raw 2) (by_tag a b c d) xs p (read_refused _ e h)
+pub tag_none : {A : Type 0} (a b c d : Code A) (xs : List ℕ) (p : ℕ) {r : Refusal} {q : ℕ} → refused r q ≡ (raw 2).read xs p
+    → (tagged a b c d).read xs p ≡ refused r q
+unfolding tagged ◌>>=◌
+tag_none a b c d xs p e = ap (λ (o : Out ℕ ℕ). and_then o (λ v r. (by_tag a b c d v).read xs r)) (sym e)
 
--- ---- n bytes that `skip_bytes` passed, or could not: x is its answer
+-- ---- n bytes that were passed, or could not be
 pub record There (xs : List ℕ) (n at p : ℕ) : Type 0 where
   pub fits : 8 * n ≤ size xs - at
   pub next : p ≡ at + 8 * n
@@ -129,29 +118,19 @@ pub record Short (xs : List ℕ) (n at : ℕ) (r : Refusal) (p : ℕ) : Type 0 w
   pub why : r ≡ TooFewBits
   pub stop : p ≡ at + (size xs - at) / 8 * 8
 
-module _ (xs : List ℕ) (n at : ℕ) {x : Passed} (e : x ≡ as_passed ((skip n).read xs at)) where
-  pub passed_there : {p : ℕ} → x ≡ To p → There xs n at p
-  passed_there {p} h =
+module _ (xs : List ℕ) (n at : ℕ) where
+  pub passed_there : {p : ℕ} → got tt p ≡ (skip n).read xs at → There xs n at p
+  passed_there {p} e =
       ⊎_elim
-      (λ (w : 8 * n ≤ size xs - at).
-      let m : To p ≡ To (at + 8 * n) = sym h ∙ e ∙ ap as_passed (skip_there n xs at w) in
-      record { fits = w; next = cc })
-      (λ (w : size xs - at < 8 * n).
-      let m : To p ≡ RefusedPassed TooFewBits _ = sym h ∙ e ∙ ap as_passed (skip_short n xs at w) in
-      let z : ◌≡◌ {A = ℕ} 0 1 = cc in
-      absurd (omega arith))
+      (λ (w : 8 * n ≤ size xs - at). let m = e ∙ skip_there n xs at w in record { fits = w; next = cc })
+      (λ (w : size xs - at < 8 * n). never (sym (e ∙ skip_short n xs at w)))
       (le_or_lt (8 * n) (size xs - at))
 
-  pub passed_short : {r : Refusal} {p : ℕ} → x ≡ RefusedPassed r p → Short xs n at r p
-  passed_short {r} {p} h =
+  pub passed_short : {r : Refusal} {p : ℕ} → refused r p ≡ (skip n).read xs at → Short xs n at r p
+  passed_short {r} {p} e =
       ⊎_elim
-      (λ (w : 8 * n ≤ size xs - at).
-      let m : RefusedPassed r p ≡ To _ = sym h ∙ e ∙ ap as_passed (skip_there n xs at w) in
-      let z : ◌≡◌ {A = ℕ} 0 1 = cc in
-      absurd (omega arith))
-      (λ (w : size xs - at < 8 * n).
-      let m : RefusedPassed r p ≡ RefusedPassed TooFewBits (at + (size xs - at) / 8 * 8) = sym h ∙ e ∙ ap as_passed (skip_short n xs at w) in
-      record { misses = w; why = cc; stop = cc })
+      (λ (w : 8 * n ≤ size xs - at). never (e ∙ skip_there n xs at w))
+      (λ (w : size xs - at < 8 * n). let m = e ∙ skip_short n xs at w in record { misses = w; why = cc; stop = cc })
       (le_or_lt (8 * n) (size xs - at))
 
 -- ---- the limit
@@ -164,31 +143,9 @@ module _ {A : Type 0} (f : List ℕ → ℕ → Out ℕ A) (xs : List ℕ) (p : 
   unfolding limited
   limit_above h = rw (lt-leb _ _ h, limited)
 
--- ---- other answers
-pub handle_value : (o : Out ℕ Handle) {x : ReadHandle} {v : Handle} {p : ℕ} → x ≡ as_handle o → x ≡ ValueHandle v p → o ≡ got v p
-handle_value (got a q) {x} {v} {p} e h =
-    let ev : a ≡ v = cc in
-    let ep : q ≡ p = cc in
-    ap₂ got ev ep
-handle_value (refused n q) {x} {v} {p} e h = let z : ◌≡◌ {A = ℕ} 0 1 = cc in absurd (omega arith)
-
-pub handle_refused : (o : Out ℕ Handle) {x : ReadHandle} {r : Refusal} {p : ℕ} → x ≡ as_handle o → x ≡ RefusedHandle r p → o ≡ refused r p
-handle_refused (got a q) {x} {r} {p} e h = let z : ◌≡◌ {A = ℕ} 0 1 = cc in absurd (omega arith)
-handle_refused (refused n q) {x} {r} {p} e h =
-    let en : n ≡ r = cc in
-    let ep : q ≡ p = cc in
-    ap₂ refused en ep
-
-pub passed_got : (o : Out ℕ (Unit {0})) {x : Passed} {p : ℕ} → x ≡ as_passed o → x ≡ To p → o ≡ got tt p
-passed_got (got a q) {x} {p} e h = let ep : q ≡ p = cc in ap (got tt) ep
-passed_got (refused n q) {x} {p} e h = let z : ◌≡◌ {A = ℕ} 0 1 = cc in absurd (omega arith)
-
-pub passed_refused : (o : Out ℕ (Unit {0})) {x : Passed} {r : Refusal} {p : ℕ} → x ≡ as_passed o → x ≡ RefusedPassed r p → o ≡ refused r p
-passed_refused (got a q) {x} {r} {p} e h = let z : ◌≡◌ {A = ℕ} 0 1 = cc in absurd (omega arith)
-passed_refused (refused n q) {x} {r} {p} e h =
-    let en : n ≡ r = cc in
-    let ep : q ≡ p = cc in
-    ap₂ refused en ep
+-- ---- what a `?` that met a refusal returns
+pub left : {A P : Type 0} (r : Result (A × P) (Refused P)) {e : Refused P} → IsErr r × IsErrAnd r (λ d. d ≡ e) → outcome r ≡ refused e.refusal e.place
+left r h = let k = err_from_is_err_and r h.1 in ap outcome k.1 ∙ ap (λ d. refused d.refusal d.place) k.2
 
 -- ---- by a test
 module _ {A : Type 0} (c d : Code A) where
@@ -199,3 +156,6 @@ module _ {A : Type 0} (c d : Code A) where
   pub checked_no : {b : Bool} → b ≡ false → checked b c d ≡ d
   unfolding checked
   checked_no e = ap (λ (t : Bool). checked t c d) e
+
+-- ---- what a reader in front of `?` leaves to show: its steps, one by one
+pub ruleset reading = (joined_read, mapped_read, given_read, refuse_read, tabled_read, raw_small, low_small)

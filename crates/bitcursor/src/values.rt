@@ -1,11 +1,8 @@
-// Numbers as values: a double of its 64 bits and back, signed numbers of their 16 or 32 bits, and answers with these.
-ghost use Rattle.std.specs.Prelude.{◌≡◌, ◌^◌, ◌<◌};
+// Numbers as values: a double of its 64 bits and back, signed numbers of their 16 or 32 bits.
+ghost use Rattle.std.specs.Prelude.{◌≡◌, ℕ, ◌^◌, ◌<◌};
 ghost use Rattle.std.specs.Float.Ieee.{of_bits, to_bits};
 ghost use Rattle.std.specs.Float.{binary64};
 ghost use Rattle.bitcursor.specs.Codes.{signed};
-ghost use Rattle.bitcursor.specs.Answers.{Small, bool_of, i16_of, i32_of, f64_of};
-
-use crate::{Read, ReadBool, ReadF64, ReadI16, ReadI32};
 
 // The double of 64 bits: that very double, and the NaN where they are a NaN's.
 pub fn double_of(bits: u64) -> f64
@@ -28,15 +25,53 @@ pub fn bits_of(x: f64) -> u64
     f64::to_bits(x)
 }
 
+// What a caller has a double as: the double, or its 64 bits.
+pub trait Number: Copy {
+    ghost of_bits: { ℕ → Self };
+
+    ghost bits_of: { Self → ℕ };
+
+    fn from_bits(bits: u64) -> Self
+        ensures { result ≡ of_bits bits };
+
+    fn to_bits(self) -> u64
+        ensures { result ≡ bits_of self };
+}
+
+impl Number for f64 {
+    ghost of_bits = { of_bits binary64 };
+
+    ghost bits_of = { to_bits binary64 };
+
+    fn from_bits(bits: u64) -> f64 {
+        double_of(bits)
+    }
+
+    fn to_bits(self) -> u64 {
+        bits_of(self)
+    }
+}
+
+impl Number for u64 {
+    ghost of_bits = { λ bits. bits };
+
+    ghost bits_of = { λ bits. bits };
+
+    fn from_bits(bits: u64) -> u64 {
+        bits
+    }
+
+    fn to_bits(self) -> u64 {
+        self
+    }
+}
+
 // The signed number of 16 bits.
 pub fn short_of(v: u64) -> i16
     requires { v < 2 ^ 16 }
     ensures { result ≡ signed 16 v }
 {
-    if v < 0x8000 {
-        return v as i16;
-    }
-    !((0xffff - v) as i16)
+    (v as u16).cast_signed()
 }
 
 // The signed number of 32 bits.
@@ -44,46 +79,5 @@ pub fn long_of(v: u64) -> i32
     requires { v < 2 ^ 32 }
     ensures { result ≡ signed 32 v }
 {
-    if v < 0x8000_0000 {
-        return v as i32;
-    }
-    !((0xffff_ffff - v) as i32)
-}
-
-pub fn as_bool(r: Read) -> ReadBool
-    ensures { result ≡ bool_of r }
-{
-    match r {
-        Read::Value(v, p) => ReadBool::Value(1 == v, p),
-        Read::Refused(k, p) => ReadBool::Refused(k, p),
-    }
-}
-
-pub fn as_i16(r: Read) -> ReadI16
-    requires { Small 16 r }
-    ensures { result ≡ i16_of r }
-{
-    match r {
-        Read::Value(v, p) => ReadI16::Value(short_of(v), p),
-        Read::Refused(k, p) => ReadI16::Refused(k, p),
-    }
-}
-
-pub fn as_i32(r: Read) -> ReadI32
-    requires { Small 32 r }
-    ensures { result ≡ i32_of r }
-{
-    match r {
-        Read::Value(v, p) => ReadI32::Value(long_of(v), p),
-        Read::Refused(k, p) => ReadI32::Refused(k, p),
-    }
-}
-
-pub fn as_f64(r: Read) -> ReadF64
-    ensures { result ≡ f64_of r }
-{
-    match r {
-        Read::Value(v, p) => ReadF64::Value(double_of(v), p),
-        Read::Refused(k, p) => ReadF64::Refused(k, p),
-    }
+    (v as u32).cast_signed()
 }
