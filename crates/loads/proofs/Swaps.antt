@@ -2,7 +2,7 @@
 use mathlib.Core.Path.{◌≡◌, refl, sym, ap, ◌∙◌}
 use mathlib.Core.List.{List}
 use Prim.Native.Nat.{ℕ, zero, suc, ◌+◌, ◌-◌, ◌*◌, ◌/◌, ◌%◌, ◌^◌, ◌≤◌, ◌<◌}
-use native.Mathlib.Nat.{add-zero, mul_assoc, mul-add-div_right, mul-add-mod_self_right, mod-eq_of_lt, div-eq_of_lt}
+use native.Mathlib.Nat.{mul_assoc, mul-add-div_right, mul-add-mod_self_right, mod-eq_of_lt, div-eq_of_lt}
 use native.Mathlib.Nat.{lt_of_lt_of_le, zero-add, suc-add, mul-one}
 use native.Mathlib.Omega.{arith}
 use lib.ListN.{length}
