@@ -40,10 +40,11 @@ impl Answer {
     }
 
     // Puts a value behind the others, if there is room.
-    pub fn push(&mut self, value: u64) {
+    pub fn push<T: Into<u64>>(&mut self, value: T) {
         let at = self.count;
+        let number = value.into();
         if at < ROOM {
-            self.numbers[at] = value;
+            self.numbers[at] = number;
             self.numbers[3] = (at + 1 - HEAD) as u64;
             self.count = at + 1;
         }
@@ -72,7 +73,7 @@ impl Values for u64 {
 
 impl Values for bool {
     fn put(self, answer: &mut Answer) {
-        answer.push(u64::from(self));
+        answer.push(self);
     }
 }
 
@@ -96,8 +97,8 @@ impl Values for f64 {
 
 impl Values for Handle {
     fn put(self, answer: &mut Answer) {
-        answer.push(u64::from(self.code));
-        answer.push(u64::from(self.counter));
+        answer.push(self.code);
+        answer.push(self.counter);
         answer.push(self.value);
     }
 }

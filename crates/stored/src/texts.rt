@@ -43,9 +43,9 @@ fn put_units(answer: &mut Answer, s: &[u8], t: Text) {
 // and its units. A text is cut where the room ends, but its count is not, and the list has no such count.
 pub fn put(answer: &mut Answer, s: &[u8], t: Text) {
     answer.push(source_number(t.source));
-    answer.push(u64::from(t.width));
+    answer.push(t.width);
     answer.push(t.position as u64);
     answer.push(t.count as u64);
-    answer.push(u64::from(t.padded));
+    answer.push(t.padded);
     put_units(answer, s, t);
 }
