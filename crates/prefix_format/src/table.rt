@@ -5,7 +5,7 @@ ghost use Rattle.prefix_format.specs.Rows.{rows, row_of};
 use text::version::Version;
 
 // One release: whether it has each field that not all have.
-#[derive(Clone, Copy)]
+#[derive(Clone, Copy, Debug, PartialEq, Eq)]
 pub struct Row {
     // the graphics size is a BLL, not an RL
     pub graphics_bll: bool,
