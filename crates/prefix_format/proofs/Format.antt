@@ -1,7 +1,7 @@
 -- The prefix as a certified format: what `prefix_by` reads has exactly the layouts of specs/Layouts. Assumes nothing.
 use Rattle.std.specs.Prelude.{◌≡◌, Bool, not, List, [], ◌∷◌, ℕ}
 use Rattle.std.proofs.Math.Path.{refl}
-use Rattle.std.proofs.Common.{sym, ap, ◌∙◌}
+use Rattle.std.proofs.Common.{sym}
 use Rattle.std.proofs.Math.Bool.{true, false, not-not}
 use Rattle.bitcursor.specs.Code.{Laid}
 use Rattle.bitcursor.specs.Codes.{B, RC, RL, BB, BL}

@@ -1,6 +1,6 @@
 -- Each field of the prefix is read exactly where specs/Layouts has it laid out. Assumes nothing.
 use Rattle.std.specs.Prelude.{◌≡◌, Bool, true, false, List, [], ◌∷◌, ℕ, zero, suc, ◌<◌, length, eqb, Option, None}
-use Rattle.std.proofs.Common.{refl, ap, subst, sym, ◌∙◌, arith}
+use Rattle.std.proofs.Common.{refl, subst, ◌∙◌, arith}
 use borrow.Author.Tests.{eqb-true, eqb-false}
 use Rattle.bitcursor.specs.Code.{Code, Laid, give, refuse, ◌>>=◌, mapped, tabled}
 use Rattle.bitcursor.specs.Bytes.{skip}

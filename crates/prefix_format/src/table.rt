@@ -137,13 +137,5 @@ pub fn row_of(v: Version) -> Row
     ensures { result ≡ row_of v }
 {
     let all = rows();
-    match v {
-        Version::R14 => all[0],
-        Version::R2000 => all[1],
-        Version::R2004 => all[2],
-        Version::R2007 => all[3],
-        Version::R2010 => all[4],
-        Version::R2013 => all[5],
-        Version::R2018 => all[6],
-    }
+    all[v.release_number() - 1]
 }
