@@ -159,6 +159,10 @@ module _ {N : Type 0} {of : ℕ → N} where
 pub plus_again : (a b c : Entries) → plus (plus a b) c ≡ plus a (plus b c)
 plus_again = plus_plus
 
+-- ---- what a `?` that met a refusal returns
+pub stays : {A E : Type 0} (P : Result A E → Type 0) (r : Result A E) {e : E} → IsErr r × IsErrAnd r (λ d. d ≡ e) → P (Err e) → P r
+stays P r m h = let k = err_from_is_err_and r m.1 in subst P (sym (k.1 ∙ ap Err k.2)) h
+
 -- ---- what an answer tells
 done_got : (o : Out ℕ Entries) (z : Sizes) {p : ℕ} {y : Sizes} → got y p ≡ value_as (grow z) o → (e : Entries) × (o ≡ got e p) × (y ≡ grow z e)
 done_got (got a q) z e = (a, cc, cc)
@@ -166,16 +170,16 @@ done_got (refused k q) z e = never (sym e)
 
 done_refused : (o : Out ℕ Entries) (z : Sizes) (e : Refused ℕ) → refused e.refusal e.place ≡ value_as (grow z) o → o ≡ refused e.refusal e.place
 done_refused (got a q) z e h = never h
-done_refused (refused j q) z e h = sym h
+done_refused (refused j q) z e h = cc
+
+pub record Finished {N : Type 0} (of : ℕ → N) (o : Out ℕ Entries) (l : Lists N) (z : Sizes) (l' : Lists N) (p : ℕ) (y : Sizes) : Type 0 where
+  pub entries : Entries
+  pub read : o ≡ got entries p
+  pub step : Step of l z entries l' y
 
 module _ {N : Type 0} {of : ℕ → N} where
-  pub record Finished (o : Out ℕ Entries) (l : Lists N) (z : Sizes) (l' : Lists N) (p : ℕ) (y : Sizes) : Type 0 where
-    pub entries : Entries
-    pub read : o ≡ got entries p
-    pub step : Step of l z entries l' y
-
   module _ {xs : List ℕ} {o : Out ℕ Entries} {l l' : Lists N} {z : Sizes} where
-    pub walk_finished : {p : ℕ} {y : Sizes} → Walks of xs o l z l' (Ok (y, p)) → Finished o l z l' p y
+    pub walk_finished : {p : ℕ} {y : Sizes} → Walks of xs o l z l' (Ok (y, p)) → Finished of o l z l' p y
     walk_finished h =
         let g = done_got o z h.is in
         record { entries = g.0; read = g.1; step = record { lists = subst (λ (x : Out ℕ Entries). Stored of x l z l') g.1 h.stored; sizes = g.2 } }
@@ -194,17 +198,14 @@ module _ {N : Type 0} {of : ℕ → N} where
     refuses {e} i h =
         subst (λ (x : Out ℕ Entries). Walks of xs x l z l' (Err e)) (sym i) (record { is = refl; stored = h; ready = tt })
 
-    pub ends : {y : Sizes} {p : ℕ} (e : Entries) → o ≡ got e p → Step of l z e l' y → Ready xs p y → Walks of xs o l z l' (Ok (y, p))
+    pub ends : {y : Sizes} {p : ℕ} (e : Entries) → o ≡ got e p → Step of l z e l' y → Ready xs p (grow z e) → Walks of xs o l z l' (Ok (y, p))
     ends {y} {p} e i s h =
         subst (λ (x : Out ℕ Entries). Walks of xs x l z l' (Ok (y, p))) (sym i)
-        (record { is = ap (λ (x : Sizes). got x p) s.sizes; stored = s.lists; ready = h })
+        (record { is = ap (λ (x : Sizes). got x p) s.sizes; stored = s.lists; ready = subst (Ready xs p) (sym s.sizes) h })
 
-    -- what a `?` that met a refusal returns
     pub leaves : (r : Result (Sizes × ℕ) (Refused ℕ)) {e : Refused ℕ} → IsErr r × IsErrAnd r (λ d. d ≡ e) → Walks of xs o l z l' (Err e)
         → Walks of xs o l z l' r
-    leaves r m h =
-        let k = err_from_is_err_and r m.1 in
-        subst (Walks of xs o l z l') (sym (k.1 ∙ ap Err k.2)) h
+    leaves r m h = stays (Walks of xs o l z l') r m h
 
   -- a walk over other lists, which hold what it gathers as they are
   pub walks_unstored : {M : Type 0} {at : ℕ → M} {xs : List ℕ} (o : Out ℕ Entries) {k k' : Lists M} {l : Lists N} {z : Sizes}
@@ -289,7 +290,7 @@ module _ {N : Type 0} {of : ℕ → N} where
         ready = h.ready;
       }
 
-  pub words_still : {o : Out ℕ Entries} {l l' : Lists N} {z y : Sizes} {p : ℕ} (t : Finished {of = of} o l z l' p y) → Wordless o → y.words ≡ z.words
+  pub words_still : {o : Out ℕ Entries} {l l' : Lists N} {z y : Sizes} {p : ℕ} (t : Finished of o l z l' p y) → Wordless o → y.words ≡ z.words
   words_still {z = z} t w =
       ap (λ (x : Sizes). x.words) t.step.sizes ∙ ap (λ (ws : List ℕ). z.words + length ws) (w t.entries _ t.read) ∙ add-zero z.words
 

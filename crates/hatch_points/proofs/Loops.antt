@@ -1,5 +1,5 @@
 -- A loop that repeats a walk: what is left to read, behind what was gathered, is what the whole reads. Assumes nothing.
-use mathlib.Core.Path.{◌≡◌, refl, sym, ap, ◌∙◌}
+use mathlib.Core.Path.{◌≡◌, refl, sym, ap, subst, ◌∙◌}
 use mathlib.Core.List.{List, [], ◌∷◌}
 use Prim.Native.Nat.{ℕ, zero, suc, ◌+◌, ◌-◌, ◌*◌, ◌≤◌, ◌<◌}
 use native.Mathlib.Nat.{sub-zero}
@@ -13,9 +13,8 @@ use Rattle.bitcursor.specs.Format.{Format, pure, ◌>>=◌}
 use Rattle.bitcursor.specs.Inputs.{one}
 use Rattle.hatch_points.specs.declared.lists.Sizes.{Sizes}
 use Rattle.hatch_points.specs.Gathered.{Entries, none, numbers, plus, repeated}
-use Rattle.hatch_points.specs.Stores.{passed_by}
 use Rattle.hatch_points.specs.Walks.{single_walk}
-use Rattle.hatch_points.specs.Lists.{Lists, lists, store, Kept, Ready, Walks, Passes}
+use Rattle.hatch_points.specs.Lists.{Lists, lists, store, grow, Kept, Ready, Walks, Passes}
 use Rattle.hatch_points.proofs.Laws.{Step, no_step, ◌⊕◌, plus_none, plus_again, kept_step, kept_then, walk_finished, walk_refused, walk_kept}
 use Rattle.hatch_points.proofs.Laws.{walks_as, walks_unstored, refuses, ends, behind, sets_out}
 
@@ -105,12 +104,12 @@ module _ (d : Format one Entries) (xs : List ℕ) where
         let t = walk_finished h in
         ap (λ (x : Sizes). x.numbers) t.step.sizes ∙ ap (λ (m : ℕ). z.numbers + m) (numbers_long n p t.entries q t.read)
 
-module _ {N : Type 0} {of : ℕ → N} (d : Format one Entries) (xs : List ℕ) where
-  -- of n turns the first m are one walk, and the others another behind it
-  module _ (n m p : ℕ) (le : m ≤ n) {l l₁ : Lists N} {z : Sizes} where
-    parts : left d xs n p ≡ and_then (left d xs m p) (λ a q. onto a (left d xs (n - m) q))
-    parts = let e : n ≡ m + (n - m) = omega arith in ap (λ (k : ℕ). left d xs k p) e ∙ left_add d xs m (n - m) p
+-- of n turns the first m are one walk, and the others another behind it
+module _ (d : Format one Entries) (n m p : ℕ) (le : m ≤ n) where
+  parts : (xs : List ℕ) → left d xs n p ≡ and_then (left d xs m p) (λ a q. onto a (left d xs (n - m) q))
+  parts xs = let e : n ≡ m + (n - m) = omega arith in ap (λ (k : ℕ). left d xs k p) e ∙ left_add d xs m (n - m) p
 
+  module _ {N : Type 0} {of : ℕ → N} {xs : List ℕ} {l l₁ : Lists N} {z : Sizes} where
     pub parts_walk : {q : ℕ} {y : Sizes} {l₂ : Lists N} {r : Result (Sizes × ℕ) (Refused ℕ)}
         → Walks of xs ((repeated m d).read xs p) l z l₁ (Ok (y, q)) → Walks of xs ((repeated (n - m) d).read xs q) l₁ y l₂ r
         → Walks of xs ((repeated n d).read xs p) l z l₂ r
@@ -118,21 +117,23 @@ module _ {N : Type 0} {of : ℕ → N} (d : Format one Entries) (xs : List ℕ) 
     parts_walk {q} h k =
         let t = walk_finished h in
         walks_as (behind (repeated (n - m) d) (plus t.entries) t.step (λ a. refl) k)
-        (sym (parts ∙ ap (λ (o : Out ℕ Entries). and_then o (λ a q. onto a (left d xs (n - m) q))) t.read))
+        (sym (parts xs ∙ ap (λ (o : Out ℕ Entries). and_then o (λ a q. onto a (left d xs (n - m) q))) t.read))
 
     pub parts_refuse : {e : Refused ℕ} → Walks of xs ((repeated m d).read xs p) l z l₁ (Err e) → Walks of xs ((repeated n d).read xs p) l z l₁ (Err e)
     unfolding left
     parts_refuse h =
-        refuses (parts ∙ ap (λ (o : Out ℕ Entries). and_then o (λ a q. onto a (left d xs (n - m) q))) (walk_refused h)) (walk_kept h)
+        refuses (parts xs ∙ ap (λ (o : Out ℕ Entries). and_then o (λ a q. onto a (left d xs (n - m) q))) (walk_refused h)) (walk_kept h)
 
-  -- i of the n turns are done
-  pub record Along (n p₀ : ℕ) (l₀ : Lists N) (z₀ : Sizes) (i p : ℕ) (l : Lists N) (z : Sizes) : Type 0 where
-    pub gathered : Entries
-    pub whole : left d xs n p₀ ≡ onto gathered (left d xs (n - i) p)
-    pub step : Step of l₀ z₀ gathered l z
-    pub ready : Ready xs p z
+-- i of the n turns are done
+pub record Along {N : Type 0} (of : ℕ → N) (d : Format one Entries) (xs : List ℕ) (n p₀ : ℕ) (l₀ : Lists N) (z₀ : Sizes) (i p : ℕ) (l : Lists N)
+    (z : Sizes) : Type 0 where
+  pub gathered : Entries
+  pub whole : left d xs n p₀ ≡ onto gathered (left d xs (n - i) p)
+  pub step : Step of l₀ z₀ gathered l z
+  pub ready : Ready xs p z
 
-  pub start : {n p : ℕ} {l : Lists N} {z : Sizes} → Ready xs p z → Along n p l z 0 p l z
+module _ {N : Type 0} {of : ℕ → N} {d : Format one Entries} {xs : List ℕ} where
+  pub start : {n p : ℕ} {l : Lists N} {z : Sizes} → Ready xs p z → Along of d xs n p l z 0 p l z
   start {n} {p} h =
       record {
         gathered = none;
@@ -141,22 +142,22 @@ module _ {N : Type 0} {of : ℕ → N} (d : Format one Entries) (xs : List ℕ) 
         ready = h;
       }
 
-  module _ {n p₀ : ℕ} {l₀ : Lists N} {z₀ : Sizes} {i p : ℕ} {l : Lists N} {z : Sizes} (h : Along n p₀ l₀ z₀ i p l z) where
+  module _ {n p₀ : ℕ} {l₀ : Lists N} {z₀ : Sizes} {i p : ℕ} {l : Lists N} {z : Sizes} (h : Along of d xs n p₀ l₀ z₀ i p l z) where
     turn : i < n → left d xs n p₀ ≡ onto h.gathered (and_then (d.read xs p) (λ e q. onto e (left d xs (n - (i + 1)) q)))
     turn lt =
         let e : n - i ≡ suc (n - (i + 1)) = omega arith in
         h.whole ∙ ap (λ (k : ℕ). onto h.gathered (left d xs k p)) e ∙ ap (onto h.gathered) (left_more d xs (n - (i + 1)) p)
 
     -- one turn more
-    pub next : {q : ℕ} {l' : Lists N} {z' : Sizes} (e : Entries) → i < n → d.read xs p ≡ got e q → Step of l z e l' z' → Ready xs q z'
-        → Along n p₀ l₀ z₀ (i + 1) q l' z'
+    pub next : {q : ℕ} {l' : Lists N} {z' : Sizes} (e : Entries) → i < n → d.read xs p ≡ got e q → Step of l z e l' z' → Ready xs q (grow z e)
+        → Along of d xs n p₀ l₀ z₀ (i + 1) q l' z'
     next {q} e lt r s y =
         record {
           gathered = plus h.gathered e;
           whole = turn lt ∙ ap (λ (o : Out ℕ Entries). onto h.gathered (and_then o (λ e q. onto e (left d xs (n - (i + 1)) q)))) r
               ∙ onto_onto h.gathered e (left d xs (n - (i + 1)) q);
           step = h.step ⊕ s;
-          ready = y;
+          ready = subst (Ready xs q) (sym s.sizes) y;
         }
 
     -- the walk refuses, so the loop does
@@ -178,12 +179,12 @@ module _ {N : Type 0} {of : ℕ → N} (d : Format one Entries) (xs : List ℕ) 
 
     pub loop_ends : n ≤ i → Walks of xs ((repeated n d).read xs p₀) l₀ z₀ l (Ok (z, p))
     unfolding left
-    loop_ends le = ends h.gathered (finish le) h.step h.ready
+    loop_ends le = ends h.gathered (finish le) h.step (subst (Ready xs p) h.step.sizes h.ready)
 
     -- a turn that is a walk by itself
     module _ {l' : Lists N} (lt : i < n) where
-      pub walk_next : {q : ℕ} {y : Sizes} → Walks of xs (d.read xs p) l z l' (Ok (y, q)) → Along n p₀ l₀ z₀ (i + 1) q l' y
-      walk_next w = let t = walk_finished w in next t.entries lt t.read t.step w.ready
+      pub walk_next : {q : ℕ} {y : Sizes} → Walks of xs (d.read xs p) l z l' (Ok (y, q)) → Along of d xs n p₀ l₀ z₀ (i + 1) q l' y
+      walk_next {q} w = let t = walk_finished w in next t.entries lt t.read t.step (subst (Ready xs q) t.step.sizes w.ready)
 
       pub walk_refuses : {e : Refused ℕ} → Walks of xs (d.read xs p) l z l' (Err e) → Walks of xs ((repeated n d).read xs p₀) l₀ z₀ l' (Err e)
       walk_refuses w = loop_refuses lt (walk_refused w) (walk_kept w)
@@ -224,12 +225,3 @@ single_long xs p e q i = go (BD.read xs p) i
 pub single_refused : (xs : List ℕ) (p : ℕ) {e : Refused ℕ} → refused e.refusal e.place ≡ BD.read xs p → single_walk.read xs p ≡ refused e.refusal e.place
 unfolding single_walk ◌>>=◌ pure
 single_refused xs p e = rw (← e)
-
--- the same from the place alone
-pub passed_value : (o : Out ℕ ℕ) {q : ℕ} → got tt q ≡ passed_by o → (v : ℕ) × (got v q ≡ o)
-passed_value (got v p) e = (v, cc)
-passed_value (refused k p) e = never (sym e)
-
-pub passed_refused : (o : Out ℕ ℕ) {e : Refused ℕ} → refused e.refusal e.place ≡ passed_by o → refused e.refusal e.place ≡ o
-passed_refused (got v p) h = never h
-passed_refused (refused k p) h = cc

@@ -1,5 +1,5 @@
 -- A vertex is the two RD at its place and the BD behind them; and three stores one behind the other. Assumes nothing.
-use mathlib.Core.Path.{◌≡◌, sym, ap, ap₂, ◌∙◌}
+use mathlib.Core.Path.{◌≡◌, refl, sym, ap, ap₂, ◌∙◌}
 use mathlib.Core.List.{List, [], ◌∷◌}
 use Prim.Native.Nat.{ℕ, suc, ◌+◌, ◌-◌, ◌*◌, ◌/◌, ◌≤◌, ◌<◌}
 use native.Mathlib.Omega.{arith}
@@ -52,12 +52,12 @@ module _ (xs : List ℕ) (p : ℕ) where
         ∙ then_refused (double_run 1) (λ b. pure (plus (numbers (raw_at xs p 2)) b)) xs (no_double xs (p + 128) e)
 
     -- the double is read, or the vertex is refused as the double is
-    pub extra_on : {q : ℕ} {r : Result (ℕ × ℕ) (Refused ℕ)} → q ≡ p + 128 → outcome r ≡ BD.read xs q → Extra xs p r
-    extra_on {q} {Ok v} e d =
-        let at_point : got v.0 v.1 ≡ BD.read xs (p + 128) = d ∙ ap (BD.read xs) e in
+    pub extra_on : {q : ℕ} (r : Result (ℕ × ℕ) (Refused ℕ)) → q ≡ p + 128 → outcome r ≡ BD.read xs q → Extra xs p r
+    extra_on {q} (Ok v) e d =
+        let at_point : got v.0 v.1 ≡ BD.read xs (p + 128) = d ∙ ap (λ (k : ℕ). BD.read xs k) e in
         let on = onward (coded BD) 2 takes_BD xs (p + 128) at_point (omega arith) in
         record { read = vertex_there (sym at_point); onward = omega (arith, on.0); inside = on.1 }
-    extra_on {q} {Err x} e d = vertex_no (sym (d ∙ ap (BD.read xs) e))
+    extra_on {q} (Err x) e d = vertex_no (sym (d ∙ ap (λ (k : ℕ). BD.read xs k) e))
 
   -- the point is not there
   pub extra_short : size xs - p < 128 → vertex_walk.read xs p ≡ refused TooFewBits (p + (size xs - p) / 8 * 8)

@@ -1,7 +1,5 @@
--- The RD of a run that is all there, how many of them a list has room for, and the place alone of what is read. Assumes nothing.
+-- The RD of a run that is all there, and how many of them a list has room for. Assumes nothing.
 use Rattle.std.specs.Prelude.{List, [], ◌∷◌, ℕ, zero, suc, ◌+◌, ◌-◌, min}
-use Rattle.bitcursor.specs.Reading.{Out}
-use Rattle.bitcursor.specs.Answers.{value_as}
 use Rattle.loads.specs.Bytes.{low_number, bytes_at}
 
 -- the n RD at a place
@@ -12,7 +10,3 @@ raw_at xs p (suc n) = low_number (bytes_at xs p 8) ∷ raw_at xs (p + 64) n
 -- how many of n numbers, the first at `from`, a list of this length has room for
 abbrev pub room_for : ℕ → ℕ → ℕ → ℕ
 room_for n from room = min n (room - from)
-
--- the place alone of what is read
-abbrev pub passed_by : Out ℕ ℕ → Out ℕ (Unit {0})
-passed_by = value_as (λ v. tt)

@@ -19,8 +19,3 @@ pub record VertexThere (xs : List ℕ) (p v q : ℕ) : Type 0 where
 abbrev pub Extra : List ℕ → ℕ → Result (ℕ × ℕ) (Refused ℕ) → Type 0
 Extra xs p (Ok v) = VertexThere xs p v.0 v.1
 Extra xs p (Err e) = vertex_walk.read xs p ≡ refused e.refusal e.place
-
--- the same, where the double's value is not wanted
-abbrev pub ExtraPassed : List ℕ → ℕ → Result ℕ (Refused ℕ) → Type 0
-ExtraPassed xs p (Ok q) = (v : ℕ) × VertexThere xs p v q
-ExtraPassed xs p (Err e) = vertex_walk.read xs p ≡ refused e.refusal e.place

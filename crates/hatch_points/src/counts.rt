@@ -30,6 +30,7 @@ fn bounds_check(s: &[u8], n: u64, p: usize, cap: usize) -> Reading<u64>
 }
 
 // A count that is a BL.
+#[tactic(auto, using(bitcursor::proofs::Steps::reading, crate::specs::Heads::bounds_bounded))]
 pub fn read_count(s: &[u8], at: usize, cap: usize) -> Reading<u64>
     requires { length s.now ≤ limit }
     ensures { outcome result ≡ (bounded cap BL).read s.now at }
@@ -39,6 +40,7 @@ pub fn read_count(s: &[u8], at: usize, cap: usize) -> Reading<u64>
 }
 
 // A count that is a BS.
+#[tactic(auto, using(bitcursor::proofs::Steps::reading, crate::specs::Heads::bounds_bounded))]
 pub fn read_short_count(s: &[u8], at: usize, cap: usize) -> Reading<u64>
     requires { length s.now ≤ limit }
     ensures { outcome result ≡ (bounded cap BS).read s.now at }

@@ -6,6 +6,7 @@ ghost use Rattle.bitcursor.specs.Codes.{B};
 
 use bitcursor::Reading;
 
+#[tactic(auto, using(bitcursor::proofs::Steps::reading), unfolding(bitcursor::specs::Codes::B, bitcursor::specs::Codes::B_read))]
 pub fn read_flag(s: &[u8], at: usize) -> Reading<bool>
     requires { length s.now ≤ limit }
     ensures { outcome result ≡ B.read s.now at }

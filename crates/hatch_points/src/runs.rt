@@ -1,18 +1,18 @@
 // Runs of doubles: n RD, which are passed by one comparison, and n BD, each read by its tag; both are stored so far as there is room.
 ghost use Rattle.std.specs.Prelude.{◌≡◌, [], map, ◌+◌, ◌*◌, ◌^◌, ◌≤◌, ◌<◌, length};
 ghost use Rattle.std.proofs.lemmas.List.Edits.{sets};
-ghost use Rattle.bitcursor.specs.Answers.{outcome, passing};
+ghost use Rattle.bitcursor.specs.Answers.{outcome};
 ghost use Rattle.loads.specs.Bits.{limit};
 ghost use Rattle.bitcursor.specs.Doubles.{BD};
 ghost use Rattle.hatch_points.specs.Gathered.{repeated};
 ghost use Rattle.hatch_points.specs.Walks.{raw_run, single_walk, double_run};
 ghost use Rattle.hatch_points.specs.Lists.{lists, Ready, Walks, Passes};
-ghost use Rattle.hatch_points.specs.Stores.{raw_at, room_for, passed_by};
+ghost use Rattle.hatch_points.specs.Stores.{raw_at, room_for};
 
 use crate::lists;
 use crate::lists::Sizes;
+use bitcursor::Reading;
 use bitcursor::values::Number;
-use bitcursor::{Passing, Reading};
 
 // How many of n numbers, the first at `from`, a list of this length has room for.
 pub fn stores(n: usize, from: usize, room: usize) -> usize
@@ -62,8 +62,8 @@ pub fn raw_run<N: Number>(
     Ok((z.with_numbers(n), p))
 }
 
-// A BD: where the ten bytes from its tag's on are there, by no other comparison with the payload's length. It is put into the loop, one
-// for each kind of number, that calls it.
+// A BD: where the ten bytes from its tag's on are there, by no other comparison with the payload's length. Each loop has it in it, so that
+// the one whose numbers no list has room for makes no value.
 #[inline(always)]
 fn read_knot(s: &[u8], at: usize) -> Reading<u64>
     requires { (length s.now ≤ limit) × (at ≤ 8 * length s.now) }
@@ -73,19 +73,6 @@ fn read_knot(s: &[u8], at: usize) -> Reading<u64>
         return bitcursor::within::read_bd_bits(s, at);
     }
     bitcursor::within::read_bd_there(s, at)
-}
-
-// Past a BD whose value no list has room for, and which is not made; one loop calls it, so that the compiler puts it there.
-fn pass_bd(s: &[u8], at: usize) -> Passing
-    requires { (length s.now ≤ limit) × (at ≤ 8 * length s.now) }
-    ensures { passing result ≡ passed_by (BD.read s.now at) }
-{
-    if s.len() < at / 8 + 10 {
-        let (_, p) = bitcursor::within::read_bd_bits(s, at)?;
-        return Ok(p);
-    }
-    let (_, q) = bitcursor::within::read_bd_there(s, at)?;
-    Ok(q)
 }
 
 // n BD, read and stored.
@@ -119,7 +106,8 @@ fn pass_doubles(s: &[u8], at: usize, n: usize, z: Sizes) -> Reading<Sizes>
     let mut p = at;
     let mut y = z;
     for _ in 0..n {
-        p = pass_bd(s, p)?;
+        let (_, q) = read_knot(s, p)?;
+        p = q;
         y = y.with_numbers(1);
     }
     Ok((y, p))

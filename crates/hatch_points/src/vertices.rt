@@ -5,14 +5,14 @@ ghost use Rattle.loads.specs.Bits.{limit};
 ghost use Rattle.hatch_points.specs.Gathered.{repeated};
 ghost use Rattle.hatch_points.specs.Walks.{vertex_walk, vertices_walk};
 ghost use Rattle.hatch_points.specs.Lists.{lists, Ready, Walks, Passes};
-ghost use Rattle.hatch_points.specs.Vertices.{vertex_at, Extra, ExtraPassed};
+ghost use Rattle.hatch_points.specs.Vertices.{vertex_at, Extra};
 
 use crate::lists::Sizes;
 use crate::{lists, runs};
+use bitcursor::Reading;
 use bitcursor::values::Number;
-use bitcursor::{Passing, Reading};
 
-// The double behind a point, and the place after it; the point is passed by one comparison. It is put into the loop that calls it.
+// The double behind a point, and the place after it; the point is passed by one comparison. Each loop has it in it, as `read_knot`.
 #[inline(always)]
 fn read_extra(s: &[u8], at: usize) -> Reading<u64>
     requires { (length s.now ≤ limit) × (at ≤ 8 * length s.now) }
@@ -23,20 +23,6 @@ fn read_extra(s: &[u8], at: usize) -> Reading<u64>
         return bitcursor::within::read_bd_bits(s, p);
     }
     bitcursor::within::read_bd_there(s, p)
-}
-
-// The place after a point and the double behind it, which no list has room for.
-fn pass_vertex(s: &[u8], at: usize) -> Passing
-    requires { (length s.now ≤ limit) × (at ≤ 8 * length s.now) }
-    ensures { ExtraPassed s.now at result }
-{
-    let p = bitcursor::within::skip_bytes(s, at, 16)?;
-    if s.len() < p / 8 + 10 {
-        let (_, q) = bitcursor::within::read_bd_bits(s, p)?;
-        return Ok(q);
-    }
-    let (_, r) = bitcursor::within::read_bd_there(s, p)?;
-    Ok(r)
 }
 
 // Stores the point at `at`, which is there, and the double behind it.
@@ -80,7 +66,8 @@ fn pass_vertices(s: &[u8], at: usize, n: usize, z: Sizes) -> Reading<Sizes>
     let mut p = at;
     let mut y = z;
     for _ in 0..n {
-        p = pass_vertex(s, p)?;
+        let (_, q) = read_extra(s, p)?;
+        p = q;
         y = y.with_numbers(3);
     }
     Ok((y, p))
