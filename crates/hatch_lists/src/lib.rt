@@ -27,3 +27,10 @@ pub struct Item {
     pub fit_points: usize,
     pub behind: usize,
 }
+
+// What follows a path's flags, up to its numbers or edges: its item, and how many parts of the path follow.
+#[derive(Clone, Copy, Debug, PartialEq, Eq)]
+pub struct Head {
+    pub item: Item,
+    pub parts: usize,
+}
