@@ -5,7 +5,7 @@ use Rattle.loads.specs.Bits.{Alike, Begins}
 use Rattle.loads.specs.BitLaws.{alike_down}
 use Rattle.bitcursor.specs.Code.{Moves, stay, moves_then}
 use Rattle.bitcursor.specs.Format.{Input}
-pub use Rattle.bitcursor.specs.declared.Places.{Places}
+pub use Rattle.bitcursor.specs.declared.places.Places.{Places}
 
 -- one payload and a bit number in it
 abbrev pub one : Input
