@@ -1,8 +1,8 @@
 -- Where a cursor stands, what a reading at a cursor answers, and where the cursor stands afterwards. Assumes nothing.
-use Rattle.std.specs.Prelude.{◌≡◌, List, ℕ, ◌+◌, ◌*◌, ◌/◌, ◌%◌, min, Result, Ok, Err}
-use Rattle.bitcursor.specs.Reading.{Out, got, refused, place}
+use Rattle.std.specs.Prelude.{◌≡◌, List, ℕ, ◌+◌, ◌*◌, ◌/◌, ◌%◌, min, Result}
+use Rattle.bitcursor.specs.Reading.{Out, place}
 use Rattle.bitcursor.specs.Code.{Code}
-use Rattle.bitcursor.specs.Answers.{limited}
+use Rattle.bitcursor.specs.Answers.{limited, answer}
 use Rattle.bitcursor.specs.declared.Refusal.{Refusal}
 use Rattle.cursor.specs.declared.BitCursor.{BitCursor}
 
@@ -27,11 +27,6 @@ read_at code xs c = limited code.read xs (place_of c)
 -- the cursor afterwards: after a value behind it, on a refusal at the refusal's place
 abbrev pub after : {A : Type 0} → Out ℕ A → BitCursor
 after o = cursor_at (place o)
-
--- the answer: the value or the refusal
-abbrev pub answer : {A : Type 0} → Out ℕ A → Result A Refusal
-answer (got v p) = Ok v
-answer (refused r p) = Err r
 
 -- a reader of `BitCursor` gives the answer of a reading, and leaves the cursor behind it
 abbrev pub Reads : {A : Type 0} → Out ℕ A → Result A Refusal → BitCursor → Type 0
