@@ -2,18 +2,16 @@
 use Rattle.std.specs.Prelude.{◌≡◌, refl, Bool, true, false, ℕ, ◌*◌, ◌≤◌, ◌<◌, leb, length}
 use Rattle.std.proofs.Common.{sym, ap₂, ◌∙◌}
 use borrow.Author.Tests.{le-leb, lt-leb}
-use Rattle.bitcursor.specs.declared.Refusal.TheVariants.{TooFewBits, UnknownRelease, PayloadTooLong}
+use Rattle.bitcursor.specs.declared.Refusal.TheVariants.{TooFewBits}
 use Rattle.loads.specs.Bits.{size, limit}
-use Rattle.bitcursor.specs.Reading.{Out, got, refused}
+use Rattle.bitcursor.specs.Reading.{refused}
 use Rattle.bitcursor.specs.Inputs.{Places, Payloads}
 use Rattle.string_start.specs.Start.{start_in, start_by}
-use Rattle.text.specs.declared.version.Version.{Version}
 use Rattle.text.specs.declared.version.MaybeVersion.{MaybeVersion}
 use Rattle.text.specs.declared.version.MaybeVersion.TheVariants.{Known, Unknown}
 use Rattle.text.specs.Releases.{version_of}
 use Rattle.hatch_format.specs.declared.Caps.{Caps}
 use Rattle.hatch_format.specs.HandleRule.{Handles}
-use Rattle.hatch_format.specs.Values.{Body}
 use Rattle.hatch_format.specs.Hatch.{hatch}
 use Rattle.hatch_format.specs.Call.{string_bytes_of, string_start_of, Call, payloads_of, starts_of, room_for, call_by, call_on, hatch_call}
 use Rattle.hatch_format.specs.Starts.{string_bits, reader_start, call_from, past_places, ComesToStart, AlikeLengths, past_by, past_call}

@@ -1,26 +1,25 @@
 -- The record that a hatch call hands over: document 01's, from the body and its final places; and as f64. Assumes nothing.
-use Rattle.std.specs.Prelude.{false, List, [], ◌∷◌, ◌++◌, ℕ, ◌-◌, Float, pos, length, replicate}
+use Rattle.std.specs.Prelude.{◌≡◌, false, List, ◌++◌, map, ℕ, ◌-◌, Float, pos, length, replicate}
+use Rattle.std.proofs.Common.{ap}
+use Rattle.std.proofs.lemmas.List.{map-id}
 use Rattle.std.specs.Float.Ieee.{of_bits}
 use Rattle.std.specs.Float.{binary64}
 use Rattle.bitcursor.specs.Inputs.{Places}
 use Rattle.text.specs.Answers.{as_places}
 use Rattle.hatch_format.specs.declared.GradientColor.{GradientColor}
-use Rattle.hatch_format.specs.declared.GradientColorBits.{GradientColorBits}
 use Rattle.hatch_format.specs.declared.GradientFill.{GradientFill}
-use Rattle.hatch_format.specs.declared.GradientFillBits.{GradientFillBits}
 use Rattle.hatch_format.specs.declared.Hatch.{Hatch}
-use Rattle.hatch_format.specs.declared.HatchBits.{HatchBits}
 use Rattle.hatch_format.specs.Values.{Gradient, no_gradient, no_text, Body}
 use Rattle.hatch_format.specs.Entries.{words, numbers}
 
-abbrev pub zero_color : GradientColorBits
+abbrev pub zero_color : GradientColor ℕ
 zero_color = record { unknown_double = 0; unknown_short = pos 0; rgb = 0; ignored_color_byte = 0 }
 
 -- sixteen colours: those past their count are zero
-abbrev pub sixteen : List GradientColorBits → List GradientColorBits
+abbrev pub sixteen : List (GradientColor ℕ) → List (GradientColor ℕ)
 sixteen cs = cs ++ replicate (16 - length cs) zero_color
 
-abbrev pub fill_of : Gradient → GradientFillBits
+abbrev pub fill_of : Gradient → GradientFill ℕ
 fill_of a =
     record {
       present = a.present;
@@ -33,7 +32,7 @@ fill_of a =
       name = a.name;
     }
 
-abbrev pub record_of : Body → Places → HatchBits
+abbrev pub record_of : Body → Places → Hatch ℕ
 record_of a p =
     record {
       gradient = fill_of a.gradient;
@@ -57,7 +56,7 @@ record_of a p =
     }
 
 -- a refused call's: zero but for the refusal's places
-abbrev pub zero_record : Places → HatchBits
+abbrev pub zero_record : Places → Hatch ℕ
 zero_record p =
     record {
       gradient = fill_of no_gradient;
@@ -80,55 +79,63 @@ zero_record p =
       places = as_places p;
     }
 
+-- ---- with each double as what `of` makes of its 64 bits
+module _ {N : Type 0} (of : ℕ → N) where
+  abbrev pub color_as : GradientColor ℕ → GradientColor N
+  color_as a =
+      record {
+        unknown_double = of a.unknown_double;
+        unknown_short = a.unknown_short;
+        rgb = a.rgb;
+        ignored_color_byte = a.ignored_color_byte;
+      }
+
+  abbrev pub colors_as : List (GradientColor ℕ) → List (GradientColor N)
+  colors_as = map color_as
+
+  abbrev pub fill_as : GradientFill ℕ → GradientFill N
+  fill_as a =
+      record {
+        present = a.present;
+        angle = of a.angle;
+        shift = of a.shift;
+        is_single_color = a.is_single_color;
+        tint = of a.tint;
+        num_colors = a.num_colors;
+        colors = colors_as a.colors;
+        name = a.name;
+      }
+
+  abbrev pub hatch_as : Hatch ℕ → Hatch N
+  hatch_as a =
+      record {
+        gradient = fill_as a.gradient;
+        elevation = of a.elevation;
+        extrusion = record { x = of a.extrusion.x; y = of a.extrusion.y; z = of a.extrusion.z };
+        pattern_name = a.pattern_name;
+        solid_fill = a.solid_fill;
+        associative = a.associative;
+        num_paths = a.num_paths;
+        pattern_style = a.pattern_style;
+        pattern_type = a.pattern_type;
+        pattern_angle = of a.pattern_angle;
+        pattern_scale = of a.pattern_scale;
+        pattern_double = a.pattern_double;
+        num_pattern_lines = a.num_pattern_lines;
+        pixel_size = of a.pixel_size;
+        num_seed_points = a.num_seed_points;
+        words_used = a.words_used;
+        numbers_used = a.numbers_used;
+        places = a.places;
+      }
+
 -- ---- as doubles: each is the double of its pattern, the NaN where that is a NaN's
 abbrev pub double : ℕ → Float
 double n = of_bits binary64 n
 
-abbrev pub color_as_doubles : GradientColorBits → GradientColor
-color_as_doubles a =
-    record {
-      unknown_double = double a.unknown_double;
-      unknown_short = a.unknown_short;
-      rgb = a.rgb;
-      ignored_color_byte = a.ignored_color_byte;
-    }
+abbrev pub as_doubles : Hatch ℕ → Hatch Float
+as_doubles = hatch_as double
 
-abbrev pub colors_as_doubles : List GradientColorBits → List GradientColor
-colors_as_doubles [] = []
-colors_as_doubles (a ∷ cs) = color_as_doubles a ∷ colors_as_doubles cs
-
-abbrev pub fill_as_doubles : GradientFillBits → GradientFill
-fill_as_doubles a =
-    record {
-      present = a.present;
-      angle = double a.angle;
-      shift = double a.shift;
-      is_single_color = a.is_single_color;
-      tint = double a.tint;
-      num_colors = a.num_colors;
-      colors = colors_as_doubles a.colors;
-      name = a.name;
-    }
-
-abbrev pub as_doubles : HatchBits → Hatch
-as_doubles a =
-    record {
-      gradient = fill_as_doubles a.gradient;
-      elevation = double a.elevation;
-      extrusion = record { x = double a.extrusion.x; y = double a.extrusion.y; z = double a.extrusion.z };
-      pattern_name = a.pattern_name;
-      solid_fill = a.solid_fill;
-      associative = a.associative;
-      num_paths = a.num_paths;
-      pattern_style = a.pattern_style;
-      pattern_type = a.pattern_type;
-      pattern_angle = double a.pattern_angle;
-      pattern_scale = double a.pattern_scale;
-      pattern_double = a.pattern_double;
-      num_pattern_lines = a.num_pattern_lines;
-      pixel_size = double a.pixel_size;
-      num_seed_points = a.num_seed_points;
-      words_used = a.words_used;
-      numbers_used = a.numbers_used;
-      places = a.places;
-    }
+-- ---- as the 64 bits themselves it is the record as it was
+pub hatch_as_bits : (a : Hatch ℕ) → hatch_as (λ n. n) a ≡ a
+hatch_as_bits a = ap (λ (cs : List (GradientColor ℕ)). record a { gradient = record a.gradient { colors = cs } }) (map-id a.gradient.colors)

@@ -1,14 +1,12 @@
 -- Where the string reader of a hatch call starts (document 02, L4), for every start bit: what the theorems of proofs/Starts about the call's own
 -- definition speak of. They hold of a measuring call too, and of a call without a reader, whose string payload is empty and whose string start is 0.
 -- Assumes nothing.
-use Rattle.std.specs.Prelude.{◌≡◌, refl, Bool, true, false, ℕ, ◌*◌, ◌≤◌, ◌<◌, leb, length}
-use Rattle.std.proofs.Common.{sym, ap₂, ◌∙◌}
-use borrow.Author.Tests.{le-leb, lt-leb}
+use Rattle.std.specs.Prelude.{◌≡◌, Bool, true, false, ℕ, ◌*◌, ◌≤◌, leb, length}
 use Rattle.bitcursor.specs.declared.Refusal.TheVariants.{TooFewBits, UnknownRelease, PayloadTooLong}
 use Rattle.loads.specs.Bits.{size, limit}
 use Rattle.bitcursor.specs.Reading.{Out, got, refused}
 use Rattle.bitcursor.specs.Inputs.{Places, Payloads}
-use Rattle.string_start.specs.Start.{start_in, start_by}
+use Rattle.string_start.specs.Start.{start_in}
 use Rattle.text.specs.declared.version.Version.{Version}
 use Rattle.text.specs.declared.version.MaybeVersion.{MaybeVersion}
 use Rattle.text.specs.declared.version.MaybeVersion.TheVariants.{Known, Unknown}
@@ -17,7 +15,7 @@ use Rattle.hatch_format.specs.declared.Caps.{Caps}
 use Rattle.hatch_format.specs.HandleRule.{Handles}
 use Rattle.hatch_format.specs.Values.{Body}
 use Rattle.hatch_format.specs.Hatch.{hatch}
-use Rattle.hatch_format.specs.Call.{string_bytes_of, string_start_of, Call, payloads_of, starts_of, room_for, call_by, call_on, hatch_call}
+use Rattle.hatch_format.specs.Call.{string_bytes_of, string_start_of, Call, room_for}
 
 -- the string payload's length in bits
 abbrev pub string_bits : Call → ℕ

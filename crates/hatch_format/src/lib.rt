@@ -3,13 +3,14 @@
 // specs/Call defines a whole call, specs/Demand3 what the third demand says of it, and proofs/Demand3 proves each of its sentences.
 #![tactic(auto)]
 
-ghost use Rattle.std.specs.Prelude.{◌≡◌};
+ghost use Rattle.std.specs.Prelude.{◌≡◌, ⊤};
 ghost use Rattle.hatch_format.specs.Caps.{document_caps};
 
+use std::alloc::AllocError;
 use text::{Places, Text};
 
 // The greatest count that is read of each list. A boundary handle count is one per path.
-#[derive(Clone, Copy)]
+#[derive(Clone, Copy, Debug, PartialEq, Eq)]
 pub struct Caps {
     pub colors: usize,
     pub paths: usize,
@@ -43,106 +44,79 @@ pub fn document_caps() -> Caps
     }
 }
 
+// What a call hands over is generic in what a double is: `f64`, or `u64` for its 64 bits.
 // As C lays it out, since the C boundary hands it over as it is.
 #[repr(C)]
-#[derive(Clone, Copy)]
-pub struct GradientColor {
-    pub unknown_double: f64,
+#[derive(Clone, Copy, Debug, PartialEq, Eq)]
+pub struct GradientColor<N> {
+    pub unknown_double: N,
     pub unknown_short: i16,
     pub rgb: u32,
     pub ignored_color_byte: u8,
 }
 
-// The gradient of a hatch, or zero throughout where there is none; colours past their count are zero.
-#[derive(Clone, Copy)]
-pub struct GradientFill {
+// The gradient of a hatch; colours past their count are zero. `present` is a field, and not an Option around the others, since document 01
+// has the record zero throughout where there is no gradient.
+#[derive(Copy)]
+pub struct GradientFill<N> {
     pub present: bool,
-    pub angle: f64,
-    pub shift: f64,
+    pub angle: N,
+    pub shift: N,
     pub is_single_color: u32,
-    pub tint: f64,
+    pub tint: N,
     pub num_colors: usize,
-    pub colors: [GradientColor; 16],
+    pub colors: [GradientColor<N>; 16],
     pub name: Text,
 }
 
-#[derive(Clone, Copy)]
-pub struct Vec3D {
-    pub x: f64,
-    pub y: f64,
-    pub z: f64,
+// A copy of the whole: a derived `clone` would go colour by colour, and its proof meets the check's limit.
+impl<N: Copy> Clone for GradientFill<N> {
+    ghost is_clone = { λ x y. y ≡ x };
+
+    ghost is_infallible = { λ _. ⊤ };
+
+    fn clone(&self) -> Result<Self, AllocError> {
+        Ok(*self)
+    }
+}
+
+#[derive(Clone, Copy, Debug, PartialEq, Eq)]
+pub struct Vec3D<N> {
+    pub x: N,
+    pub y: N,
+    pub z: N,
 }
 
 // What a hatch call hands over by value: document 01's record. The rest goes to the two lent lists, so far as their lengths used say.
-#[derive(Clone, Copy)]
-pub struct Hatch {
-    pub gradient: GradientFill,
-    pub elevation: f64,
-    pub extrusion: Vec3D,
+#[derive(Copy)]
+pub struct Hatch<N> {
+    pub gradient: GradientFill<N>,
+    pub elevation: N,
+    pub extrusion: Vec3D<N>,
     pub pattern_name: Text,
     pub solid_fill: bool,
     pub associative: bool,
     pub num_paths: usize,
     pub pattern_style: u16,
     pub pattern_type: u16,
-    pub pattern_angle: f64,
-    pub pattern_scale: f64,
+    pub pattern_angle: N,
+    pub pattern_scale: N,
     pub pattern_double: bool,
     pub num_pattern_lines: usize,
-    pub pixel_size: f64,
+    pub pixel_size: N,
     pub num_seed_points: usize,
     pub words_used: usize,
     pub numbers_used: usize,
     pub places: Places,
 }
 
-// The same with each double as its 64 bits.
-#[repr(C)]
-#[derive(Clone, Copy)]
-pub struct GradientColorBits {
-    pub unknown_double: u64,
-    pub unknown_short: i16,
-    pub rgb: u32,
-    pub ignored_color_byte: u8,
-}
+// As that of a gradient.
+impl<N: Copy> Clone for Hatch<N> {
+    ghost is_clone = { λ x y. y ≡ x };
 
-#[derive(Clone, Copy)]
-pub struct GradientFillBits {
-    pub present: bool,
-    pub angle: u64,
-    pub shift: u64,
-    pub is_single_color: u32,
-    pub tint: u64,
-    pub num_colors: usize,
-    pub colors: [GradientColorBits; 16],
-    pub name: Text,
-}
+    ghost is_infallible = { λ _. ⊤ };
 
-#[derive(Clone, Copy)]
-pub struct Vec3DBits {
-    pub x: u64,
-    pub y: u64,
-    pub z: u64,
-}
-
-#[derive(Clone, Copy)]
-pub struct HatchBits {
-    pub gradient: GradientFillBits,
-    pub elevation: u64,
-    pub extrusion: Vec3DBits,
-    pub pattern_name: Text,
-    pub solid_fill: bool,
-    pub associative: bool,
-    pub num_paths: usize,
-    pub pattern_style: u16,
-    pub pattern_type: u16,
-    pub pattern_angle: u64,
-    pub pattern_scale: u64,
-    pub pattern_double: bool,
-    pub num_pattern_lines: usize,
-    pub pixel_size: u64,
-    pub num_seed_points: usize,
-    pub words_used: usize,
-    pub numbers_used: usize,
-    pub places: Places,
+    fn clone(&self) -> Result<Self, AllocError> {
+        Ok(*self)
+    }
 }
