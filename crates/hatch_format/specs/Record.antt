@@ -5,7 +5,6 @@ use Rattle.std.proofs.lemmas.List.{map-id}
 use Rattle.std.specs.Float.Ieee.{of_bits}
 use Rattle.std.specs.Float.{binary64}
 use Rattle.bitcursor.specs.Inputs.{Places}
-use Rattle.text.specs.Answers.{as_places}
 use Rattle.hatch_format.specs.declared.GradientColor.{GradientColor}
 use Rattle.hatch_format.specs.declared.GradientColorBits.{GradientColorBits}
 use Rattle.hatch_format.specs.declared.GradientFill.{GradientFill}
@@ -60,7 +59,7 @@ record_of a p =
       num_seed_points = length a.rest.tail.ending.seed_points;
       words_used = length (words a.rest);
       numbers_used = length (numbers a.rest);
-      places = as_places p;
+      places = p;
     }
 
 -- a refused call's: zero but for the refusal's places
@@ -84,7 +83,7 @@ zero_record p =
       num_seed_points = 0;
       words_used = 0;
       numbers_used = 0;
-      places = as_places p;
+      places = p;
     }
 
 -- ---- with each double as what `of` makes of its 64 bits, and each colour as what `color` makes of it

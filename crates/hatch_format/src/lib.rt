@@ -7,9 +7,9 @@ ghost use Rattle.std.specs.Prelude.{◌≡◌, ⊤};
 ghost use Rattle.hatch_format.specs.Caps.{document_caps};
 ghost use Rattle.hatch_format.specs.Record.{color_as_doubles};
 
-use bitcursor::values;
+use bitcursor::{Places, values};
 use std::alloc::AllocError;
-use text::{Places, Text};
+use text::Text;
 
 // The greatest count that is read of each list. A boundary handle count is one per path.
 #[derive(Clone, Copy, Debug, PartialEq, Eq)]
