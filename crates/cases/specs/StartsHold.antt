@@ -1,11 +1,10 @@
 -- The cases of string starts hold. Assumes nothing.
-use Rattle.std.specs.Prelude.{List, [], ◌∷◌, ◌++◌, ℕ, ℤ, pos, negsuc, length, replicate}
 use Rattle.loads.specs.Bits.{bits_of, digits, number, window}
 use Rattle.bitcursor.specs.Code.{give, refuse, raw, ◌>>=◌, tabled, mapped, measured}
 use Rattle.bitcursor.specs.Bytes.{bytes, bytes_read, low_first, high_first, skip}
 use Rattle.loads.specs.Bytes.{low_number}
 use Rattle.bitcursor.specs.Codes.{by_tag, tagged, B, B_read, BB, RC, RD, RL, BS, BS_read, signed_BS, BL, BL_read}
-use Rattle.bitcursor.specs.Doubles.{BD, BD_read, one_pattern}
+use Rattle.bitcursor.specs.Doubles.{BD, BD_read}
 use Rattle.bitcursor.specs.Handles.{BLL, BLL_read, HANDLE, HANDLE_read, HANDLE_value, checked}
 use Rattle.bitcursor.specs.Held.{held}
 use Rattle.bitcursor.specs.Answers.{limited}
@@ -17,10 +16,6 @@ use Rattle.text.specs.Fields.{here, inline, past_end, room_for, from_reader}
 use Rattle.text.specs.Layouts.{reader_text_format}
 use Rattle.text.specs.TextField.{has_reader, TV_field, TV_read as TV_field_read}
 use Rattle.text.specs.Answers.{released, inline_text, reader_text}
-use Rattle.prefix_format.specs.declared.CommonEntityBits.{CommonEntityBits}
-use Rattle.prefix_format.specs.Prefix.{chain, extended, graphics_block, graphics, name, prefix_by}
-use Rattle.prefix_format.specs.Call.{prefix_call}
-use Rattle.hatch_format.specs.Values.{Body}
 use Rattle.hatch_format.specs.Counts.{summed, times_read, times, capped_read, capped, bounded_read, bounded, counted}
 use Rattle.hatch_format.specs.Counts.{listed_by_read, listed_by, listed_read, listed}
 use Rattle.hatch_format.specs.Points.{point_read, point, vertex_read, vertex, arc_read, arc_edge, ellipse_read, ellipse_edge}
@@ -30,11 +25,8 @@ use Rattle.hatch_format.specs.Paths.{handle_count_read, handle_count, segments_r
 use Rattle.hatch_format.specs.Patterns.{pattern_line_read, pattern_line, pattern_read, pattern, ending_read, ending, tail_read, tail, rest_read, rest}
 use Rattle.hatch_format.specs.Gradients.{color_read, color, block_read, block, gradient_read, gradient}
 use Rattle.hatch_format.specs.Hatch.{plane_read, plane, hatch_read, hatch}
-use Rattle.hatch_format.specs.Entries.{words, numbers}
-use Rattle.hatch_format.specs.Call.{Strings, none, lent, call_on}
-use Rattle.cases.specs.Shown.{Shown, reading, refusal, shown, Case, of_each_release, Holds, holds, all_same}
-use Rattle.cases.specs.Calls.{numbers_of, hatch_call_shown}
-use Rattle.cases.specs.Padded.{padded_cases}
+use Rattle.hatch_format.specs.Call.{call_on}
+use Rattle.cases.specs.Shown.{Holds, holds, all_same}
 use Rattle.cases.specs.Starts.{start_cases}
 
 pub starts_hold : Holds start_cases

@@ -1,14 +1,14 @@
 -- What goes to the two lent lists, in reading order: words (flags, switches, kinds and counts) and numbers (all other doubles of paths,
 -- lines and seeds, as their 64 bits). Absent bulges, weights and tangents have no entry. Assumes nothing.
 use Rattle.std.specs.Prelude.{Bool, true, false, List, [], ◌∷◌, ◌++◌, ℕ, length}
+use Rattle.std.specs.List.{flat_map}
 use Rattle.loads.specs.Bits.{bit}
 use Rattle.hatch_format.specs.Values.{Point, Vertex, Fits, unfitted, fitted, PatternLine, Rest}
 use Rattle.hatch_format.specs.Values.{Edge, line, arc, ellipse, spline, Segments, polyline, edges, Path}
 
 -- what each of the list has, one behind the other
 abbrev pub every : {A : Type 0} → (A → List ℕ) → List A → List ℕ
-every f [] = []
-every f (a ∷ items) = f a ++ every f items
+every = flat_map
 
 -- ---- words
 abbrev pub fit_count : Fits → ℕ

@@ -1,17 +1,23 @@
 -- The record that a hatch call hands over: document 01's, from the body and its final places; and as f64. Assumes nothing.
-use Rattle.std.specs.Prelude.{false, List, [], ◌∷◌, ◌++◌, ℕ, ◌-◌, Float, pos, length, replicate}
+use Rattle.std.specs.Prelude.{◌≡◌, false, List, ◌++◌, map, ℕ, ◌-◌, Float, pos, length, replicate}
+use Rattle.std.proofs.Common.{ap}
+use Rattle.std.proofs.lemmas.List.{map-id}
 use Rattle.std.specs.Float.Ieee.{of_bits}
 use Rattle.std.specs.Float.{binary64}
 use Rattle.bitcursor.specs.Inputs.{Places}
-use Rattle.text.specs.Answers.{as_places}
 use Rattle.hatch_format.specs.declared.GradientColor.{GradientColor}
 use Rattle.hatch_format.specs.declared.GradientColorBits.{GradientColorBits}
 use Rattle.hatch_format.specs.declared.GradientFill.{GradientFill}
-use Rattle.hatch_format.specs.declared.GradientFillBits.{GradientFillBits}
 use Rattle.hatch_format.specs.declared.Hatch.{Hatch}
-use Rattle.hatch_format.specs.declared.HatchBits.{HatchBits}
 use Rattle.hatch_format.specs.Values.{Gradient, no_gradient, no_text, Body}
 use Rattle.hatch_format.specs.Entries.{words, numbers}
+
+-- the record with each double as its 64 bits
+abbrev pub GradientFillBits : Type 0
+GradientFillBits = GradientFill ℕ GradientColorBits
+
+abbrev pub HatchBits : Type 0
+HatchBits = Hatch ℕ GradientColorBits
 
 abbrev pub zero_color : GradientColorBits
 zero_color = record { unknown_double = 0; unknown_short = pos 0; rgb = 0; ignored_color_byte = 0 }
@@ -53,7 +59,7 @@ record_of a p =
       num_seed_points = length a.rest.tail.ending.seed_points;
       words_used = length (words a.rest);
       numbers_used = length (numbers a.rest);
-      places = as_places p;
+      places = p;
     }
 
 -- a refused call's: zero but for the refusal's places
@@ -77,8 +83,46 @@ zero_record p =
       num_seed_points = 0;
       words_used = 0;
       numbers_used = 0;
-      places = as_places p;
+      places = p;
     }
+
+-- ---- with each double as what `of` makes of its 64 bits, and each colour as what `color` makes of it
+module _ {N C : Type 0} (of : ℕ → N) (color : GradientColorBits → C) where
+  abbrev pub fill_as : GradientFillBits → GradientFill N C
+  fill_as a =
+      record {
+        present = a.present;
+        angle = of a.angle;
+        shift = of a.shift;
+        is_single_color = a.is_single_color;
+        tint = of a.tint;
+        num_colors = a.num_colors;
+        colors = map color a.colors;
+        name = a.name;
+      }
+
+  abbrev pub hatch_as : HatchBits → Hatch N C
+  hatch_as a =
+      record {
+        gradient = fill_as a.gradient;
+        elevation = of a.elevation;
+        extrusion = record { x = of a.extrusion.x; y = of a.extrusion.y; z = of a.extrusion.z };
+        pattern_name = a.pattern_name;
+        solid_fill = a.solid_fill;
+        associative = a.associative;
+        num_paths = a.num_paths;
+        pattern_style = a.pattern_style;
+        pattern_type = a.pattern_type;
+        pattern_angle = of a.pattern_angle;
+        pattern_scale = of a.pattern_scale;
+        pattern_double = a.pattern_double;
+        num_pattern_lines = a.num_pattern_lines;
+        pixel_size = of a.pixel_size;
+        num_seed_points = a.num_seed_points;
+        words_used = a.words_used;
+        numbers_used = a.numbers_used;
+        places = a.places;
+      }
 
 -- ---- as doubles: each is the double of its pattern, the NaN where that is a NaN's
 abbrev pub double : ℕ → Float
@@ -93,42 +137,9 @@ color_as_doubles a =
       ignored_color_byte = a.ignored_color_byte;
     }
 
-abbrev pub colors_as_doubles : List GradientColorBits → List GradientColor
-colors_as_doubles [] = []
-colors_as_doubles (a ∷ cs) = color_as_doubles a ∷ colors_as_doubles cs
+abbrev pub as_doubles : HatchBits → Hatch Float GradientColor
+as_doubles = hatch_as double color_as_doubles
 
-abbrev pub fill_as_doubles : GradientFillBits → GradientFill
-fill_as_doubles a =
-    record {
-      present = a.present;
-      angle = double a.angle;
-      shift = double a.shift;
-      is_single_color = a.is_single_color;
-      tint = double a.tint;
-      num_colors = a.num_colors;
-      colors = colors_as_doubles a.colors;
-      name = a.name;
-    }
-
-abbrev pub as_doubles : HatchBits → Hatch
-as_doubles a =
-    record {
-      gradient = fill_as_doubles a.gradient;
-      elevation = double a.elevation;
-      extrusion = record { x = double a.extrusion.x; y = double a.extrusion.y; z = double a.extrusion.z };
-      pattern_name = a.pattern_name;
-      solid_fill = a.solid_fill;
-      associative = a.associative;
-      num_paths = a.num_paths;
-      pattern_style = a.pattern_style;
-      pattern_type = a.pattern_type;
-      pattern_angle = double a.pattern_angle;
-      pattern_scale = double a.pattern_scale;
-      pattern_double = a.pattern_double;
-      num_pattern_lines = a.num_pattern_lines;
-      pixel_size = double a.pixel_size;
-      num_seed_points = a.num_seed_points;
-      words_used = a.words_used;
-      numbers_used = a.numbers_used;
-      places = a.places;
-    }
+-- ---- as the 64 bits themselves it is the record as it was
+pub hatch_as_bits : (a : HatchBits) → hatch_as (λ n. n) (λ c. c) a ≡ a
+hatch_as_bits a = ap (λ (cs : List GradientColorBits). record a { gradient = record a.gradient { colors = cs } }) (map-id a.gradient.colors)

@@ -3,13 +3,16 @@
 // specs/Call defines a whole call, specs/Demand3 what the third demand says of it, and proofs/Demand3 proves each of its sentences.
 #![tactic(auto)]
 
-ghost use Rattle.std.specs.Prelude.{◌≡◌};
+ghost use Rattle.std.specs.Prelude.{◌≡◌, ⊤};
 ghost use Rattle.hatch_format.specs.Caps.{document_caps};
+ghost use Rattle.hatch_format.specs.Record.{color_as_doubles};
 
-use text::{Places, Text};
+use bitcursor::{Places, values};
+use std::alloc::AllocError;
+use text::Text;
 
 // The greatest count that is read of each list. A boundary handle count is one per path.
-#[derive(Clone, Copy)]
+#[derive(Clone, Copy, Debug, PartialEq, Eq)]
 pub struct Caps {
     pub colors: usize,
     pub paths: usize,
@@ -43,9 +46,9 @@ pub fn document_caps() -> Caps
     }
 }
 
-// As C lays it out, since the C boundary hands it over as it is.
+// A gradient's colour with its double as f64, as C lays it out, since the C boundary hands it over as it is.
 #[repr(C)]
-#[derive(Clone, Copy)]
+#[derive(Clone, Copy, Debug, PartialEq)]
 pub struct GradientColor {
     pub unknown_double: f64,
     pub unknown_short: i16,
@@ -53,52 +56,9 @@ pub struct GradientColor {
     pub ignored_color_byte: u8,
 }
 
-// The gradient of a hatch, or zero throughout where there is none; colours past their count are zero.
-#[derive(Clone, Copy)]
-pub struct GradientFill {
-    pub present: bool,
-    pub angle: f64,
-    pub shift: f64,
-    pub is_single_color: u32,
-    pub tint: f64,
-    pub num_colors: usize,
-    pub colors: [GradientColor; 16],
-    pub name: Text,
-}
-
-#[derive(Clone, Copy)]
-pub struct Vec3D {
-    pub x: f64,
-    pub y: f64,
-    pub z: f64,
-}
-
-// What a hatch call hands over by value: document 01's record. The rest goes to the two lent lists, so far as their lengths used say.
-#[derive(Clone, Copy)]
-pub struct Hatch {
-    pub gradient: GradientFill,
-    pub elevation: f64,
-    pub extrusion: Vec3D,
-    pub pattern_name: Text,
-    pub solid_fill: bool,
-    pub associative: bool,
-    pub num_paths: usize,
-    pub pattern_style: u16,
-    pub pattern_type: u16,
-    pub pattern_angle: f64,
-    pub pattern_scale: f64,
-    pub pattern_double: bool,
-    pub num_pattern_lines: usize,
-    pub pixel_size: f64,
-    pub num_seed_points: usize,
-    pub words_used: usize,
-    pub numbers_used: usize,
-    pub places: Places,
-}
-
-// The same with each double as its 64 bits.
+// The same with the double as its 64 bits: a struct of its own, since what crosses to C may have no type arguments.
 #[repr(C)]
-#[derive(Clone, Copy)]
+#[derive(Clone, Copy, Debug, PartialEq, Eq)]
 pub struct GradientColorBits {
     pub unknown_double: u64,
     pub unknown_short: i16,
@@ -106,43 +66,106 @@ pub struct GradientColorBits {
     pub ignored_color_byte: u8,
 }
 
-#[derive(Clone, Copy)]
-pub struct GradientFillBits {
+// What a caller has a colour as.
+pub trait Color: Copy {
+    ghost use Rattle.hatch_format.specs.declared.GradientColorBits.{GradientColorBits};
+
+    ghost of_bits: { GradientColorBits → Self };
+
+    fn from_bits(color: GradientColorBits) -> Self
+        ensures { result ≡ of_bits color };
+}
+
+impl Color for GradientColor {
+    ghost of_bits = { color_as_doubles };
+
+    fn from_bits(color: GradientColorBits) -> GradientColor {
+        GradientColor {
+            unknown_double: values::double_of(color.unknown_double),
+            unknown_short: color.unknown_short,
+            rgb: color.rgb,
+            ignored_color_byte: color.ignored_color_byte,
+        }
+    }
+}
+
+impl Color for GradientColorBits {
+    ghost of_bits = { λ color. color };
+
+    fn from_bits(color: GradientColorBits) -> GradientColorBits {
+        color
+    }
+}
+
+// The gradient of a hatch; colours past their count are zero. `present` is a field, and not an Option around the others, since document 01
+// has the record zero throughout where there is no gradient.
+#[derive(Copy)]
+pub struct GradientFill<N = f64, C = GradientColor> {
     pub present: bool,
-    pub angle: u64,
-    pub shift: u64,
+    pub angle: N,
+    pub shift: N,
     pub is_single_color: u32,
-    pub tint: u64,
+    pub tint: N,
     pub num_colors: usize,
-    pub colors: [GradientColorBits; 16],
+    pub colors: [C; 16],
     pub name: Text,
 }
 
-#[derive(Clone, Copy)]
-pub struct Vec3DBits {
-    pub x: u64,
-    pub y: u64,
-    pub z: u64,
+// A copy of the whole: a derived `clone` would go colour by colour, and its proof meets the check's limit.
+impl<N: Copy, C: Copy> Clone for GradientFill<N, C> {
+    ghost is_clone = { λ x y. y ≡ x };
+
+    ghost is_infallible = { λ _. ⊤ };
+
+    fn clone(&self) -> Result<Self, AllocError> {
+        Ok(*self)
+    }
 }
 
-#[derive(Clone, Copy)]
-pub struct HatchBits {
-    pub gradient: GradientFillBits,
-    pub elevation: u64,
-    pub extrusion: Vec3DBits,
+#[derive(Clone, Copy, Debug, PartialEq, Eq)]
+pub struct Vec3D<N = f64> {
+    pub x: N,
+    pub y: N,
+    pub z: N,
+}
+
+// What a hatch call hands over by value: document 01's record. The rest goes to the two lent lists, so far as their lengths used say.
+#[derive(Copy)]
+pub struct Hatch<N = f64, C = GradientColor> {
+    pub gradient: GradientFill<N, C>,
+    pub elevation: N,
+    pub extrusion: Vec3D<N>,
     pub pattern_name: Text,
     pub solid_fill: bool,
     pub associative: bool,
     pub num_paths: usize,
     pub pattern_style: u16,
     pub pattern_type: u16,
-    pub pattern_angle: u64,
-    pub pattern_scale: u64,
+    pub pattern_angle: N,
+    pub pattern_scale: N,
     pub pattern_double: bool,
     pub num_pattern_lines: usize,
-    pub pixel_size: u64,
+    pub pixel_size: N,
     pub num_seed_points: usize,
     pub words_used: usize,
     pub numbers_used: usize,
     pub places: Places,
 }
+
+// As that of a gradient.
+impl<N: Copy, C: Copy> Clone for Hatch<N, C> {
+    ghost is_clone = { λ x y. y ≡ x };
+
+    ghost is_infallible = { λ _. ⊤ };
+
+    fn clone(&self) -> Result<Self, AllocError> {
+        Ok(*self)
+    }
+}
+
+// The same with each double as its 64 bits.
+pub type GradientFillBits = GradientFill<u64, GradientColorBits>;
+
+pub type Vec3DBits = Vec3D<u64>;
+
+pub type HatchBits = Hatch<u64, GradientColorBits>;

@@ -2,6 +2,7 @@
 use Rattle.std.specs.Prelude.{◌≡◌, refl, Bool, true, false, List, [], ◌∷◌, ◌++◌, ℕ, zero, suc, ◌*◌, ◌≤◌, length}
 use Rattle.std.proofs.Common.{sym, ap, ap₂, ◌∙◌, append_assoc, append-nil, suc-mul, arith, length-append}
 use Rattle.std.proofs.lemmas.List.{length-replicate, replicate-append-replicate}
+use Rattle.std.proofs.lemmas.Grind.{flat_map-append}
 use Rattle.hatch_format.specs.declared.Caps.{Caps}
 use Rattle.hatch_format.specs.Values.{Point, Vertex, Fits, unfitted, fitted, Edge, line, arc, ellipse, spline, Segments, polyline, edges}
 use Rattle.hatch_format.specs.Values.{Path, polylined, PatternLine}
@@ -16,8 +17,7 @@ use Rattle.hatch_lists.specs.Coordinates.{held_roles, point_run, item_roles}
 
 -- ---- lists
 pub gathered_append : {A B : Type 0} (f : A → List B) (l m : List A) → gathered f (l ++ m) ≡ gathered f l ++ gathered f m
-gathered_append f [] m = refl
-gathered_append f (a ∷ l) m = ap (λ r. f a ++ r) (gathered_append f l m) ∙ sym (append_assoc (f a) (gathered f l) (gathered f m))
+gathered_append = flat_map-append
 
 -- where f of all that an item has by g is what it has by h, the same holds of the list
 pub gathered_by : {A B C : Type 0} (f : B → List C) (g : A → List B) (h : A → List C) (P : A → Type 0) → ((a : A) → P a → gathered f (g a) ≡ h a)

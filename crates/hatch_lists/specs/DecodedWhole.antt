@@ -13,6 +13,7 @@ use Rattle.text.specs.declared.Text.{Text}
 use Rattle.text.specs.declared.version.Version.{Version}
 use Rattle.text.specs.Releases.{release_number}
 use Rattle.hatch_format.specs.declared.Caps.{Caps}
+use Rattle.hatch_format.specs.declared.GradientColorBits.{GradientColorBits}
 use Rattle.hatch_format.specs.Caps.{document_caps, NowhereAbove}
 use Rattle.hatch_format.specs.HandleRule.{Handles, in_payload, in_stream}
 use Rattle.hatch_format.specs.Values.{Vertex, Fits, unfitted, fitted, Spline, Edge, line, arc, ellipse, spline, Segments, polyline, edges, Path, polylined}
@@ -20,12 +21,12 @@ use Rattle.hatch_format.specs.Values.{add_handles, PatternLine, Pattern, Block, 
 use Rattle.hatch_format.specs.Layouts.{VertexLaid, FitsLaid, SplineLaid, EdgeLaid, SegmentsLaid, HandlesLaid, PathLaid, LineLaid, PatternLaid, RestLaid}
 use Rattle.hatch_format.specs.Layouts.{GradientLaid, BodyLaid}
 use Rattle.hatch_format.specs.Entries.{words, numbers}
-use Rattle.hatch_format.specs.Record.{record_of, as_doubles}
+use Rattle.hatch_format.specs.Record.{HatchBits, record_of, hatch_as, as_doubles}
 use Rattle.hatch_format.specs.Call.{Call, hatch_call}
 use Rattle.hatch_format.proofs.Demand3.{read_iff_laid}
 use Rattle.hatch_lists.specs.Within.{All, VertexWithin, FitsWithin, SplineWithin, EdgeWithin, SegmentsWithin, PathWithin, LineWithin}
 use Rattle.hatch_lists.specs.Holding.{Holding, holding_of, HoldingWithin}
-use Rattle.hatch_lists.specs.Whole.{counts_of_bits, counts_of, Whole}
+use Rattle.hatch_lists.specs.Whole.{counts_of, Whole}
 use Rattle.hatch_lists.specs.Items.{held_items}
 use Rattle.hatch_lists.specs.WholeLaws.{Written, entries_whole, numbers_altered}
 
@@ -173,7 +174,7 @@ bit_small : (b : Bool) → bit b ≤ 1
 bit_small true = omega arith
 bit_small false = omega arith
 
-pub body_written : (a : Body) (q : Places) → BodyWithin document_caps a → Written (counts_of_bits (record_of a q)) (holding_of a.rest)
+pub body_written : (a : Body) (q : Places) → BodyWithin document_caps a → Written (counts_of (record_of a q)) (holding_of a.rest)
 body_written a q h =
     record {
       fits =
@@ -194,22 +195,22 @@ body_written a q h =
     }
 
 pub body_whole : (a : Body) (q : Places) → BodyWithin document_caps a → (vs ms : List ℕ)
-    → Whole (counts_of_bits (record_of a q)) (words a.rest ++ vs) (numbers a.rest ++ ms) (holding_of a.rest)
-body_whole a q h vs ms = entries_whole (holding_of a.rest) (counts_of_bits (record_of a q)) vs ms (body_written a q h) h.rest.held
+    → Whole (counts_of (record_of a q)) (words a.rest ++ vs) (numbers a.rest ++ ms) (holding_of a.rest)
+body_whole a q h vs ms = entries_whole (holding_of a.rest) (counts_of (record_of a q)) vs ms (body_written a q h) h.rest.held
 
 -- whatever is laid out is whole
 pub laid_whole : (caps : Caps) → NowhereAbove caps document_caps → (handles : Handles) (v : Version) (γ : Payloads) (a : Body) (p q : Places)
     → BodyLaid caps handles v γ a p q → (vs ms : List ℕ)
-    → Whole (counts_of_bits (record_of a q)) (words a.rest ++ vs) (numbers a.rest ++ ms) (holding_of a.rest)
+    → Whole (counts_of (record_of a q)) (words a.rest ++ vs) (numbers a.rest ++ ms) (holding_of a.rest)
 laid_whole caps h handles v γ a p q l vs ms = body_whole a q (laid_within caps document_caps h handles v γ a p q l) vs ms
 
--- the record as doubles says the same of its lists
-pub doubles_counts : (a : Body) (q : Places) → counts_of (as_doubles (record_of a q)) ≡ counts_of_bits (record_of a q)
-doubles_counts a q = refl
+-- the record as doubles says the same of its lists, and so does one with any other values for doubles and colours
+pub doubles_counts : {N C : Type 0} (of : ℕ → N) (color : GradientColorBits → C) (h : HatchBits) → counts_of (hatch_as of color h) ≡ counts_of h
+doubles_counts of color h = refl
 
 -- ---- of a call: whatever it hands over is whole
 module _ (c : Call) (h : NowhereAbove c.caps document_caps) (a : Body) (q : Places) (e : hatch_call c ≡ got a q) where
-  pub decoded_whole : (vs ms : List ℕ) → Whole (counts_of_bits (record_of a q)) (words a.rest ++ vs) (numbers a.rest ++ ms) (holding_of a.rest)
+  pub decoded_whole : (vs ms : List ℕ) → Whole (counts_of (record_of a q)) (words a.rest ++ vs) (numbers a.rest ++ ms) (holding_of a.rest)
   decoded_whole vs ms = let l = (read_iff_laid c a q).0 e in laid_whole c.caps h c.handles l.version _ a _ q l.laid vs ms
 
   -- a call over f64 hands over doubles: whatever 64 bits these have, and whatever is behind them, record and lists hold the same items
@@ -219,4 +220,4 @@ module _ (c : Call) (h : NowhereAbove c.caps document_caps) (a : Body) (q : Plac
       let n = length (numbers a.rest) in
       let ms = drop n ns in
       let same : length ns ≡ length (numbers a.rest ++ ms) = omega (arith, k, length-append (numbers a.rest) ms, length-drop n ns) in
-      numbers_altered (counts_of_bits (record_of a q)) (words a.rest ++ vs) (numbers a.rest ++ ms) ns (holding_of a.rest) (decoded_whole vs ms) same
+      numbers_altered (counts_of (record_of a q)) (words a.rest ++ vs) (numbers a.rest ++ ms) ns (holding_of a.rest) (decoded_whole vs ms) same

@@ -9,13 +9,14 @@ use Rattle.bitcursor.specs.Format.{Format, pure, ◌>>=◌, relay}
 use Rattle.hatch_format.specs.declared.Caps.{Caps}
 use Rattle.hatch_format.specs.Values.{Edge, Segments, polyline, edges, Path, polylined}
 use Rattle.hatch_format.specs.Counts.{times}
+use Rattle.hatch_lists.specs.declared.Head.{Head}
 use Rattle.hatch_lists.specs.declared.Item.{Item}
 use Rattle.hatch_lists.specs.Items.{no_item, item_size, gathered, edge_item, edge_items, path_items, segment_items}
 use Rattle.hatch_lists.specs.Lists.{Lists, lists, word, entry, count}
 use Rattle.hatch_lists.specs.Within.{SegmentsWithin}
 use Rattle.hatch_lists.specs.Edges.{edge}
 use Rattle.hatch_lists.specs.Paths.{segments, segments_read, path, path_read}
-use Rattle.hatch_lists.specs.Steps.{Step, next, broken, and_next, a_word, a_count, Head}
+use Rattle.hatch_lists.specs.Steps.{Step, next, broken, and_next, a_word, a_count}
 use Rattle.hatch_lists.specs.Steps.{vertices_step, polyline_step, edges_step, head_by, handles_step, edge_step}
 use Rattle.hatch_lists.specs.Walks.{Left, left_of, passing, stepping, prepend, Walk, item_then, times_then, parts_then, path_then}
 use Rattle.hatch_lists.specs.Says.{left, summary, Says, with_numbers, SaysWords, says_word, says_count, pass_none}

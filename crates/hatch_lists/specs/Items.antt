@@ -1,5 +1,6 @@
 -- The items of paths and pattern lines: how many numbers each has, and where its coordinates stand. Assumes nothing.
 use Rattle.std.specs.Prelude.{Bool, true, false, List, [], ◌∷◌, ◌++◌, ℕ, zero, suc, ◌+◌, ◌*◌, length}
+use Rattle.std.specs.List.{flat_map}
 use Rattle.hatch_format.specs.Values.{Edge, line, arc, ellipse, spline, Segments, polyline, edges, Path, PatternLine}
 use Rattle.hatch_format.specs.Entries.{fit_count}
 use Rattle.hatch_lists.specs.declared.Item.{Item}
@@ -52,8 +53,7 @@ line_item a = dashed_item (length a.dashes)
 
 -- what each of the list has, one behind the other
 abbrev pub gathered : {A B : Type 0} → (A → List B) → List A → List B
-gathered f [] = []
-gathered f (a ∷ items) = f a ++ gathered f items
+gathered = flat_map
 
 abbrev pub edge_items : List Edge → List Item
 edge_items [] = no_item ∷ []

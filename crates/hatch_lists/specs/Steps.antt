@@ -2,6 +2,7 @@
 use Rattle.std.specs.Prelude.{Bool, true, false, List, [], ◌∷◌, ℕ, zero, suc, leb}
 use Rattle.hatch_format.specs.declared.Caps.{Caps}
 use Rattle.hatch_format.specs.Values.{polylined}
+use Rattle.hatch_lists.specs.declared.Head.{Head}
 use Rattle.hatch_lists.specs.declared.Item.{Item}
 use Rattle.hatch_lists.specs.Items.{item, no_item, points_item, polyline_item, spline_item, dashed_item}
 
@@ -34,11 +35,6 @@ count_if false n ws = broken
 abbrev pub a_count : ℕ → List ℕ → Step (List ℕ) ℕ
 a_count cap ws = and_next (a_word ws) (λ n. count_if (leb n cap) n)
 
--- what follows a path's flags up to its numbers: a polyline has its handle count too; a path of edges goes on with so many edges and a handle count
-pub record Head : Type 0 where
-  pub item : Item
-  pub parts : ℕ
-
 -- ---- an edge: with a switch, so many points before so many other numbers
 abbrev pub turned_step : ℕ → ℕ → List ℕ → Step (List ℕ) Item
 turned_step points behind ws = and_next (a_switch ws) (λ ccw. next (item 0 points 2 0 behind))
@@ -65,7 +61,7 @@ module _ (caps : Caps) where
   abbrev pub edge_step : List ℕ → Step (List ℕ) Item
   edge_step ws = and_next (a_word ws) edge_by
 
-  -- ---- a path's head
+  -- ---- a path's head: a polyline has its handle count too; a path of edges goes on with so many edges and a handle count
   abbrev pub handles_step : List ℕ → Step (List ℕ) Item
   handles_step ws = and_next (a_count caps.boundary_handles ws) (λ n. next no_item)
 

@@ -3,28 +3,13 @@ use Rattle.std.specs.Prelude.{◌≡◌, Bool, true, false, ◌&&◌, List, [], 
 use Rattle.loads.specs.Bits.{bit}
 use Rattle.bitcursor.specs.Reading.{Out, got, refused}
 use Rattle.hatch_format.specs.declared.Hatch.{Hatch}
-use Rattle.hatch_format.specs.declared.HatchBits.{HatchBits}
 use Rattle.hatch_format.specs.Caps.{document_caps}
 use Rattle.hatch_lists.specs.declared.HatchCounts.{HatchCounts}
 use Rattle.hatch_lists.specs.Lists.{Lists, lists_of}
 use Rattle.hatch_lists.specs.Holding.{Holding, held_words, held_numbers, HoldingWithin, Numbered, holding}
 
--- ---- what a record says of its lists: that of a call over 64 bits, and that of one over f64
-abbrev pub counts_of_bits : HatchBits → HatchCounts
-counts_of_bits h =
-    record {
-      solid_fill = bit h.solid_fill;
-      associative = bit h.associative;
-      pattern_double = bit h.pattern_double;
-      num_colors = h.gradient.num_colors;
-      num_paths = h.num_paths;
-      num_pattern_lines = h.num_pattern_lines;
-      num_seed_points = h.num_seed_points;
-      words_used = h.words_used;
-      numbers_used = h.numbers_used;
-    }
-
-abbrev pub counts_of : Hatch → HatchCounts
+-- ---- what a record says of its lists, whatever its doubles and colours are
+abbrev pub counts_of : {N C : Type 0} → Hatch N C → HatchCounts
 counts_of h =
     record {
       solid_fill = bit h.solid_fill;

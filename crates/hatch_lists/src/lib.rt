@@ -4,7 +4,7 @@
 #![tactic(auto)]
 
 // What a record says of its lists: its switches as bytes, its counts, and the lengths used.
-#[derive(Clone, Copy)]
+#[derive(Clone, Copy, Debug, PartialEq, Eq)]
 pub struct HatchCounts {
     pub solid_fill: u8,
     pub associative: u8,
@@ -19,11 +19,18 @@ pub struct HatchCounts {
 
 // Where the coordinates stand among the numbers of one item: a polyline, an edge, a pattern line, or the seed points. First come numbers that are
 // no coordinates, then points with so many numbers from each to the next, then fit points, then numbers that are no coordinates.
-#[derive(Clone, Copy)]
+#[derive(Clone, Copy, Debug, PartialEq, Eq)]
 pub struct Item {
     pub before: usize,
     pub points: usize,
     pub stride: usize,
     pub fit_points: usize,
     pub behind: usize,
+}
+
+// What follows a path's flags, up to its numbers or edges: its item, and how many parts of the path follow.
+#[derive(Clone, Copy, Debug, PartialEq, Eq)]
+pub struct Head {
+    pub item: Item,
+    pub parts: usize,
 }

@@ -1,11 +1,27 @@
--- What the words of one item are found to be: the definition's step from the index on, and the index behind it. Assumes nothing.
-use Rattle.std.specs.Prelude.{◌≡◌, Bool, ◌&&◌, List, leb, ℕ, ◌≤◌, ◌<◌, length, drop}
+-- What is found at an index: the definition's step from there on, and the index behind it. Assumes nothing.
+use Rattle.std.specs.Prelude.{◌≡◌, Bool, List, ℕ, ◌≤◌, ◌<◌, ◌^◌, Option, Some, None, length, drop}
+use Rattle.hatch_lists.specs.declared.Head.{Head}
 use Rattle.hatch_lists.specs.declared.Item.{Item}
-use Rattle.hatch_lists.specs.Steps.{Step, next, broken, Head}
-use Rattle.list_items.specs.declared.ItemAt.{ItemAt}
-use Rattle.list_items.specs.declared.ItemAt.TheVariants.{Found, Broken}
-use Rattle.list_items.specs.declared.HeadAt.{HeadAt}
-use Rattle.list_items.specs.declared.HeadAt.TheVariants.{Found as FoundHead, Broken as BrokenHead}
+use Rattle.hatch_lists.specs.Steps.{Step, next, broken}
+
+-- the index behind is further on, and within the list
+pub record Behind (ws : List ℕ) (at to : ℕ) : Type 0 where
+  pub further : at < to
+  pub within : to ≤ length ws
+
+-- the value is the step's, and has a property; behind it stand the words that the step leaves; or the step breaks off
+abbrev pub Finds : {A : Type 0} → (A → Type 0) → List ℕ → ℕ → Option (A × ℕ) → (List ℕ → Step (List ℕ) A) → Type 0
+Finds P ws at (Some f) step = (step (drop at ws) ≡ next f.0 (drop f.1 ws)) × Behind ws at f.1 × P f.0
+Finds P ws at None step = step (drop at ws) ≡ broken
+
+abbrev pub IsWord : ℕ → Type 0
+IsWord n = n < 2 ^ 32
+
+abbrev pub IsSwitch : Bool → Type 0
+IsSwitch b = Unit {0}
+
+abbrev pub IsCount : ℕ → ℕ → Type 0
+IsCount most n = n ≤ most
 
 -- within document 01's caps, so that an item's numbers are few enough to be counted
 pub record Small (i : Item) : Type 0 where
@@ -16,24 +32,6 @@ pub record Small (i : Item) : Type 0 where
   pub fits : i.fit_points ≤ 100_000
   pub behind : i.behind ≤ 100
 
--- the index behind is further on, and within the list
-pub record Behind (ws : List ℕ) (at to : ℕ) : Type 0 where
-  pub further : at < to
-  pub within : to ≤ length ws
-
-abbrev pub Finds : List ℕ → ℕ → ItemAt → (List ℕ → Step (List ℕ) Item) → Type 0
-Finds ws at (Found i to) step = (step (drop at ws) ≡ next i (drop to ws)) × Behind ws at to × Small i
-Finds ws at Broken step = step (drop at ws) ≡ broken
-
-abbrev pub FindsHead : List ℕ → ℕ → HeadAt → (List ℕ → Step (List ℕ) Head) → Type 0
-FindsHead ws at (FoundHead i parts to) step =
-    (step (drop at ws) ≡ next (record { item = i; parts = parts }) (drop to ws)) × Behind ws at to × Small i × (parts ≤ 100_001)
-FindsHead ws at BrokenHead step = step (drop at ws) ≡ broken
-
--- the words of a spline behind its degree, and those of a polyline behind its flags, are those of a hatch
-abbrev pub spline_words : ℕ → ℕ → ℕ → ℕ → ℕ → Bool
-spline_words rational periodic knots controls fits =
-    leb rational 1 && (leb periodic 1 && (leb knots 100_000 && (leb controls 100_000 && leb fits 100_000)))
-
-abbrev pub polyline_words : ℕ → ℕ → ℕ → ℕ → Bool
-polyline_words bulge closed vertices handles = leb bulge 1 && (leb closed 1 && (leb vertices 100_000 && leb handles 1_024))
+-- and a head's parts too
+abbrev pub SmallHead : Head → Type 0
+SmallHead h = Small h.item × (h.parts ≤ 100_001)

@@ -3,216 +3,186 @@
 // specs/ promise of each that it is crate hatch_lists' step from the index on, and the index of the word behind it.
 #![tactic(auto)]
 
-ghost use Rattle.std.specs.Prelude.{◌≡◌, ◌+◌, ◌^◌, ◌≤◌, ◌<◌, length, get_or};
+ghost use Rattle.std.specs.Prelude.{◌≡◌, ◌≤◌};
 ghost use Rattle.hatch_format.specs.Caps.{document_caps};
-ghost use Rattle.hatch_lists.specs.Items.{item, tangent_numbers};
-ghost use Rattle.hatch_lists.specs.Steps.{turned_step, spline_step, edge_step, handles_step, polyline_step, edges_step, head_step, line_step};
-ghost use Rattle.list_items.specs.Found.{Finds, FindsHead, spline_words, polyline_words};
+ghost use Rattle.hatch_lists.specs.Items.{stride_of, tangent_numbers};
+ghost use Rattle.hatch_lists.specs.Steps.{a_word, a_switch, a_count, turned_step, spline_step, edge_step, handles_step};
+ghost use Rattle.hatch_lists.specs.Steps.{polyline_step, edges_step, head_step, line_step};
+ghost use Rattle.list_items.specs.Found.{Finds, IsWord, IsSwitch, IsCount, Small, SmallHead};
 
-use hatch_lists::Item;
+use hatch_lists::{Head, Item};
 
-// An item and the index of the word behind it, or none.
-#[derive(Drop)]
-pub enum ItemAt {
-    Found(Item, usize),
-    Broken,
-}
+// No numbers, as a count alone has.
+const NO_ITEM: Item = Item {
+    before: 0,
+    points: 0,
+    stride: 2,
+    fit_points: 0,
+    behind: 0,
+};
 
-// A path's head: its item, how many parts of the path follow, and the index of the word behind the head; or none.
-#[derive(Drop)]
-pub enum HeadAt {
-    Found(Item, usize, usize),
-    Broken,
-}
-
-// A word as a count.
-fn word(words: &[u32], at: usize) -> usize
-    requires { at < length words.now }
-    ensures { (result ≡ get_or words.now at 0) × (result < 2 ^ 32) }
+// A word, and the index behind it.
+fn word(words: &[u32], at: usize) -> Option<(usize, usize)>
+    ensures { Finds IsWord words.now at result a_word }
 {
-    words[at] as usize
+    let w = words.get(at)?;
+    Some((*w as usize, at + 1))
 }
 
-fn item(before: usize, points: usize, stride: usize, fit_points: usize, behind: usize) -> Item
-    ensures { result ≡ item before points stride fit_points behind }
+// A word that is 0 or 1.
+fn switch(words: &[u32], at: usize) -> Option<(bool, usize)>
+    ensures { Finds IsSwitch words.now at result a_switch }
 {
-    Item {
-        before: before,
-        points: points,
-        stride: stride,
-        fit_points: fit_points,
-        behind: behind,
+    match word(words, at)? {
+        (0, to) => Some((false, to)),
+        (1, to) => Some((true, to)),
+        _ => None,
     }
 }
 
-// Behind an arc's or an ellipse's kind: a switch; so many points stand before so many other numbers.
-fn turned_item(words: &[u32], at: usize, points: usize, behind: usize) -> ItemAt
-    requires { (at ≤ length words.now) × ((points ≤ 2) × (behind ≤ 8)) }
-    ensures { Finds words.now at result (turned_step points behind) }
+// A word that is at most so much.
+fn count(words: &[u32], at: usize, most: usize) -> Option<(usize, usize)>
+    ensures { Finds (IsCount most) words.now at result (a_count most) }
 {
-    if at == words.len() {
-        return ItemAt::Broken;
+    let (n, to) = word(words, at)?;
+    if most < n {
+        return None;
     }
-    if 1 < word(words, at) {
-        return ItemAt::Broken;
-    }
-    ItemAt::Found(item(0, points, 2, 0, behind), at + 1)
+    Some((n, to))
+}
+
+// From a vertex to the next, or from a control point to the next: with a bulge or a weight behind each, or not.
+fn stride_of(more: bool) -> usize
+    ensures { result ≡ stride_of more }
+{
+    if more { 3 } else { 2 }
 }
 
 // Two tangents behind fit points.
 fn tangent_numbers(fit_points: usize) -> usize
     ensures { result ≡ tangent_numbers fit_points }
 {
-    if fit_points == 0 {
-        return 0;
-    }
-    4
+    if fit_points == 0 { 0 } else { 4 }
 }
 
-// A spline's two switches are 0 or 1, its three counts within document 01's caps.
-fn is_spline(rational: usize, periodic: usize, knots: usize, controls: usize, fits: usize) -> bool
-    ensures { result ≡ spline_words rational periodic knots controls fits }
+// Behind an arc's or an ellipse's kind: a switch; so many points stand before so many other numbers.
+fn turned_item(words: &[u32], at: usize, points: usize, behind: usize) -> Option<(Item, usize)>
+    requires { (points ≤ 2) × (behind ≤ 8) }
+    ensures { Finds Small words.now at result (turned_step points behind) }
 {
-    if 1 < rational {
-        return false;
-    }
-    if 1 < periodic {
-        return false;
-    }
-    if 100_000 < knots {
-        return false;
-    }
-    if 100_000 < controls {
-        return false;
-    }
-    fits <= 100_000
+    let (_counterclockwise, at) = switch(words, at)?;
+    let item = Item {
+        points: points,
+        behind: behind,
+        ..NO_ITEM
+    };
+    Some((item, at))
 }
 
 // Behind a spline's kind: degree, two switches and three counts; knots, control points, fit points and tangents.
-fn spline_item(words: &[u32], at: usize) -> ItemAt
-    requires { at ≤ length words.now }
-    ensures { Finds words.now at result (spline_step document_caps) }
+fn spline_item(words: &[u32], at: usize) -> Option<(Item, usize)>
+    ensures { Finds Small words.now at result (spline_step document_caps) }
 {
-    if words.len() - at < 6 {
-        return ItemAt::Broken;
-    }
-    let rational = word(words, at + 1);
-    let periodic = word(words, at + 2);
-    let knots = word(words, at + 3);
-    let controls = word(words, at + 4);
-    let fits = word(words, at + 5);
-    if !is_spline(rational, periodic, knots, controls, fits) {
-        return ItemAt::Broken;
-    }
-    let tangents = tangent_numbers(fits);
-    ItemAt::Found(item(knots, controls, 2 + rational, fits, tangents), at + 6)
+    let (_degree, at) = word(words, at)?;
+    let (rational, at) = switch(words, at)?;
+    let (_periodic, at) = switch(words, at)?;
+    let (knots, at) = count(words, at, 100_000)?;
+    let (controls, at) = count(words, at, 100_000)?;
+    let (fits, at) = count(words, at, 100_000)?;
+    let item = Item {
+        before: knots,
+        points: controls,
+        stride: stride_of(rational),
+        fit_points: fits,
+        behind: tangent_numbers(fits),
+    };
+    Some((item, at))
 }
 
 // An edge: its kind, and what the kind has.
-pub fn edge_item(words: &[u32], at: usize) -> ItemAt
-    requires { at ≤ length words.now }
-    ensures { Finds words.now at result (edge_step document_caps) }
+pub fn edge_item(words: &[u32], at: usize) -> Option<(Item, usize)>
+    ensures { Finds Small words.now at result (edge_step document_caps) }
 {
-    if at == words.len() {
-        return ItemAt::Broken;
-    }
-    match word(words, at) {
-        1 => ItemAt::Found(item(0, 2, 2, 0, 0), at + 1),
-        2 => turned_item(words, at + 1, 1, 3),
-        3 => turned_item(words, at + 1, 1, 5),
-        4 => spline_item(words, at + 1),
-        _ => ItemAt::Broken,
+    let (kind, at) = word(words, at)?;
+    match kind {
+        1 => Some((
+            Item {
+                points: 2,
+                ..NO_ITEM
+            },
+            at,
+        )),
+        2 => turned_item(words, at, 1, 3),
+        3 => turned_item(words, at, 1, 5),
+        4 => spline_item(words, at),
+        _ => None,
     }
 }
 
 // The handle count of a path of edges, which has no numbers.
-pub fn handles_item(words: &[u32], at: usize) -> ItemAt
-    requires { at ≤ length words.now }
-    ensures { Finds words.now at result (handles_step document_caps) }
+pub fn handles_item(words: &[u32], at: usize) -> Option<(Item, usize)>
+    ensures { Finds Small words.now at result (handles_step document_caps) }
 {
-    if at == words.len() {
-        return ItemAt::Broken;
-    }
-    if 1_024 < word(words, at) {
-        return ItemAt::Broken;
-    }
-    ItemAt::Found(item(0, 0, 2, 0, 0), at + 1)
+    let (_handles, at) = count(words, at, 1_024)?;
+    Some((NO_ITEM, at))
 }
 
 // A pattern line: angle, origin, offset and so many dashes.
-pub fn line_item(words: &[u32], at: usize) -> ItemAt
-    requires { at ≤ length words.now }
-    ensures { Finds words.now at result (line_step document_caps) }
+pub fn line_item(words: &[u32], at: usize) -> Option<(Item, usize)>
+    ensures { Finds Small words.now at result (line_step document_caps) }
 {
-    if at == words.len() {
-        return ItemAt::Broken;
-    }
-    let dashes = word(words, at);
-    if 64 < dashes {
-        return ItemAt::Broken;
-    }
-    ItemAt::Found(item(1, 1, 2, 0, 2 + dashes), at + 1)
-}
-
-// A polyline's two switches are 0 or 1, its two counts within document 01's caps.
-fn is_polyline(bulge: usize, closed: usize, vertices: usize, handles: usize) -> bool
-    ensures { result ≡ polyline_words bulge closed vertices handles }
-{
-    if 1 < bulge {
-        return false;
-    }
-    if 1 < closed {
-        return false;
-    }
-    if 100_000 < vertices {
-        return false;
-    }
-    handles <= 1_024
+    let (dashes, at) = count(words, at, 64)?;
+    let item = Item {
+        before: 1,
+        points: 1,
+        behind: 2 + dashes,
+        ..NO_ITEM
+    };
+    Some((item, at))
 }
 
 // Behind a polyline's flags: all its words, the handle count too.
-fn polyline_head(words: &[u32], at: usize) -> HeadAt
-    requires { at ≤ length words.now }
-    ensures { FindsHead words.now at result (polyline_step document_caps) }
+fn polyline_head(words: &[u32], at: usize) -> Option<(Head, usize)>
+    ensures { Finds SmallHead words.now at result (polyline_step document_caps) }
 {
-    if words.len() - at < 4 {
-        return HeadAt::Broken;
-    }
-    let bulge = word(words, at);
-    let closed = word(words, at + 1);
-    let vertices = word(words, at + 2);
-    let handles = word(words, at + 3);
-    if !is_polyline(bulge, closed, vertices, handles) {
-        return HeadAt::Broken;
-    }
-    HeadAt::Found(item(0, vertices, 2 + bulge, 0, 0), 0, at + 4)
+    let (bulge, at) = switch(words, at)?;
+    let (_closed, at) = switch(words, at)?;
+    let (vertices, at) = count(words, at, 100_000)?;
+    let (_handles, at) = count(words, at, 1_024)?;
+    let item = Item {
+        points: vertices,
+        stride: stride_of(bulge),
+        ..NO_ITEM
+    };
+    Some((
+        Head {
+            item: item,
+            parts: 0,
+        },
+        at,
+    ))
 }
 
 // Behind the flags of a path of edges: how many; the parts that follow are these and a handle count.
-fn edges_head(words: &[u32], at: usize) -> HeadAt
-    requires { at ≤ length words.now }
-    ensures { FindsHead words.now at result (edges_step document_caps) }
+fn edges_head(words: &[u32], at: usize) -> Option<(Head, usize)>
+    ensures { Finds SmallHead words.now at result (edges_step document_caps) }
 {
-    if at == words.len() {
-        return HeadAt::Broken;
-    }
-    let edges = word(words, at);
-    if 100_000 < edges {
-        return HeadAt::Broken;
-    }
-    HeadAt::Found(item(0, 0, 2, 0, 0), edges + 1, at + 1)
+    let (edges, at) = count(words, at, 100_000)?;
+    let head = Head {
+        item: NO_ITEM,
+        parts: edges + 1,
+    };
+    Some((head, at))
 }
 
 // A path's flags, and what follows them up to its numbers or edges.
-pub fn path_head(words: &[u32], at: usize) -> HeadAt
-    requires { at ≤ length words.now }
-    ensures { FindsHead words.now at result (head_step document_caps) }
+pub fn path_head(words: &[u32], at: usize) -> Option<(Head, usize)>
+    ensures { Finds SmallHead words.now at result (head_step document_caps) }
 {
-    if at == words.len() {
-        return HeadAt::Broken;
+    let (flags, at) = word(words, at)?;
+    if flags / 2 % 2 == 1 {
+        polyline_head(words, at)
+    } else {
+        edges_head(words, at)
     }
-    if word(words, at) / 2 % 2 == 1 {
-        return polyline_head(words, at + 1);
-    }
-    edges_head(words, at + 1)
 }

@@ -17,7 +17,7 @@ use Rattle.hatch_lists.specs.Steps.{Step as Walked, next, broken}
 use Rattle.hatch_lists.specs.Walks.{Left, prepend, end_if, finish}
 use Rattle.list_items.specs.Found.{Small}
 use Rattle.whole_lists.specs.declared.Place.{Place}
-use Rattle.whole_lists.specs.declared.Step.TheVariants.{Next, Broken}
+use Rattle.std.specs.Prelude.{Some, None}
 use Rattle.whole_lists.specs.Stepped.{Within, finished, left_at, walk_at, Steps}
 use Rattle.whole_lists.proofs.Loops.{sizes, Along, along_start, along_next, along_broken, along_end}
 use Rattle.moved_hatch.specs.Moving.{all_in_range}
@@ -83,11 +83,11 @@ module _ (ws : List ℕ) (used seeds : ℕ) (p : Place) {q : Place} (a : Along w
       go (w ∷ vs) b e = let z : ◌≡◌ {A = ℕ} 0 1 = cc in absurd (omega arith)
 
   -- a whole walk does not break off
-  pub never_broken : {X : Type 0} → Steps ws used q Broken → X
+  pub never_broken : {X : Type 0} → Steps ws used q None → X
   never_broken s = let e = sym (along_broken ws used a s (finish seeds)) ∙ whole in let z : ◌≡◌ {A = ℕ} 0 1 = cc in absurd (omega arith)
 
   -- an item is followed by what is left behind it
-  pub roles_item : {i : Item} {r : Place} → Steps ws used q (Next i r) → roles_at ws used q seeds ≡ item_roles i ++ roles_at ws used r seeds
+  pub roles_item : {i : Item} {r : Place} → Steps ws used q (Some (i, r)) → roles_at ws used q seeds ≡ item_roles i ++ roles_at ws used r seeds
   roles_item {i} {r} s =
       let begins = s.same (finish seeds) in
       let e = ap (prepend a.items) (sym begins) ∙ sym (a.same (finish seeds)) ∙ whole in
@@ -118,7 +118,7 @@ module _ {A : Type 0} (in_range : A → Bool) (ws : List ℕ) (used : ℕ) (l : 
       ∙ ap (λ (b : Bool). b && in_range_from in_range (p.number + length (gathered item_roles h.along.items)) rs l) h.so_far
       ∙ ap (λ (n : ℕ). in_range_from in_range n rs l) (behind h.along)
 
-  pub in_range_next : {p q r : Place} {i : Item} → InRange p q → Steps ws used q (Next i r) → in_range_from in_range q.number (item_roles i) l ≡ true
+  pub in_range_next : {p q r : Place} {i : Item} → InRange p q → Steps ws used q (Some (i, r)) → in_range_from in_range q.number (item_roles i) l ≡ true
       → InRange p r
   in_range_next {p} {q} {r} {i} h s e =
       record {
@@ -127,7 +127,7 @@ module _ {A : Type 0} (in_range : A → Bool) (ws : List ℕ) (used : ℕ) (l : 
       }
 
   module _ (seeds : ℕ) {js : List Item} {m : Left} where
-    pub in_range_no : {p q r : Place} {i : Item} → walk_at (finish seeds) ws used p ≡ next js m → InRange p q → Steps ws used q (Next i r)
+    pub in_range_no : {p q r : Place} {i : Item} → walk_at (finish seeds) ws used p ≡ next js m → InRange p q → Steps ws used q (Some (i, r))
         → in_range_from in_range q.number (item_roles i) l ≡ false → in_range_from in_range p.number (roles_at ws used p seeds) l ≡ false
     in_range_no {p} {q} {r} {i} whole h s e =
         let all = roles_left ws used seeds p h.along whole ∙ ap (λ (rs : List Role). gathered item_roles h.along.items ++ rs)
@@ -159,7 +159,7 @@ module _ {A : Type 0} (difference : A → A → A) (x₀ y₀ : A) (ws : List �
       ∙ ap (λ (k : ℕ). moved_from difference x₀ y₀ k rs (moved_from difference x₀ y₀ p.number so l)) at
       ∙ sym (moved_behind difference x₀ y₀ p.number so rs l room)
 
-  pub moved_next : {p q r : Place} {i : Item} {m n : List A} → p.number ≤ length l → MovedSoFar p q m → Steps ws used q (Next i r)
+  pub moved_next : {p q r : Place} {i : Item} {m n : List A} → p.number ≤ length l → MovedSoFar p q m → Steps ws used q (Some (i, r))
       → n ≡ moved_from difference x₀ y₀ q.number (item_roles i) m → MovedSoFar p r n
   moved_next {p} {q} {r} {i} room h s e =
       record {
@@ -189,7 +189,7 @@ module _ {A : Type 0} (in_range : A → Bool) (difference : A → A → A) (x₀
   module _ (seeds : ℕ) {js : List Item} {k : Left} {p q : Place} {m : List A} (room : p.number ≤ length l)
       (whole : walk_at (finish seeds) ws used p ≡ next js k) (h : MovedSoFar difference x₀ y₀ ws used l p q m)
       (may : Movable in_range x₀ y₀ p.number (roles_at ws used p seeds) l) where
-    pub movable_next : {i : Item} {r : Place} → Steps ws used q (Next i r) → Movable in_range x₀ y₀ q.number (item_roles i) m
+    pub movable_next : {i : Item} {r : Place} → Steps ws used q (Some (i, r)) → Movable in_range x₀ y₀ q.number (item_roles i) m
     movable_next {i} {r} s =
         let all = roles_left ws used seeds p h.along whole ∙ ap (λ (rs : List Role). gathered item_roles h.along.items ++ rs)
         (roles_item ws used seeds p h.along whole s) in

@@ -11,7 +11,7 @@ ghost use Rattle.move_origin.specs.Walked.{Walks, roles_at};
 use hatch_format::Vec3DBits;
 use hatch_lists::HatchCounts;
 use moved_hatch::{MoveOutcome, MoveRefusal};
-use whole_lists::{Place, Step};
+use whole_lists::Place;
 
 // Whether each coordinate of the items from a place on, and of the seed points behind them, is in range.
 fn are_within(words: &[u32], bits: &[u64], used: usize, from: Place, seeds: usize) -> bool
@@ -19,15 +19,15 @@ fn are_within(words: &[u32], bits: &[u64], used: usize, from: Place, seeds: usiz
     ensures { result ≡ in_range_from is_within_bits from.number (roles_at words.now used from seeds) bits.now }
 {
     let mut at = from;
-    while !whole_lists::is_finished(at) {
+    while !at.is_finished() {
         match whole_lists::next_item(words, used, at) {
-            Step::Next(i, to) => {
+            Some((i, to)) => {
                 if !point_runs::item_within_bits(bits, at.number, i) {
                     return false;
                 }
                 at = to;
             }
-            Step::Broken => {
+            None => {
                 return false;
             }
         }
@@ -42,13 +42,13 @@ fn move_all(words: &[u32], bits: &mut [u64], used: usize, from: Place, seeds: us
     ensures { bits.new ≡ moved_from difference_bits x y from.number (roles_at words.now used from seeds) bits.old }
 {
     let mut at = from;
-    while !whole_lists::is_finished(at) {
+    while !at.is_finished() {
         match whole_lists::next_item(words, used, at) {
-            Step::Next(i, to) => {
+            Some((i, to)) => {
                 point_runs::move_item_bits(bits, at.number, i, x, y);
                 at = to;
             }
-            Step::Broken => {
+            None => {
                 return;
             }
         }

@@ -16,7 +16,7 @@ ghost use Rattle.move_origin.specs.Walked.{start_of, Walks, roles_at};
 use hatch_format::Vec3D;
 use hatch_lists::{HatchCounts, Item};
 use moved_hatch::{MoveOutcome, MoveRefusal};
-use whole_lists::{Place, Step};
+use whole_lists::Place;
 
 pub mod bits;
 
@@ -52,15 +52,15 @@ fn are_within(words: &[u32], numbers: &[f64], used: usize, from: Place, seeds: u
     ensures { result ≡ in_range_from is_within from.number (roles_at words.now used from seeds) numbers.now }
 {
     let mut at = from;
-    while !whole_lists::is_finished(at) {
+    while !at.is_finished() {
         match whole_lists::next_item(words, used, at) {
-            Step::Next(i, to) => {
+            Some((i, to)) => {
                 if !point_runs::item_within(numbers, at.number, i) {
                     return false;
                 }
                 at = to;
             }
-            Step::Broken => {
+            None => {
                 return false;
             }
         }
@@ -82,13 +82,13 @@ fn move_all(
     ensures { numbers.new ≡ moved_from difference x y from.number (roles_at words.now used from seeds) numbers.old }
 {
     let mut at = from;
-    while !whole_lists::is_finished(at) {
+    while !at.is_finished() {
         match whole_lists::next_item(words, used, at) {
-            Step::Next(i, to) => {
+            Some((i, to)) => {
                 point_runs::move_item(numbers, at.number, i, x, y);
                 at = to;
             }
-            Step::Broken => {
+            None => {
                 return;
             }
         }

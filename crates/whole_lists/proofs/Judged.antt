@@ -4,6 +4,7 @@ use mathlib.Core.Bool.{Bool, true, false, ◌&&◌}
 use mathlib.Core.List.{List, []}
 use Prim.Native.Nat.{ℕ, ◌-◌, ◌*◌, ◌≤◌}
 use native.Mathlib.Omega.{arith}
+use Rattle.std.specs.Prelude.{Option, Some, None}
 use lib.Dec.{leb, eqb}
 use lib.ListN.{length, take, drop, length-drop}
 use lib.Seq.{length-take-le, drop-cons, drop-length}
@@ -18,7 +19,7 @@ use Rattle.hatch_lists.specs.Lists.{Lists, lists_of}
 use Rattle.hatch_lists.specs.Paths.{path}
 use Rattle.hatch_lists.specs.Whole.{Held, whole, not_whole, Fitting, fitting, held_if, held}
 use Rattle.hatch_lists.specs.WholeLaws.{fitting_fits}
-use Rattle.hatch_lists.specs.Steps.{Step as Walked, next, broken}
+use Rattle.hatch_lists.specs.Steps.{Step, next, broken}
 use Rattle.hatch_lists.specs.Walks.{Left, left_of, prepend, here, path_then, walk, end_if, finish}
 use Rattle.hatch_lists.specs.Says.{left}
 use Rattle.hatch_lists.specs.Follows.{items_then}
@@ -26,12 +27,11 @@ use Rattle.hatch_lists.specs.FollowsPaths.{before_path}
 use Rattle.hatch_lists.specs.FollowsWhole.{items_held, held_by_walk}
 use Rattle.whole_lists.specs.declared.Place.{Place}
 use Rattle.whole_lists.specs.declared.ListEnd.{ListEnd}
-use Rattle.whole_lists.specs.declared.ListEnd.TheVariants.{At, Broken}
 use Rattle.whole_lists.specs.Stepped.{walk_at}
-use Rattle.whole_lists.specs.Ended.{Ends, end_of, EndsPath, EndWithin, ends_whole, is_held, Judges}
+use Rattle.whole_lists.specs.Ended.{Ends, end_of, EndsPath, ends_whole, is_held, start_of, Judges}
 
 -- whether a walk came to its end
-abbrev is_next : Walked Left (List Item) → Bool
+abbrev is_next : Step Left (List Item) → Bool
 is_next (next is l) = true
 is_next broken = false
 
@@ -39,7 +39,7 @@ next_held : (h : Held) → is_held h ≡ is_next (items_held h)
 next_held (whole a) = refl
 next_held not_whole = refl
 
-next_behind : (is : List Item) (s : Walked Left (List Item)) → is_next (prepend is s) ≡ is_next s
+next_behind : (is : List Item) (s : Step Left (List Item)) → is_next (prepend is s) ≡ is_next s
 next_behind is (next js l) = refl
 next_behind is broken = refl
 
@@ -57,9 +57,6 @@ none_left ws word b h = go (leb (length ws) word) refl
         rw (e, ap (λ (n : ℕ). drop n ws) f ∙ drop-length ws) (all b)
     go false e = rw (e, drop-cons ws word 0 (leb-false (length ws) word e))
 
-abbrev pub start_of : HatchCounts → Place
-start_of c = record { word = 0; number = 0; parts = 0; paths = c.num_paths; lines = c.num_pattern_lines }
-
 module _ (c : HatchCounts) (ws ns : List ℕ) (fits : Fitting c (length ws) (length ns)) where
   abbrev pub used : List ℕ
   used = take c.words_used ws
@@ -76,24 +73,22 @@ module _ (c : HatchCounts) (ws ns : List ℕ) (fits : Fitting c (length ws) (len
   walk_is : is_held (held_if true c ws ns) ≡ is_next (walk_at (finish c.num_seed_points) used c.numbers_used (start_of c))
   walk_is = next_held (held_if true c ws ns) ∙ ap is_next items_walk
 
-  end_is : (e : ListEnd) → Ends used c.numbers_used (start_of c) e
-      → ends_whole e c.words_used c.numbers_used c.num_seed_points
-      ≡ is_next (walk_at (finish c.num_seed_points) used c.numbers_used (start_of c))
-  end_is (At word number) p =
-      let b = eqb (c.numbers_used - number) (c.num_seed_points * 2) in
-      ap (λ (n : ℕ). leb n word && b) (sym used_long) ∙ none_left used word b p.word_within
+  end_is : (e : Option ListEnd) → Ends used c.numbers_used (start_of c) e
+      → ends_whole c e ≡ is_next (walk_at (finish c.num_seed_points) used c.numbers_used (start_of c))
+  end_is (Some end) p =
+      let b = eqb (c.numbers_used - end.number) (c.num_seed_points * 2) in
+      ap (λ (n : ℕ). leb n end.word && b) (sym used_long) ∙ none_left used end.word b p.word_within
       ∙ sym (ap is_next (p.same (finish c.num_seed_points)) ∙ next_behind p.items
-      (finish c.num_seed_points (left_of (drop word used) (c.numbers_used - number))))
-  end_is Broken p = sym (ap is_next (p (finish c.num_seed_points)))
+      (finish c.num_seed_points (left_of (drop end.word used) (c.numbers_used - end.number))))
+  end_is None p = sym (ap is_next (p (finish c.num_seed_points)))
 
 pub judges_no : (c : HatchCounts) (ws : List ℕ) (n : ℕ) → fitting c (length ws) n ≡ false → Judges c ws n false
 unfolding held
 judges_no c ws n e ns l = sym (ap (λ (b : Bool). is_held (held_if b c ws ns)) (ap (fitting c (length ws)) l ∙ e))
 
-pub judges_end : (c : HatchCounts) (ws : List ℕ) (n : ℕ) (b : Bool) (e : ListEnd) → fitting c (length ws) n ≡ true
-    → Ends (take c.words_used ws) c.numbers_used
-    (record { word = 0; number = 0; parts = 0; paths = c.num_paths; lines = c.num_pattern_lines }) e
-    → b ≡ ends_whole e c.words_used c.numbers_used c.num_seed_points → Judges c ws n b
+pub judges_end : (c : HatchCounts) (ws : List ℕ) (n : ℕ) (b : Bool) (e : Option ListEnd) → fitting c (length ws) n ≡ true
+    → Ends (take c.words_used ws) c.numbers_used (start_of c) e
+    → b ≡ ends_whole c e → Judges c ws n b
 unfolding held
 judges_end c ws n b e fit p same ns l =
     let yes : fitting c (length ws) (length ns) ≡ true = ap (fitting c (length ws)) l ∙ fit in
@@ -101,17 +96,20 @@ judges_end c ws n b e fit p same ns l =
     same ∙ end_is c ws ns fits e p ∙ sym (walk_is c ws ns fits) ∙ sym (ap (λ (t : Bool). is_held (held_if t c ws ns)) yes)
 
 -- ---- the end of one path
-left_in : Walked Left (List Item) → Left
+left_in : Step Left (List Item) → Left
 left_in (next is l) = l
 left_in broken = left_of [] 0
 
 differ : {is : List Item} {l : Left} → broken ≡ next is l → ⊥
 differ e = let z : ◌≡◌ {A = ℕ} 0 1 = cc in absurd (omega arith)
 
+abbrev end_at : ℕ → ℕ → Option ListEnd
+end_at word number = Some (record { word = word; number = number })
+
 abbrev pub path_start : ℕ → ℕ → Place
 path_start word number = record { word = word; number = number; parts = 0; paths = 1; lines = 0 }
 
-pub ends_path : (ws : List ℕ) (n word number : ℕ) → number ≤ n → (r : ListEnd) → Ends ws n (path_start word number) r → EndsPath ws n word number r
+pub ends_path : (ws : List ℕ) (n word number : ℕ) → number ≤ n → (r : Option ListEnd) → Ends ws n (path_start word number) r → EndsPath ws n word number r
 unfolding left_in
 ends_path ws n word number h r e ns l = go r e ((path document_caps).read tt p) (read ∙ numbers_left)
   where
@@ -127,21 +125,17 @@ ends_path ws n word number h r e ns l = go r e ((path document_caps).read tt p) 
         ap (λ (m : ℕ). path_then document_caps here (left_of (drop word ws) m)) k
 
     there : (q : Lists) (w m : ℕ) → w ≤ length ws → m ≤ n → left q ≡ left_of (drop w ws) (n - m)
-        → At w m ≡ At (length ws - length q.words) (length ns - length q.numbers)
+        → end_at w m ≡ end_at (length ws - length q.words) (length ns - length q.numbers)
     there q w m hw hm f =
         let i : length q.words ≡ length ws - w = ap (λ (x : Left). length x.words) f ∙ length-drop w ws in
         let j : length q.numbers ≡ n - m = ap (λ (x : Left). x.numbers) f in
         let w_is : w ≡ length ws - length q.words = omega (arith, i, hw) in
         let m_is : m ≡ length ns - length q.numbers = omega (arith, j, hm, l) in
-        ap₂ At w_is m_is
+        ap₂ end_at w_is m_is
 
-    go : (r : ListEnd) → Ends ws n (path_start word number) r → (o : Out Lists Path)
+    go : (r : Option ListEnd) → Ends ws n (path_start word number) r → (o : Out Lists Path)
         → items_then path_items o (λ q. next [] (left q)) ≡ walk_at here ws n (path_start word number) → r ≡ end_of (length ws) (length ns) o
-    go (At w m) e (got a q) f = there q w m e.word_within e.number_within (ap left_in (f ∙ e.same here))
-    go (At w m) e (refused k q) f = absurd (differ (f ∙ e.same here))
-    go Broken e (got a q) f = absurd (differ (sym (f ∙ e here)))
-    go Broken e (refused k q) f = refl
-
-pub end_within : (ws : List ℕ) (n : ℕ) (p : Place) (r : ListEnd) → Ends ws n p r → EndWithin n r
-end_within ws n p (At word number) e = e.number_within
-end_within ws n p Broken e = tt
+    go (Some z) e (got a q) f = there q z.word z.number e.word_within e.number_within (ap left_in (f ∙ e.same here))
+    go (Some z) e (refused k q) f = absurd (differ (f ∙ e.same here))
+    go None e (got a q) f = absurd (differ (sym (f ∙ e here)))
+    go None e (refused k q) f = refl

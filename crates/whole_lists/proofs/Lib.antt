@@ -1,4 +1,3 @@
-pub mod Sizes
 pub mod StepLaws
 pub mod Loops
 pub mod Judged

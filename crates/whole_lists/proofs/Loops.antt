@@ -1,23 +1,21 @@
 -- A loop over items: how far the walk has gone from where it began, whatever comes behind it. Assumes nothing.
 use mathlib.Core.Path.{◌≡◌, refl, ap, ◌∙◌}
-use mathlib.Core.Bool.{true}
+use mathlib.Core.Bool.{true, ◌&&◌, and-eq-true_iff}
 use mathlib.Core.List.{List, [], ◌∷◌, ◌++◌}
 use Prim.Native.Nat.{ℕ, ◌+◌}
 use native.Mathlib.Omega.{arith}
+use Rattle.std.specs.Prelude.{Some, None}
 use lib.Dec.{eqb}
 use borrow.Author.Tests.{eqb-true}
-use Rattle.hatch_format.specs.Caps.{document_caps}
 use Rattle.hatch_lists.specs.declared.Item.{Item}
 use Rattle.hatch_lists.specs.Items.{item_size}
-use Rattle.hatch_lists.specs.Steps.{Step as Walked, next, broken}
-use Rattle.hatch_lists.specs.Walks.{Left, prepend, Walk, walk}
+use Rattle.hatch_lists.specs.Steps.{Step, next, broken}
+use Rattle.hatch_lists.specs.Walks.{Left, prepend, Walk}
 use Rattle.hatch_lists.specs.Within.{All}
 use Rattle.hatch_lists.specs.Follows.{prepend_both}
 use Rattle.whole_lists.specs.declared.Place.{Place}
-use Rattle.whole_lists.specs.declared.Step.TheVariants.{Next, Broken}
 use Rattle.list_items.specs.Found.{Small}
 use Rattle.whole_lists.specs.Stepped.{Within, finished, left_at, walk_at, Steps}
-use Rattle.list_items.proofs.Words.{and_left, and_right}
 
 -- how many numbers the items have
 abbrev pub sizes : List Item → ℕ
@@ -40,7 +38,7 @@ pub record Along (ws : List ℕ) (n : ℕ) (p q : Place) : Type 0 where
   pub passed : q.number ≡ p.number + sizes items
   pub small : All Small items
 
-pub prepend_none : (s : Walked Left (List Item)) → s ≡ prepend [] s
+pub prepend_none : (s : Step Left (List Item)) → s ≡ prepend [] s
 prepend_none (next is l) = refl
 prepend_none broken = refl
 
@@ -48,7 +46,7 @@ module _ (ws : List ℕ) (n : ℕ) where
   abbrev pub along_start : (p : Place) → Within ws n p → Along ws n p p
   along_start p w = record { items = []; same = λ rest. prepend_none (walk_at rest ws n p); within = w; passed = omega arith; small = tt }
 
-  abbrev pub along_next : {p q r : Place} {i : Item} → Along ws n p q → Steps ws n q (Next i r) → Along ws n p r
+  abbrev pub along_next : {p q r : Place} {i : Item} → Along ws n p q → Steps ws n q (Some (i, r)) → Along ws n p r
   along_next {p} {q} {r} {i} a s =
       record {
         items = a.items ++ (i ∷ []);
@@ -58,7 +56,7 @@ module _ (ws : List ℕ) (n : ℕ) where
         small = all_one Small a.items i a.small s.onward.3;
       }
 
-  pub along_broken : {p q : Place} → Along ws n p q → Steps ws n q Broken → (rest : Walk) → walk_at rest ws n p ≡ broken
+  pub along_broken : {p q : Place} → Along ws n p q → Steps ws n q None → (rest : Walk) → walk_at rest ws n p ≡ broken
   along_broken a s rest = a.same rest ∙ ap (prepend a.items) (s.same rest)
 
   pub along_end : {p q : Place} (a : Along ws n p q) → finished q ≡ true → (rest : Walk) → walk_at rest ws n p ≡ prepend a.items (rest (left_at ws n q))
@@ -66,9 +64,9 @@ module _ (ws : List ℕ) (n : ℕ) where
     where
       go : (q : Place) → finished q ≡ true → walk_at rest ws n q ≡ rest (left_at ws n q)
       go q h =
-          let e₁ = eqb-true q.parts 0 (and_left (eqb q.parts 0) _ h) in
-          let h₁ = and_right (eqb q.parts 0) _ h in
-          let e₂ = eqb-true q.paths 0 (and_left (eqb q.paths 0) _ h₁) in
-          let e₃ = eqb-true q.lines 0 (and_right (eqb q.paths 0) _ h₁) in
-          ap (λ (k : ℕ). walk document_caps rest k q.paths q.lines (left_at ws n q)) e₁
-          ∙ ap (λ (k : ℕ). walk document_caps rest 0 k q.lines (left_at ws n q)) e₂ ∙ ap (λ (k : ℕ). walk document_caps rest 0 0 k (left_at ws n q)) e₃
+          let parts = (and-eq-true_iff (eqb q.parts 0) (eqb q.paths 0 && eqb q.lines 0)).0 h in
+          let others = (and-eq-true_iff (eqb q.paths 0) (eqb q.lines 0)).0 parts.1 in
+          let e = eqb-true q.parts 0 parts.0 in
+          let f = eqb-true q.paths 0 others.0 in
+          let g = eqb-true q.lines 0 others.1 in
+          rw (e, f, g) refl

@@ -1,64 +1,61 @@
 -- A step of the walk, from what was found at its word: the item's numbers are there and the walk goes on behind them, or it breaks off. Assumes nothing.
 use mathlib.Core.Path.{◌≡◌, refl, sym, ap, subst, ◌∙◌}
-use mathlib.Core.Bool.{Bool, true, false, ◌&&◌}
+use mathlib.Core.Bool.{Bool, true, false}
 use mathlib.Core.List.{List, [], ◌∷◌}
-use Prim.Native.Nat.{ℕ, zero, suc, ◌+◌, ◌-◌, ◌≤◌, ◌<◌}
+use Prim.Native.Nat.{ℕ, suc, ◌+◌, ◌-◌, ◌≤◌, ◌<◌}
 use native.Mathlib.Omega.{arith}
-use lib.Dec.{leb, eqb}
+use Rattle.std.specs.Prelude.{Option, None}
+use lib.Dec.{leb}
 use lib.ListN.{length, drop, length-drop}
 use borrow.Author.Tests.{leb-true}
 use Rattle.hatch_format.specs.Caps.{document_caps}
+use Rattle.hatch_lists.specs.declared.Head.{Head}
 use Rattle.hatch_lists.specs.declared.Item.{Item}
 use Rattle.hatch_lists.specs.Items.{item_size}
-use Rattle.hatch_lists.specs.Steps.{Step as Walked, next, broken, and_next, handles_step, edge_step, head_step, line_step}
+use Rattle.hatch_lists.specs.Steps.{Step, next, broken, and_next, handles_step, edge_step, head_step, line_step}
 use Rattle.hatch_lists.specs.Walks.{Left, left_of, pass_if as pass_left, passing, stepping, prepend, Walk, walk}
 use Rattle.whole_lists.specs.declared.Place.{Place}
-use Rattle.whole_lists.specs.declared.Step.TheVariants.{Broken}
-use Rattle.list_items.specs.declared.ItemAt.{ItemAt}
-use Rattle.list_items.specs.declared.ItemAt.TheVariants.{Found, Broken as NotFound}
-use Rattle.list_items.specs.Found.{Small, Behind, Finds}
-use Rattle.whole_lists.specs.Stepped.{Within, left_at, walk_at, pass_if, passed_to, SmallAt, passed_found}
-use Rattle.whole_lists.specs.Stepped.{step_on, step_by, step_at, resumed, Onward, Steps}
+use Rattle.list_items.specs.Found.{Small, Behind}
+use Rattle.whole_lists.specs.Stepped.{Within, left_at, walk_at, pass_if, passed_to, step_on, step_by, step_at, resumed, Onward, Steps}
 
 -- what walk and step begin with at a place: a value that has an item and says how many parts follow it; so many paths and lines are left behind it
-pub record Begins {A : Type 0} (item_of : A → Item) (parts_of : A → ℕ) (step : List ℕ → Walked (List ℕ) A) (ws : List ℕ) (n : ℕ) (p : Place)
+pub record Begins {A : Type 0} (item_of : A → Item) (parts_of : A → ℕ) (step : List ℕ → Step (List ℕ) A) (ws : List ℕ) (n : ℕ) (p : Place)
     (paths lines : ℕ) : Type 0 where
   pub walks : (rest : Walk) → walk_at rest ws n p
       ≡ and_next (stepping item_of step (left_at ws n p)) (λ a r. prepend (item_of a ∷ []) (walk document_caps rest (parts_of a) paths lines r))
   pub steps : step_at ws n p ≡ step_on ws n p.number item_of parts_of (step (drop p.word ws)) paths lines
 
 -- ---- a step of any kind, from what the words say
-module _ {A : Type 0} (item_of : A → Item) (parts_of : A → ℕ) (step : List ℕ → Walked (List ℕ) A) (ws : List ℕ) (n : ℕ) (p : Place) (paths lines : ℕ)
+module _ {A : Type 0} (item_of : A → Item) (parts_of : A → ℕ) {step : List ℕ → Step (List ℕ) A} {ws : List ℕ} {n : ℕ} {p : Place} {paths lines : ℕ}
     (begins : Begins item_of parts_of step ws n p paths lines) where
   -- the walk goes on
-  abbrev goes_on : Walk → A → Left → Walked Left (List Item)
+  abbrev goes_on : Walk → A → Left → Step Left (List Item)
   goes_on rest a r = prepend (item_of a ∷ []) (walk document_caps rest (parts_of a) paths lines r)
 
-  walk_said : {said : Walked (List ℕ) A} → step (drop p.word ws) ≡ said → (rest : Walk)
+  walk_said : {said : Step (List ℕ) A} → step (drop p.word ws) ≡ said → (rest : Walk)
       → walk_at rest ws n p ≡ and_next (passing item_of (n - p.number) said) (goes_on rest)
-  walk_said e rest = begins.walks rest ∙ ap (λ (o : Walked (List ℕ) A). and_next (passing item_of (n - p.number) o) (goes_on rest)) e
+  walk_said e rest = begins.walks rest ∙ ap (λ (o : Step (List ℕ) A). and_next (passing item_of (n - p.number) o) (goes_on rest)) e
 
-  step_said : {said : Walked (List ℕ) A} → step (drop p.word ws) ≡ said → step_on ws n p.number item_of parts_of said paths lines ≡ step_at ws n p
-  step_said e = sym (begins.steps ∙ ap (λ (o : Walked (List ℕ) A). step_on ws n p.number item_of parts_of o paths lines) e)
+  step_said : {said : Step (List ℕ) A} → step (drop p.word ws) ≡ said → step_on ws n p.number item_of parts_of said paths lines ≡ step_at ws n p
+  step_said e = sym (begins.steps ∙ ap (λ (o : Step (List ℕ) A). step_on ws n p.number item_of parts_of o paths lines) e)
 
-  pub steps_broken : step (drop p.word ws) ≡ broken → Steps ws n p Broken
-  steps_broken e = record { is = step_said e; same = walk_said e; onward = tt }
+  pub steps_broken : {r : Option (Item × Place)} → step (drop p.word ws) ≡ broken → r ≡ None → Steps ws n p r
+  steps_broken e f = subst (Steps ws n p) (sym f) (record { is = step_said e; same = walk_said e; onward = tt })
 
-  module _ (w : Within ws n p) (a : A) (to : ℕ) (said : step (drop p.word ws) ≡ next a (drop to ws)) (behind : Behind ws p.word to)
-      (small : Small (item_of a))
-      (few : parts_of a ≤ 100_001) where
+  module _ (w : Within ws n p) {a : A} {to : ℕ} (said : step (drop p.word ws) ≡ next a (drop to ws)) (behind : Behind ws p.word to)
+      (small : Small (item_of a)) (few : parts_of a ≤ 100_001) where
     abbrev behind_it : ℕ → Place
     behind_it word = record { word = word; number = p.number; parts = parts_of a; paths = paths; lines = lines }
 
-    is_from : passed_to n p.number (item_of a) (behind_it to) ≡ step_at ws n p
+    is_from : passed_to n (item_of a) (behind_it to) ≡ step_at ws n p
     is_from =
         let left = length-drop to ws in
         let first : to ≡ length ws - length (drop to ws) = omega (arith, left, behind.within) in
-        ap (λ (k : ℕ). passed_to n p.number (item_of a) (behind_it k)) first ∙ step_said said
+        ap (λ (k : ℕ). passed_to n (item_of a) (behind_it k)) first ∙ step_said said
 
     -- its numbers are there, or not
     same_if : (b : Bool) → leb (item_size (item_of a)) (n - p.number) ≡ b → (rest : Walk)
-        → walk_at rest ws n p ≡ resumed rest ws n (pass_if b p.number (item_of a) (behind_it to))
+        → walk_at rest ws n p ≡ resumed rest ws n (pass_if b (item_of a) (behind_it to))
     same_if true e rest =
         let m : n - p.number - item_size (item_of a) ≡ n - (p.number + item_size (item_of a)) = omega arith in
         walk_said said rest
@@ -67,42 +64,28 @@ module _ {A : Type 0} (item_of : A → Item) (parts_of : A → ℕ) (step : List
     same_if false e rest =
         walk_said said rest ∙ ap (λ (t : Bool). and_next (pass_left t a (item_size (item_of a)) (drop to ws) (n - p.number)) (goes_on rest)) e
 
-    onward_if : (b : Bool) → leb (item_size (item_of a)) (n - p.number) ≡ b → Onward ws n p (pass_if b p.number (item_of a) (behind_it to))
+    onward_if : (b : Bool) → leb (item_size (item_of a)) (n - p.number) ≡ b → Onward ws n p (pass_if b (item_of a) (behind_it to))
     onward_if true e =
         let h = leb-true (item_size (item_of a)) (n - p.number) e in
         let k = w.number in
         (behind.further, record { word = behind.within; number = omega (arith, h, k); parts = few }, refl, small)
     onward_if false e = tt
 
-    pub steps_found : Steps ws n p (passed_to n p.number (item_of a) (behind_it to))
-    steps_found =
+    pub steps_found : {r : Option (Item × Place)} → r ≡ passed_to n (item_of a) (behind_it to) → Steps ws n p r
+    steps_found e =
         let b = leb (item_size (item_of a)) (n - p.number) in
-        record { is = is_from; same = same_if b refl; onward = onward_if b refl }
-
--- an item that was looked for
-pub steps_item : (step : List ℕ → Walked (List ℕ) Item) (ws : List ℕ) (n : ℕ) (p : Place) (parts paths lines : ℕ) → Within ws n p → parts ≤ 100_001
-    → Begins (λ i. i) (λ i. parts) step ws n p paths lines
-    → (r : ItemAt) → Finds ws p.word r step → Steps ws n p (passed_found n p.number r parts paths lines)
-steps_item step ws n p parts paths lines w few begins (Found i to) f =
-    steps_found (λ i. i) (λ i. parts) step ws n p paths lines begins w i to f.0 f.1 f.2 few
-steps_item step ws n p parts paths lines w few begins NotFound f = steps_broken (λ i. i) (λ i. parts) step ws n p paths lines begins f
+        subst (Steps ws n p) (sym e) (record { is = is_from; same = same_if b refl; onward = onward_if b refl })
 
 -- ---- which it is, by what is left
 module _ (ws : List ℕ) (n : ℕ) (p : Place) where
   module _ (parts paths lines : ℕ) (e : p.parts ≡ parts) (f : p.paths ≡ paths) (g : p.lines ≡ lines) where
     walk_is : (rest : Walk) → walk_at rest ws n p ≡ walk document_caps rest parts paths lines (left_at ws n p)
-    walk_is rest =
-        ap (λ (k : ℕ). walk document_caps rest k p.paths p.lines (left_at ws n p)) e
-        ∙ ap (λ (k : ℕ). walk document_caps rest parts k p.lines (left_at ws n p)) f
-        ∙ ap (λ (k : ℕ). walk document_caps rest parts paths k (left_at ws n p)) g
+    walk_is rest = rw (e, f, g) refl
 
     step_is : step_at ws n p ≡ step_by ws n p.word p.number parts paths lines
-    step_is =
-        ap (λ (k : ℕ). step_by ws n p.word p.number k p.paths p.lines) e
-        ∙ ap (λ (k : ℕ). step_by ws n p.word p.number parts k p.lines) f
-        ∙ ap (λ (k : ℕ). step_by ws n p.word p.number parts paths k) g
+    step_is = rw (e, f, g) refl
 
-  pub begins_path : p.parts ≡ 0 → 0 < p.paths → Begins (λ h. h.item) (λ h. h.parts) (head_step document_caps) ws n p (p.paths - 1) p.lines
+  pub begins_path : p.parts ≡ 0 → 0 < p.paths → Begins (λ (h : Head). h.item) (λ h. h.parts) (head_step document_caps) ws n p (p.paths - 1) p.lines
   begins_path e h =
       let f : p.paths ≡ suc (p.paths - 1) = omega (arith, h) in
       record { walks = walk_is 0 (suc (p.paths - 1)) p.lines e f refl; steps = step_is 0 (suc (p.paths - 1)) p.lines e f refl }
@@ -115,24 +98,17 @@ module _ (ws : List ℕ) (n : ℕ) (p : Place) where
       subst (λ (m : ℕ). Begins (λ i. i) (λ i. m) (edge_step document_caps) ws n p p.paths p.lines) f
       (record { walks = walk_is (suc (suc k)) p.paths p.lines e refl refl; steps = step_is (suc (suc k)) p.paths p.lines e refl refl })
 
-  pub begins_handles : p.parts ≡ 1 → Begins (λ i. i) (λ i. 0) (handles_step document_caps) ws n p p.paths p.lines
-  begins_handles e = record { walks = walk_is 1 p.paths p.lines e refl refl; steps = step_is 1 p.paths p.lines e refl refl }
+  pub begins_handles : p.parts ≡ 1 → Begins (λ i. i) (λ i. p.parts - 1) (handles_step document_caps) ws n p p.paths p.lines
+  begins_handles e =
+      record {
+        walks = λ rest. walk_is 1 p.paths p.lines e refl refl rest ∙ rw e refl;
+        steps = step_is 1 p.paths p.lines e refl refl ∙ rw e refl;
+      }
 
-  pub begins_line : p.parts ≡ 0 → p.paths ≡ 0 → 0 < p.lines → Begins (λ i. i) (λ i. 0) (line_step document_caps) ws n p 0 (p.lines - 1)
+  pub begins_line : p.parts ≡ 0 → p.paths ≡ 0 → 0 < p.lines → Begins (λ i. i) (λ i. p.parts) (line_step document_caps) ws n p p.paths (p.lines - 1)
   begins_line e f h =
       let g : p.lines ≡ suc (p.lines - 1) = omega (arith, h) in
-      record { walks = walk_is 0 0 (suc (p.lines - 1)) e f g; steps = step_is 0 0 (suc (p.lines - 1)) e f g }
-
--- ---- what was found is within document 01's caps
-pub small_at : (ws : List ℕ) (at : ℕ) (r : ItemAt) (step : List ℕ → Walked (List ℕ) Item) → Finds ws at r step → SmallAt r
-small_at ws at (Found i to) step f = f.2
-small_at ws at NotFound step f = tt
-
--- all is passed, or something is left
-pub left_over : (p : Place) → (eqb p.parts 0 && (eqb p.paths 0 && eqb p.lines 0)) ≡ false → p.parts ≡ 0 → p.paths ≡ 0 → 0 < p.lines
-left_over p h e f = go p.lines (subst (λ (k : ℕ). (eqb 0 0 && (eqb k 0 && eqb p.lines 0))
-    ≡ false) f (subst (λ (k : ℕ). (eqb k 0 && (eqb p.paths 0 && eqb p.lines 0)) ≡ false) e h))
-  where
-    go : (k : ℕ) → eqb k 0 ≡ false → 0 < k
-    go zero h = let z : ◌≡◌ {A = ℕ} 0 1 = cc in absurd (omega arith)
-    go (suc k) h = omega arith
+      record {
+        walks = λ rest. walk_is 0 0 (suc (p.lines - 1)) e f g rest ∙ rw (e, f) refl;
+        steps = step_is 0 0 (suc (p.lines - 1)) e f g ∙ rw (e, f) refl;
+      }

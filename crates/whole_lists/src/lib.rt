@@ -3,19 +3,18 @@
 // specs/ promise whole exactly where crate hatch_lists reads the lists to their ends, and of each step that it is that of the walk defined there.
 #![tactic(auto)]
 
-ghost use Rattle.std.specs.Prelude.{◌≡◌, false, ◌≤◌, ◌<◌, length};
+ghost use Rattle.std.specs.Prelude.{◌≡◌, false, Some, ◌≤◌, ◌<◌, length};
 ghost use Rattle.hatch_lists.specs.Items.{item_size};
 ghost use Rattle.hatch_lists.specs.Whole.{switches, counted, fitting};
 ghost use Rattle.list_items.specs.Found.{Small};
-ghost use Rattle.whole_lists.specs.Stepped.{Within, finished, SmallAt, passed_to, passed_found, Steps};
-ghost use Rattle.whole_lists.specs.Ended.{Ends, EndsPath, EndWithin, ends_whole, Judges};
+ghost use Rattle.whole_lists.specs.Stepped.{Within, finished, passed_to, Steps};
+ghost use Rattle.whole_lists.specs.Ended.{start_of, Ends, EndsPath, ends_whole, Judges};
 
 use hatch_lists::{HatchCounts, Item};
-use list_items::{HeadAt, ItemAt};
 
 // Where a walk stands: the next word, the next number, and what is left: parts of a path under way (its edges and its handle count), paths, and
 // pattern lines.
-#[derive(Clone, Copy)]
+#[derive(Clone, Copy, Debug, PartialEq, Eq)]
 pub struct Place {
     pub word: usize,
     pub number: usize,
@@ -24,18 +23,33 @@ pub struct Place {
     pub lines: usize,
 }
 
-// The next item, whose numbers begin where the walk stood, and the place behind it; or record and lists are not whole.
-#[derive(Drop)]
-pub enum Step {
-    Next(Item, Place),
-    Broken,
+impl Place {
+    // Where the walk over a record's lists begins.
+    pub fn start(c: HatchCounts) -> Place
+        ensures { result ≡ start_of c }
+    {
+        Place {
+            word: 0,
+            number: 0,
+            parts: 0,
+            paths: c.num_paths,
+            lines: c.num_pattern_lines,
+        }
+    }
+
+    // Whether all is passed.
+    pub fn is_finished(self) -> bool
+        ensures { result ≡ finished self }
+    {
+        self.parts == 0 && self.paths == 0 && self.lines == 0
+    }
 }
 
-// The word and the number behind all items; or record and lists are not whole.
-#[derive(Drop)]
-pub enum ListEnd {
-    At(usize, usize),
-    Broken,
+// The word and the number behind all items of a walk.
+#[derive(Clone, Copy, Debug, PartialEq, Eq)]
+pub struct ListEnd {
+    pub word: usize,
+    pub number: usize,
 }
 
 // How many numbers an item has.
@@ -46,223 +60,145 @@ pub fn item_size(i: Item) -> usize
     i.before + (i.points * i.stride + (i.fit_points * 2 + i.behind))
 }
 
-// Whether all is passed.
-pub fn is_finished(at: Place) -> bool
-    ensures { result ≡ finished at }
-{
-    if 0 < at.parts {
-        return false;
-    }
-    if 0 < at.paths {
-        return false;
-    }
-    at.lines == 0
-}
-
-// An item's numbers passed, if there are so many.
-fn pass(numbers: usize, number: usize, i: Item, to: Place) -> Step
-    requires { Small i × (number ≤ numbers) }
-    ensures { result ≡ passed_to numbers number i to }
+// An item that ends before a place, with its numbers passed, if there are so many.
+fn pass(numbers: usize, i: Item, to: Place) -> Option<(Item, Place)>
+    requires { Small i × (to.number ≤ numbers) }
+    ensures { result ≡ passed_to numbers i to }
 {
     let size = item_size(i);
-    if numbers - number < size {
-        return Step::Broken;
+    if numbers - to.number < size {
+        return None;
     }
-    Step::Next(
-        i,
-        Place {
-            word: to.word,
-            number: number + size,
-            parts: to.parts,
-            paths: to.paths,
-            lines: to.lines,
-        },
-    )
-}
-
-// An item that was found, with its numbers passed, and what is left behind it.
-fn pass_found(
-    numbers: usize,
-    number: usize,
-    found: ItemAt,
-    parts: usize,
-    paths: usize,
-    lines: usize,
-) -> Step
-    requires { SmallAt found × (number ≤ numbers) }
-    ensures { result ≡ passed_found numbers number found parts paths lines }
-{
-    match found {
-        ItemAt::Found(i, word) => pass(
-            numbers,
-            number,
-            i,
-            Place {
-                word: word,
-                number: number,
-                parts: parts,
-                paths: paths,
-                lines: lines,
-            },
-        ),
-        ItemAt::Broken => Step::Broken,
-    }
+    let to = Place {
+        number: to.number + size,
+        ..to
+    };
+    Some((i, to))
 }
 
 // The next part of a path under way: an edge, or its handle count, which is the last.
-fn part_step(words: &[u32], numbers: usize, at: Place) -> Step
+fn part_step(words: &[u32], numbers: usize, at: Place) -> Option<(Item, Place)>
     requires { Within words.now numbers at × (0 < at.parts) }
     ensures { Steps words.now numbers at result }
 {
-    if at.parts == 1 {
-        let handles = list_items::handles_item(words, at.word);
-        return pass_found(numbers, at.number, handles, 0, at.paths, at.lines);
-    }
-    let edge = list_items::edge_item(words, at.word);
-    pass_found(numbers, at.number, edge, at.parts - 1, at.paths, at.lines)
+    let (i, word) = if at.parts == 1 {
+        list_items::handles_item(words, at.word)?
+    } else {
+        list_items::edge_item(words, at.word)?
+    };
+    let to = Place {
+        word,
+        parts: at.parts - 1,
+        ..at
+    };
+    pass(numbers, i, to)
 }
 
 // The head of the next path: a polyline whole, or the count of its edges, which follow as its parts.
-fn path_step(words: &[u32], numbers: usize, at: Place) -> Step
+fn path_step(words: &[u32], numbers: usize, at: Place) -> Option<(Item, Place)>
     requires { Within words.now numbers at × ((at.parts ≡ 0) × (0 < at.paths)) }
     ensures { Steps words.now numbers at result }
 {
-    match list_items::path_head(words, at.word) {
-        HeadAt::Found(i, parts, word) => pass(
-            numbers,
-            at.number,
-            i,
-            Place {
-                word: word,
-                number: at.number,
-                parts: parts,
-                paths: at.paths - 1,
-                lines: at.lines,
-            },
-        ),
-        HeadAt::Broken => Step::Broken,
-    }
+    let (head, word) = list_items::path_head(words, at.word)?;
+    let to = Place {
+        word,
+        parts: head.parts,
+        paths: at.paths - 1,
+        ..at
+    };
+    pass(numbers, head.item, to)
 }
 
 // The next pattern line.
-fn line_step(words: &[u32], numbers: usize, at: Place) -> Step
+fn line_step(words: &[u32], numbers: usize, at: Place) -> Option<(Item, Place)>
     requires { Within words.now numbers at × ((at.parts ≡ 0) × ((at.paths ≡ 0) × (0 < at.lines))) }
     ensures { Steps words.now numbers at result }
 {
-    let line = list_items::line_item(words, at.word);
-    pass_found(numbers, at.number, line, 0, 0, at.lines - 1)
+    let (i, word) = list_items::line_item(words, at.word)?;
+    let to = Place {
+        word,
+        lines: at.lines - 1,
+        ..at
+    };
+    pass(numbers, i, to)
 }
 
-// The next item of lists of so many numbers, from a place where not all is passed.
-pub fn next_item(words: &[u32], numbers: usize, at: Place) -> Step
+// The next item of lists of so many numbers, whose numbers begin where the walk stood, and the place behind it; or the lists are not whole.
+pub fn next_item(words: &[u32], numbers: usize, at: Place) -> Option<(Item, Place)>
     requires { Within words.now numbers at × (finished at ≡ false) }
     ensures { Steps words.now numbers at result }
 {
     if 0 < at.parts {
-        return part_step(words, numbers, at);
+        part_step(words, numbers, at)
+    } else if 0 < at.paths {
+        path_step(words, numbers, at)
+    } else {
+        line_step(words, numbers, at)
     }
-    if 0 < at.paths {
-        return path_step(words, numbers, at);
-    }
-    line_step(words, numbers, at)
 }
 
-// All items from a place on: the word and the number behind the last of them.
-fn pass_all(words: &[u32], numbers: usize, from: Place) -> ListEnd
+// All items from a place on: the word and the number behind the last of them; or the lists are not whole.
+#[tactic(auto, using(crate::proofs::Loops::along_next))]
+fn pass_all(words: &[u32], numbers: usize, from: Place) -> Option<ListEnd>
     requires { Within words.now numbers from }
     ensures { Ends words.now numbers from result }
 {
     let mut at = from;
-    while !is_finished(at) {
-        match next_item(words, numbers, at) {
-            Step::Next(_, to) => {
-                at = to;
-            }
-            Step::Broken => {
-                return ListEnd::Broken;
-            }
-        }
+    while !at.is_finished() {
+        (_, at) = next_item(words, numbers, at)?;
     }
-    ListEnd::At(at.word, at.number)
+    Some(ListEnd {
+        word: at.word,
+        number: at.number,
+    })
 }
 
-// Where the path that begins at a word and a number ends, in lists of so many numbers.
-pub fn next_path(words: &[u32], numbers: usize, word: usize, number: usize) -> ListEnd
+// Where the path that begins at a word and a number ends, in lists of so many numbers; or it is not whole.
+#[tactic(auto, using(crate::proofs::Judged::ends_path))]
+pub fn next_path(words: &[u32], numbers: usize, word: usize, number: usize) -> Option<ListEnd>
     requires { (word ≤ length words.now) × (number ≤ numbers) }
     ensures { EndsPath words.now numbers word number result }
 {
-    pass_all(
-        words,
-        numbers,
-        Place {
-            word: word,
-            number: number,
-            parts: 0,
-            paths: 1,
-            lines: 0,
-        },
-    )
+    let from = Place {
+        word,
+        number,
+        parts: 0,
+        paths: 1,
+        lines: 0,
+    };
+    pass_all(words, numbers, from)
 }
 
 // Each switch of a record is 0 or 1.
 fn are_switches(c: HatchCounts) -> bool
     ensures { result ≡ switches c }
 {
-    if 1 < c.solid_fill {
-        return false;
-    }
-    if 1 < c.associative {
-        return false;
-    }
-    c.pattern_double <= 1
+    c.solid_fill <= 1 && c.associative <= 1 && c.pattern_double <= 1
 }
 
 // Each count of a record is within document 01's cap.
 fn are_counts(c: HatchCounts) -> bool
     ensures { result ≡ counted c }
 {
-    if 16 < c.num_colors {
-        return false;
-    }
-    if 10_000 < c.num_paths {
-        return false;
-    }
-    if 4_096 < c.num_pattern_lines {
-        return false;
-    }
-    c.num_seed_points <= 1_024
+    c.num_colors <= 16
+        && c.num_paths <= 10_000
+        && c.num_pattern_lines <= 4_096
+        && c.num_seed_points <= 1_024
 }
 
 // A record by itself, and beside lists of these lengths.
 fn is_fitting(c: HatchCounts, words: usize, numbers: usize) -> bool
     ensures { result ≡ fitting c words numbers }
 {
-    if !are_switches(c) {
-        return false;
-    }
-    if !are_counts(c) {
-        return false;
-    }
-    if words < c.words_used {
-        return false;
-    }
-    c.numbers_used <= numbers
+    are_switches(c) && are_counts(c) && c.words_used <= words && c.numbers_used <= numbers
 }
 
-// Whether a walk ended behind the last word, before the numbers of so many seed points and no more.
-fn is_end(end: ListEnd, words: usize, numbers: usize, seeds: usize) -> bool
-    requires { EndWithin numbers end × (seeds ≤ 1_024) }
-    ensures { result ≡ ends_whole end words numbers seeds }
+// Whether a walk over a record's lists ended behind the last word, before the numbers of the seed points and no more.
+fn is_end(end: ListEnd, c: HatchCounts) -> bool
+    requires { (end.number ≤ c.numbers_used) × (c.num_seed_points ≤ 1_024) }
+    ensures { result ≡ ends_whole c (Some end) }
 {
-    match end {
-        ListEnd::At(word, number) => {
-            if word < words {
-                return false;
-            }
-            numbers - number == seeds * 2
-        }
-        ListEnd::Broken => false,
-    }
+    c.words_used <= end.word && c.numbers_used - end.number == c.num_seed_points * 2
 }
 
 // Whether a record and its lists, of which that of numbers has so many, are whole.
@@ -272,13 +208,9 @@ pub fn is_whole(c: HatchCounts, words: &[u32], numbers: usize) -> bool
     if !is_fitting(c, words.len(), numbers) {
         return false;
     }
-    let start = Place {
-        word: 0,
-        number: 0,
-        parts: 0,
-        paths: c.num_paths,
-        lines: c.num_pattern_lines,
-    };
-    let end = pass_all(&words[..c.words_used], c.numbers_used, start);
-    is_end(end, c.words_used, c.numbers_used, c.num_seed_points)
+    let used = &words[..c.words_used];
+    match pass_all(used, c.numbers_used, Place::start(c)) {
+        Some(end) => is_end(end, c),
+        None => false,
+    }
 }

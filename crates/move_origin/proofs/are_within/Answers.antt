@@ -26,34 +26,34 @@ next_item-requires c =
 pub item_within-requires : goal.item_within-requires
 item_within-requires c =
     let a = c.args in
-    let s = subst (Steps a.words.now a.used c.loop-i.at) c.in-Next.is c.next_item.ensures in
+    let s = subst (Steps a.words.now a.used c.loop-i.at) c.in-Some.is c.next_item.ensures in
     let on = s.onward in
     (on.3, omega (arith, on.2, on.1.number, c.requires.room))
 
 pub returns-then-not-item_within : goal.returns-then-not-item_within
 returns-then-not-item_within c =
     let a = c.args in
-    let s = subst (Steps a.words.now a.used c.loop-i.at) c.in-Next.is c.next_item.ensures in
+    let s = subst (Steps a.words.now a.used c.loop-i.at) c.in-Some.is c.next_item.ensures in
     let no = sym c.item_within.ensures ∙ c.if-not-item_within.true in
     sym (in_range_no is_within a.words.now a.used a.numbers.now a.seeds c.requires.ends c.loop-i.invariant s no)
 
 pub loop-i-smaller : goal.loop-i-smaller
 loop-i-smaller c =
     let a = (c).args in
-    let s = subst (Steps a.words.now a.used c.loop-i.at) c.in-Next.is c.next_item.ensures in
+    let s = subst (Steps a.words.now a.used c.loop-i.at) c.in-Some.is c.next_item.ensures in
     omega (arith, s.onward.0, s.onward.1.word)
 
 pub loop-i-preserved : goal.loop-i-preserved
 loop-i-preserved c =
     let a = (c).args in
-    let s = subst (Steps a.words.now a.used c.loop-i.at) c.in-Next.is c.next_item.ensures in
+    let s = subst (Steps a.words.now a.used c.loop-i.at) c.in-Some.is c.next_item.ensures in
     let yes = sym c.item_within.ensures ∙ c.if-not-item_within.false in
     in_range_next is_within a.words.now a.used a.numbers.now c.loop-i.invariant s yes
 
-pub returns-in-Broken : goal.returns-in-Broken
-returns-in-Broken c =
+pub returns-in-None : goal.returns-in-None
+returns-in-None c =
     let a = c.args in
-    let s = subst (Steps a.words.now a.used c.loop-i.at) c.in-Broken.is c.next_item.ensures in
+    let s = subst (Steps a.words.now a.used c.loop-i.at) c.in-None.is c.next_item.ensures in
     never_broken a.words.now a.used a.seeds a.from c.loop-i.invariant.along c.requires.ends s
 
 pub seeds_item-requires : goal.seeds_item-requires

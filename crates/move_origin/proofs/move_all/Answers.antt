@@ -29,7 +29,7 @@ next_item-requires c =
 pub move_item-requires : goal.move_item-requires
 move_item-requires c =
     let a = c.args in
-    let s = subst (Steps a.words.now a.used c.loop-i.at) c.in-Next.is c.next_item.ensures in
+    let s = subst (Steps a.words.now a.used c.loop-i.at) c.in-Some.is c.next_item.ensures in
     let on = s.onward in
     let long = moved_long difference a.x a.y a.words.now a.used a.numbers.now c.loop-i.invariant in
     (on.3, omega (arith, on.2, on.1.number, c.requires.room, long))
@@ -37,25 +37,25 @@ move_item-requires c =
 pub loop-i-smaller : goal.loop-i-smaller
 loop-i-smaller c =
     let a = (c).args in
-    let s = subst (Steps a.words.now a.used c.loop-i.at) c.in-Next.is c.next_item.ensures in
+    let s = subst (Steps a.words.now a.used c.loop-i.at) c.in-Some.is c.next_item.ensures in
     omega (arith, s.onward.0, s.onward.1.word)
 
 pub loop-i-preserved : goal.loop-i-preserved
 loop-i-preserved c =
     let a = c.args in
-    let s = subst (Steps a.words.now a.used c.loop-i.at) c.in-Next.is c.next_item.ensures in
+    let s = subst (Steps a.words.now a.used c.loop-i.at) c.in-Some.is c.next_item.ensures in
     let room : a.from.number ≤ length a.numbers.now = omega (arith, c.requires.within.number, c.requires.room) in
     moved_next difference a.x a.y a.words.now a.used a.numbers.now room c.loop-i.invariant s c.move_item.ensures
 
-pub shape_of-numbers-in-Broken : goal.shape_of-numbers-in-Broken
-shape_of-numbers-in-Broken c =
+pub shape_of-numbers-in-None : goal.shape_of-numbers-in-None
+shape_of-numbers-in-None c =
     let a = c.args in
     moved_long difference a.x a.y a.words.now a.used a.numbers.now c.loop-i.invariant
 
-pub returns-in-Broken : goal.returns-in-Broken
-returns-in-Broken c =
+pub returns-in-None : goal.returns-in-None
+returns-in-None c =
     let a = c.args in
-    let s = subst (Steps a.words.now a.used c.loop-i.at) c.in-Broken.is c.next_item.ensures in
+    let s = subst (Steps a.words.now a.used c.loop-i.at) c.in-None.is c.next_item.ensures in
     never_broken a.words.now a.used a.seeds a.from c.loop-i.invariant.along c.requires.ends s
 
 pub seeds_item-requires : goal.seeds_item-requires

@@ -1,35 +1,28 @@
 -- The walk begins with the last part, a handle count, or with an edge, and goes on behind what was found.
-use mathlib.Core.Path.{sym, subst}
 use Prim.Native.Nat.{◌-◌}
 use native.Mathlib.Omega.{arith}
-use Rattle.hatch_format.specs.Caps.{document_caps}
-use Rattle.hatch_lists.specs.Steps.{handles_step, edge_step}
-use Rattle.whole_lists.specs.Stepped.{Steps}
-use Rattle.whole_lists.proofs.StepLaws.{small_at, steps_item, begins_handles, begins_edge}
+use Rattle.hatch_lists.specs.declared.Item.{Item}
+use Rattle.whole_lists.proofs.StepLaws.{steps_found, steps_broken, begins_handles, begins_edge}
 use Rattle.whole_lists.proofs.part_step.Goals as goal
+use Rattle.whole_lists.proofs.part_step.Goals.{then-at-eq1+in_ok-handles_item, else-at-eq1+in_ok-i}
 
-pub pass_found-requires : goal.pass_found-requires
-pass_found-requires c =
+pub returns-in_err-i : goal.returns-in_err-i
+returns-in_err-i c =
     let a = c.args in
-    (small_at a.words.now a.at.word c.handles_item-handles.result (handles_step document_caps) c.handles_item-handles.ensures, c.requires.0.number)
-
-pub returns-then-at-eq1 : goal.returns-then-at-eq1
-returns-then-at-eq1 c =
-    let a = c.args in
-    subst (Steps a.words.now a.numbers a.at) (sym c.pass_found.ensures)
-    (steps_item (handles_step document_caps) a.words.now a.numbers a.at 0 a.at.paths a.at.lines c.requires.0 (omega arith)
-    (begins_handles a.words.now a.numbers a.at (omega arith))
-    c.handles_item-handles.result c.handles_item-handles.ensures)
-
-pub pass_found-requires-2 : goal.pass_found-requires-2
-pass_found-requires-2 c =
-    let a = c.args in
-    (small_at a.words.now a.at.word c.edge_item-edge.result (edge_step document_caps) c.edge_item-edge.ensures, c.requires.0.number)
+    steps_broken (λ i. i) (λ i. a.at.parts - 1) (begins_edge a.words.now a.numbers a.at (omega (arith, c.requires.1))) c.in_err-i.ensures
+    c.from_residual-in_err-i.ensures
 
 pub returns : goal.returns
 returns c =
     let a = c.args in
-    subst (Steps a.words.now a.numbers a.at) (sym c.pass_found-2.ensures)
-    (steps_item (edge_step document_caps) a.words.now a.numbers a.at (a.at.parts - 1) a.at.paths a.at.lines c.requires.0
-    (omega (arith, c.requires.0.parts)) (begins_edge a.words.now a.numbers a.at (omega (arith, c.requires.1)))
-    c.edge_item-edge.result c.edge_item-edge.ensures)
+    let few = λ (i : Item). a.at.parts - 1 in
+    elim c.if-at-eq1.branch [
+      | then-at-eq1+in_ok-handles_item w ↦
+          (let f = w.in_ok-handles_item.ensures in
+          steps_found (λ i. i) few (begins_handles a.words.now a.numbers a.at w.if-at-eq1.true) c.requires.0 f.0 f.1 f.2 (omega arith)
+          (rw w.word-is at c.pass.ensures))
+      | else-at-eq1+in_ok-i w ↦
+          (let f = w.in_ok-i.ensures in
+          steps_found (λ i. i) few (begins_edge a.words.now a.numbers a.at (omega (arith, c.requires.1))) c.requires.0 f.0 f.1 f.2
+          (omega (arith, c.requires.0.parts)) (rw w.word-is at c.pass.ensures))
+    ]

@@ -1,3 +1,4 @@
+-- The walk goes on from item to item, a word at least each time; where nothing is left, what comes behind it begins there.
 use Prim.Native.Nat.{◌-◌}
 use lib.ListN.{length}
 use Rattle.whole_lists.proofs.Loops.{Along}

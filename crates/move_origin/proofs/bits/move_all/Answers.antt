@@ -32,7 +32,7 @@ next_item-requires c =
 pub move_item_bits-requires : goal.move_item_bits-requires
 move_item_bits-requires c =
     let a = c.args in
-    let s = subst (Steps a.words.now a.used c.loop-i.at) c.in-Next.is c.next_item.ensures in
+    let s = subst (Steps a.words.now a.used c.loop-i.at) c.in-Some.is c.next_item.ensures in
     let on = s.onward in
     let long = moved_long difference_bits a.x a.y a.words.now a.used a.bits.now c.loop-i.invariant in
     let room : a.from.number ≤ length a.bits.now = omega (arith, c.requires.0.within.number, c.requires.0.room) in (
@@ -45,25 +45,25 @@ move_item_bits-requires c =
 pub loop-i-smaller : goal.loop-i-smaller
 loop-i-smaller c =
     let a = (c).args in
-    let s = subst (Steps a.words.now a.used c.loop-i.at) c.in-Next.is c.next_item.ensures in
+    let s = subst (Steps a.words.now a.used c.loop-i.at) c.in-Some.is c.next_item.ensures in
     omega (arith, s.onward.0, s.onward.1.word)
 
 pub loop-i-preserved : goal.loop-i-preserved
 loop-i-preserved c =
     let a = c.args in
-    let s = subst (Steps a.words.now a.used c.loop-i.at) c.in-Next.is c.next_item.ensures in
+    let s = subst (Steps a.words.now a.used c.loop-i.at) c.in-Some.is c.next_item.ensures in
     let room : a.from.number ≤ length a.bits.now = omega (arith, c.requires.0.within.number, c.requires.0.room) in
     moved_next difference_bits a.x a.y a.words.now a.used a.bits.now room c.loop-i.invariant s c.move_item_bits.ensures
 
-pub shape_of-bits-in-Broken : goal.shape_of-bits-in-Broken
-shape_of-bits-in-Broken c =
+pub shape_of-bits-in-None : goal.shape_of-bits-in-None
+shape_of-bits-in-None c =
     let a = c.args in
     moved_long difference_bits a.x a.y a.words.now a.used a.bits.now c.loop-i.invariant
 
-pub returns-in-Broken : goal.returns-in-Broken
-returns-in-Broken c =
+pub returns-in-None : goal.returns-in-None
+returns-in-None c =
     let a = c.args in
-    let s = subst (Steps a.words.now a.used c.loop-i.at) c.in-Broken.is c.next_item.ensures in
+    let s = subst (Steps a.words.now a.used c.loop-i.at) c.in-None.is c.next_item.ensures in
     never_broken a.words.now a.used a.seeds a.from c.loop-i.invariant.along c.requires.0.ends s
 
 pub seeds_item-requires : goal.seeds_item-requires
