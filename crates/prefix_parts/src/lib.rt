@@ -168,10 +168,10 @@ pub fn read_styles(s: &[u8], at: usize, row: Row) -> Reading<Styles>
     ensures { outcome result ≡ (styles row).read s.now at }
 {
     let (ltype_scale, p) = within::read_bd_bits(s, at)?;
-    let (ltype_flags, p) = sequence::held_bits(s, p, 2, row.ltype_and_plotstyle, 0)?;
-    let (plotstyle_flag, p) = sequence::held_bits(s, p, 2, row.ltype_and_plotstyle, 0)?;
-    let (material_flag, p) = sequence::held_bits(s, p, 2, row.material_and_shadow, 0)?;
-    let (shadow_flags, p) = sequence::held_bits(s, p, 8, row.material_and_shadow, 0)?;
+    let (ltype_flags, p) = sequence::held_bits(s, p, 2, row.ltype_and_plotstyle)?;
+    let (plotstyle_flag, p) = sequence::held_bits(s, p, 2, row.ltype_and_plotstyle)?;
+    let (material_flag, p) = sequence::held_bits(s, p, 2, row.material_and_shadow)?;
+    let (shadow_flags, p) = sequence::held_bits(s, p, 8, row.material_and_shadow)?;
     let styles = Styles {
         ltype_scale,
         ltype_flags,
@@ -191,7 +191,7 @@ pub fn read_tail(s: &[u8], at: usize, row: Row) -> Reading<Tail>
     let (face, p) = sequence::held_flag(s, p, row.visual_styles, false)?;
     let (edge, p) = sequence::held_flag(s, p, row.visual_styles, false)?;
     let (invisible, p) = within::read_bs_u(s, p)?;
-    let (lineweight, p) = sequence::held_bits(s, p, 8, row.lineweight, 0)?;
+    let (lineweight, p) = sequence::held_bits(s, p, 8, row.lineweight)?;
     let tail = Tail {
         visual_style_flags: [full, face, edge],
         invisibility: bitcursor::values::short_of(invisible),
