@@ -2,6 +2,7 @@
 -- Assumes nothing.
 use Rattle.std.specs.Prelude.{true, false, List, ℕ, leb, length, Result, Ok, Err}
 use Rattle.loads.specs.Bits.{limit}
+use Rattle.bitcursor.specs.declared.Refusal.{Refusal}
 use Rattle.bitcursor.specs.declared.Refusal.TheVariants.{PayloadTooLong}
 use Rattle.bitcursor.specs.declared.Refused.{Refused}
 use Rattle.bitcursor.specs.Reading.{Out, got, refused}
@@ -15,6 +16,11 @@ outcome (Err e) = refused e.refusal e.place
 abbrev pub passing : {P : Type 0} → Result P (Refused P) → Out P (Unit {0})
 passing (Ok p) = got tt p
 passing (Err e) = refused e.refusal e.place
+
+-- what a reader answers that has the place itself: the value or the refusal
+abbrev pub answer : {A P : Type 0} → Out P A → Result A Refusal
+answer (got a p) = Ok a
+answer (refused r p) = Err r
 
 -- a reading with its value as another: a double of its pattern (the NaN where it is a NaN's)
 abbrev pub value_as : {A B P : Type 0} → (A → B) → Out P A → Out P B

@@ -1,20 +1,25 @@
 -- A field that a release may lack: its code, or the value that stands for it. Assumes nothing.
-use Rattle.std.specs.Prelude.{◌≡◌, Bool, true, false, ℕ, ◌<◌}
+use Rattle.std.specs.Prelude.{◌≡◌, Bool, true, false, ℕ, ◌<◌, Option, Some, None}
 use Rattle.std.proofs.Common.{ap}
-use Rattle.bitcursor.specs.Code.{Code, give}
+use Rattle.bitcursor.specs.Code.{Code, give, mapped}
 use Rattle.bitcursor.specs.Ranges.{Below}
 
-unfoldable pub held : Bool → Code ℕ → ℕ → Code ℕ
-held true c absent = c
-held false c absent = give absent
+module _ {A : Type 0} where
+  unfoldable pub held : Bool → Code A → A → Code A
+  held true c absent = c
+  held false c absent = give absent
 
-pub held_yes : (c : Code ℕ) (absent : ℕ) {b : Bool} → b ≡ true → held b c absent ≡ c
-unfolding held
-held_yes c absent e = ap (λ (t : Bool). held t c absent) e
+  pub held_yes : (c : Code A) (absent : A) {b : Bool} → b ≡ true → held b c absent ≡ c
+  unfolding held
+  held_yes c absent e = ap (λ (t : Bool). held t c absent) e
 
-pub held_no : (c : Code ℕ) (absent : ℕ) {b : Bool} → b ≡ false → held b c absent ≡ give absent
-unfolding held
-held_no c absent e = ap (λ (t : Bool). held t c absent) e
+  pub held_no : (c : Code A) (absent : A) {b : Bool} → b ≡ false → held b c absent ≡ give absent
+  unfolding held
+  held_no c absent e = ap (λ (t : Bool). held t c absent) e
+
+-- where the value says whether the field was there
+unfoldable pub marked : {A : Type 0} → Bool → Code A → Code (Option A)
+marked there c = held there (mapped Some c) None
 
 pub held_below : (n : ℕ) (b : Bool) (c : Code ℕ) (absent : ℕ) → absent < n → Below n c → Below n (held b c absent)
 unfolding held give

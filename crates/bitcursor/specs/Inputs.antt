@@ -5,7 +5,7 @@ use Rattle.loads.specs.Bits.{Alike, Begins}
 use Rattle.loads.specs.BitLaws.{alike_down}
 use Rattle.bitcursor.specs.Code.{Moves, stay, moves_then}
 use Rattle.bitcursor.specs.Format.{Input}
-pub use Rattle.bitcursor.specs.declared.Places.{Places}
+use Rattle.bitcursor.specs.declared.places.Places.{Places as CodePlaces}
 
 -- one payload and a bit number in it
 abbrev pub one : Input
@@ -24,6 +24,10 @@ one =
       agree_known = λ xs ys p h. refl;
       longer_known = λ xs ys h. refl;
     }
+
+-- a place in each payload; without a reader the second is 0
+abbrev pub Places : Type 0
+Places = CodePlaces
 
 -- both payloads, whether a string reader is lent, and its end bit
 pub record Payloads : Type 0 where

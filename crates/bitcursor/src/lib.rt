@@ -6,8 +6,11 @@
 ghost use Rattle.std.specs.Prelude.{◌≡◌, Err};
 ghost use Rattle.bitcursor.specs.Refusals.{refusal_number};
 
+mod places;
 pub mod values;
 pub mod within;
+
+pub use places::Places;
 
 // Why a reading stops: the rows of document 01's table, to which `refusal_number` of specs/Refusals gives their numbers.
 #[derive(Clone, Copy, Debug, PartialEq, Eq)]
@@ -44,13 +47,6 @@ impl From<Refusal> for u8 {
             Refusal::ListTooShort => 11,
         }
     }
-}
-
-// A place in each payload, in bits; without a string reader the second is 0.
-#[derive(Clone, Copy, Debug, PartialEq, Eq)]
-pub struct Places {
-    pub main: usize,
-    pub string: usize,
 }
 
 // A refusal and its place: a bit of one payload, or one in each of both.

@@ -1,11 +1,11 @@
 -- What follows for a cursor that is used again and again, of the cursor afterwards (specs/Repeated.antt has the rest). They rest on the definition
 -- `after`, so they stand here: an edit of that definition is then tried against the contracts. Assumes nothing.
-use Rattle.std.specs.Prelude.{◌≡◌, List, ℕ, ◌≤◌, ◌<◌, length}
+use Rattle.std.specs.Prelude.{◌≡◌, refl, List, ℕ, ◌≤◌, ◌<◌, length}
 use Rattle.std.proofs.Common.{ap, ⊎_elim, arith}
-use Rattle.bitcursor.specs.Reading.{place}
+use Rattle.bitcursor.specs.Reading.{Out, got, refused, place}
 use Rattle.bitcursor.specs.Code.{Code}
 use Rattle.bitcursor.specs.Bytes.{le_or_lt}
-use Rattle.bitcursor.specs.Answers.{limited}
+use Rattle.bitcursor.specs.Answers.{limited, value_as}
 use Rattle.loads.specs.Bits.{limit}
 use Rattle.bitcursor.proofs.Steps.{limit_above}
 use Rattle.cursor.specs.declared.BitCursor.{BitCursor}
@@ -27,3 +27,8 @@ module _ {A : Type 0} (code : Code A) (xs : List ℕ) where
   -- so the next code is read where this one ended, as two calls by value do it
   pub read_next : {B : Type 0} (next : Code B) (c : BitCursor) → read_at next xs (after (read_at code xs c)) ≡ limited next.read xs (place (read_at code xs c))
   read_next next c = ap (limited next.read xs) (stands_after c)
+
+-- and a double read leaves the cursor where its 64 bits do
+pub after_as : {A B : Type 0} (as_value : A → B) (o : Out ℕ A) → after (value_as as_value o) ≡ after o
+after_as as_value (got a p) = refl
+after_as as_value (refused r p) = refl

@@ -2,7 +2,6 @@
 use Rattle.std.specs.Prelude.{◌≡◌, List, ◌++◌, ℕ, Float, length, drop}
 use Rattle.bitcursor.specs.Reading.{Out, got, refused}
 use Rattle.bitcursor.specs.Inputs.{Places}
-use Rattle.text.specs.Answers.{as_places}
 use Rattle.hatch_format.specs.Caps.{document_caps}
 use Rattle.hatch_format.specs.Values.{Rest, Body}
 use Rattle.hatch_format.specs.Entries.{words, numbers}
@@ -67,8 +66,8 @@ pub record ReadsParts {A : Type 0} (e : Rest → List A) (xs : List ℕ) (o : Ou
 
 -- ---- the lengths that a readable hatch needs, whatever is lent
 abbrev pub as_lengths : Out Places Body → Lengths
-as_lengths (got a q) = record { outcome = Read; words = length (words a.rest); numbers = length (numbers a.rest); places = as_places q }
-as_lengths (refused k q) = record { outcome = Refused k; words = 0; numbers = 0; places = as_places q }
+as_lengths (got a q) = record { outcome = Read; words = length (words a.rest); numbers = length (numbers a.rest); places = q }
+as_lengths (refused k q) = record { outcome = Refused k; words = 0; numbers = 0; places = q }
 
 -- longer than any list is
 abbrev pub most : ℕ

@@ -1,6 +1,6 @@
 -- Measuring: what a call that takes both lists to be as long as can be says of the same call with lists of any lengths. Theorems about the
 -- call's own definition, with a reader and without, for any caps. Assumes nothing.
-use Rattle.std.specs.Prelude.{◌≡◌, refl, Bool, true, false, ◌⊎◌, ℕ, ◌+◌, ◌*◌, ◌≤◌, ◌<◌, leb, length}
+use Rattle.std.specs.Prelude.{Option, Some, None, ◌≡◌, refl, Bool, true, false, ◌⊎◌, ℕ, ◌+◌, ◌*◌, ◌≤◌, ◌<◌, leb, length}
 use Rattle.std.proofs.Common.{sym, ap, subst, ◌∙◌, inl, inr, arith, leb→le, le-leb, leb-false}
 use Rattle.std.proofs.lemmas.Bool.{lt-leb}
 use Rattle.bitcursor.specs.declared.Refusal.{Refusal}
@@ -10,8 +10,6 @@ use Rattle.bitcursor.specs.Reading.{Out, got, refused, place, never}
 use Rattle.bitcursor.specs.Whole.{refused_by_fields}
 use Rattle.bitcursor.specs.Inputs.{Places, Onward}
 use Rattle.text.specs.declared.version.Version.{Version}
-use Rattle.text.specs.declared.version.MaybeVersion.{MaybeVersion}
-use Rattle.text.specs.declared.version.MaybeVersion.TheVariants.{Known, Unknown}
 use Rattle.text.specs.Releases.{version_of}
 use Rattle.hatch_format.specs.Values.{Body}
 use Rattle.hatch_format.specs.Entries.{words, numbers}
@@ -75,14 +73,14 @@ looks_last c = go (version_of c.release) (leb (length c.main) limit) (leb (lengt
           not_short = λ q e. n (cc);
         }
 
-    go : (m : MaybeVersion) (s t u : Bool) → version_of c.release ≡ m → leb (length c.main) limit ≡ s → leb (length (payloads_of c).string) limit ≡ t
+    go : (m : Option Version) (s t u : Bool) → version_of c.release ≡ m → leb (length c.main) limit ≡ s → leb (length (payloads_of c).string) limit ≡ t
         → leb (starts_of c).string (size (payloads_of c).string) ≡ u → LooksLast c
-    go Unknown s t u e f g h = none UnknownRelease (starts_of c) (λ i. let z : ◌≡◌ {A = ℕ} 0 1 = cc in omega arith) (λ nw nn. rw e)
-    go (Known v) false t u e f g h = none PayloadTooLong (starts_of c) (λ i. let z : ◌≡◌ {A = ℕ} 0 1 = cc in omega arith) (λ nw nn. rw (e, f))
-    go (Known v) true false u e f g h = none PayloadTooLong (starts_of c) (λ i. let z : ◌≡◌ {A = ℕ} 0 1 = cc in omega arith) (λ nw nn. rw (e, f, g))
-    go (Known v) true true false e f g h = none TooFewBits (past_places c)
+    go None s t u e f g h = none UnknownRelease (starts_of c) (λ i. let z : ◌≡◌ {A = ℕ} 0 1 = cc in omega arith) (λ nw nn. rw e)
+    go (Some v) false t u e f g h = none PayloadTooLong (starts_of c) (λ i. let z : ◌≡◌ {A = ℕ} 0 1 = cc in omega arith) (λ nw nn. rw (e, f))
+    go (Some v) true false u e f g h = none PayloadTooLong (starts_of c) (λ i. let z : ◌≡◌ {A = ℕ} 0 1 = cc in omega arith) (λ nw nn. rw (e, f, g))
+    go (Some v) true true false e f g h = none TooFewBits (past_places c)
         (λ i. let z : ◌≡◌ {A = ℕ} 0 1 = cc in omega arith) (λ nw nn. rw (e, f, g, h))
-    go (Known v) true true true e f g h =
+    go (Some v) true true true e f g h =
         record {
           fields = (hatch c.caps c.handles v).read (payloads_of c) (starts_of c);
           last = λ nw nn. rw (e, f, g, h);

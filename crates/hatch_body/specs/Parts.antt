@@ -5,7 +5,6 @@ use Rattle.bitcursor.specs.Reading.{Out, got, refused}
 use Rattle.loads.specs.Bits.{limit}
 use Rattle.bitcursor.specs.Inputs.{Places as Starts}
 use Rattle.text.specs.declared.Places.{Places}
-use Rattle.text.specs.Answers.{as_places}
 use Rattle.hatch_format.specs.Values.{Body, Rest as RestValue}
 use Rattle.hatch_points.specs.declared.lists.Sizes.{Sizes}
 use Rattle.hatch_points.specs.Lists.{Lists, store, grow}
@@ -24,13 +23,13 @@ parts_of at a q =
       front = front_of at (record { gradient = a.gradient; plane = a.plane; name = a.name });
       rest = rest_of a.rest;
       used = grow no_sizes (rest_entries a.rest);
-      places = as_places q;
+      places = q;
     }
 
 -- what is answered for a reading or a refusal
 abbrev pub BodyIs : List ℕ → Out Starts Body → BodyRead → Type 0
 BodyIs xs (got a q) r = (at : ℕ) × (r ≡ Done (parts_of at a q)) × ColorsAt xs at a.gradient.colors
-BodyIs xs (refused k q) r = r ≡ RefusedBody k (as_places q)
+BodyIs xs (refused k q) r = r ≡ RefusedBody k q
 
 -- small enough for the record's fields, and the payload, of which colours are read again, within the limit
 abbrev pub Small : Parts → Type 0

@@ -1,4 +1,5 @@
 -- A whole call from the answers for its parts, and the tests in front of it. Assumes nothing.
+use Rattle.std.specs.Prelude.{Some, None}
 use mathlib.Core.Path.{◌≡◌, refl, sym, ap, ap₂, subst, ◌∙◌}
 use mathlib.Core.Bool.{Bool, true, false, ◌&&◌}
 use mathlib.Core.List.{List}
@@ -17,9 +18,7 @@ use Rattle.bitcursor.specs.Fields.{main, part_in, lifted, moved_in}
 use Rattle.string_start.specs.Start.{start_in}
 use Rattle.text.specs.declared.Places.{Places as CodePlaces}
 use Rattle.text.specs.declared.version.Version.{Version}
-use Rattle.text.specs.declared.version.MaybeVersion.TheVariants.{Known, Unknown}
 use Rattle.text.specs.Releases.{release_number, version_of}
-use Rattle.text.specs.Answers.{as_places, places_of}
 use Rattle.hatch_format.specs.declared.Caps.{Caps}
 use Rattle.hatch_format.specs.HandleRule.{Handles}
 use Rattle.hatch_format.specs.Values.{Rest as RestValue, Body}
@@ -47,28 +46,28 @@ use Rattle.hatch_body.proofs.BodyLaws.{used_words, used_numbers, rest_range}
 
 -- ---- from the front's answer, what was read
 pub front_got : (xs : List ℕ) (o : Out Places Front) {x : FrontRead} {f : CodeFront} {p : CodePlaces} → FrontIs xs o x → x ≡ DoneFront f p
-    → (a : Front) × (at : ℕ) × (o ≡ got a (places_of p)) × (f ≡ front_of at a) × ColorsAt xs at a.gradient.colors
+    → (a : Front) × (at : ℕ) × (o ≡ got a p) × (f ≡ front_of at a) × ColorsAt xs at a.gradient.colors
 front_got xs (got a q) {x} {f} {p} e h =
-    let i : DoneFront f p ≡ DoneFront (front_of e.0 a) (as_places q) = sym h ∙ e.1 in
-    let ep : as_places q ≡ p = cc in
+    let i : DoneFront f p ≡ DoneFront (front_of e.0 a) q = sym h ∙ e.1 in
+    let ep : q ≡ p = cc in
     let ef : f ≡ front_of e.0 a = cc in
-    (a, e.0, ap (got a) (ap places_of ep), ef, e.2)
+    (a, e.0, ap (got a) (ap ep), ef, e.2)
 front_got xs (refused k q) {x} {f} {p} e h =
-    let i : DoneFront f p ≡ RefusedFront k (as_places q) = sym h ∙ e in
+    let i : DoneFront f p ≡ RefusedFront k q = sym h ∙ e in
     let z : ◌≡◌ {A = ℕ} 0 1 = cc in
     absurd (omega arith)
 
 pub front_refused : (xs : List ℕ) (o : Out Places Front) {x : FrontRead} {k : Refusal} {p : CodePlaces} → FrontIs xs o x → x ≡ RefusedFront k p
-    → o ≡ refused k (places_of p)
+    → o ≡ refused k p
 front_refused xs (got a q) {x} {k} {p} e h =
-    let i : RefusedFront k p ≡ DoneFront (front_of e.0 a) (as_places q) = sym h ∙ e.1 in
+    let i : RefusedFront k p ≡ DoneFront (front_of e.0 a) q = sym h ∙ e.1 in
     let z : ◌≡◌ {A = ℕ} 0 1 = cc in
     absurd (omega arith)
 front_refused xs (refused j q) {x} {k} {p} e h =
-    let i : RefusedFront k p ≡ RefusedFront j (as_places q) = sym h ∙ e in
+    let i : RefusedFront k p ≡ RefusedFront j q = sym h ∙ e in
     let ek : j ≡ k = cc in
-    let ep : as_places q ≡ p = cc in
-    ap₂ refused ek (ap places_of ep)
+    let ep : q ≡ p = cc in
+    ap₂ refused ek (ap ep)
 
 -- the rest starts within the main payload: the front's first field is a code of two bits at least
 pub front_within : (caps : Caps) (v : Version) (γ : Payloads) (p : Places) {f : Front} {q : Places} → (front caps v).read γ p ≡ got f q
@@ -102,15 +101,15 @@ module _ (caps : Caps) (handles : Handles) (v : Version) (γ : Payloads) (f : Fr
 
   answered : (l : Lists) (a : RestValue) (t : ℕ) → (a.tail.pattern_style < 2 ^ 16) × (a.tail.pattern_type < 2 ^ 16) → (b : Bool)
       → CallIs γ.main (elim b [ true ↦ got (body a) (moved_in main q t) | false ↦ refused ListTooShort (moved_in main q t) ]) l (laid_if b l a)
-      (parts_if b (front_of at f) a (placed (as_places q) t))
+      (parts_if b (front_of at f) a (placed q t))
   answered l a t small true = record { body = (at, refl, colors); readable = (within, (colors.few, small)); lists = refl }
   answered l a t small false = record { body = refl; readable = tt; lists = refl }
 
   pub behind_is : (l : Lists) (p : ℕ) (o : Out ℕ RestValue) → (rest caps handles v).read γ.main p ≡ o
-      → CallIs γ.main (behind o) l (rest_lists l nw nn o) (rest_read (front_of at f) nw nn (as_places q) o)
+      → CallIs γ.main (behind o) l (rest_lists l nw nn o) (rest_read (front_of at f) nw nn q o)
   behind_is l p (refused k t) e = record { body = refl; readable = tt; lists = refl }
   behind_is l p (got a t) e =
-      subst (λ (b : Bool). CallIs γ.main (behind (got a t)) l (laid_if b l a) (parts_if b (front_of at f) a (placed (as_places q) t))) (same_room a)
+      subst (λ (b : Bool). CallIs γ.main (behind (got a t)) l (laid_if b l a) (parts_if b (front_of at f) a (placed q t))) (same_room a)
       (answered l a t (rest_range caps handles v γ.main p e) (leb (length (words a)) nw && leb (length (numbers a)) nn))
 
 module _ (caps : Caps) (handles : Handles) (v : Version) (γ : Payloads) where
@@ -129,9 +128,9 @@ module _ (caps : Caps) (handles : Handles) (v : Version) (γ : Payloads) (p : Pl
   body_done {f} {c} {u} l {l'} within h k =
       let t = front_got γ.main ((front caps v).read γ p) e h in
       let a = t.0 in
-      let read : (hatch caps handles v).read γ p ≡ whole caps handles v γ a (places_of c) =
+      let read : (hatch caps handles v).read γ p ≡ whole caps handles v γ a c =
       hatch_front caps handles v γ p ∙ ap (λ (y : Out Places Front). and_then y (whole caps handles v γ)) t.2 in
-      let is = behind_is caps handles v γ a t.1 (places_of c) nw nn within t.4 l c.main (rest_at caps handles v γ c.main) refl in
+      let is = behind_is caps handles v γ a t.1 c nw nn within t.4 l c.main (rest_at caps handles v γ c.main) refl in
       let same : u ≡ rest_read (front_of t.1 a) nw nn c (rest_at caps handles v γ c.main) = k.0
       ∙ ap (λ (y : CodeFront). rest_read y nw nn c (rest_at caps handles v γ c.main)) t.3 in
       rw (read, same, k.1) is
@@ -140,7 +139,7 @@ module _ (caps : Caps) (handles : Handles) (v : Version) (γ : Payloads) (p : Pl
       → CallIs γ.main (whole_read caps handles v γ p nw nn) l l (RefusedBody k c)
   body_refused {k} {c} l h =
       let none = front_refused γ.main ((front caps v).read γ p) e h in
-      let read : (hatch caps handles v).read γ p ≡ refused k (places_of c) =
+      let read : (hatch caps handles v).read γ p ≡ refused k c =
       hatch_front caps handles v γ p ∙ ap (λ (y : Out Places Front). and_then y (whole caps handles v γ)) none in
       rw read (record { body = refl; readable = tt; lists = refl })
 
@@ -154,11 +153,11 @@ module _ (caps : Caps) (handles : Handles) (nw nn : ℕ) (γ : Payloads) (p : Pl
   abbrev call : Out Places Body
   call = call_on caps handles nw nn γ p release
 
-  pub unknown : version_of release ≡ Unknown → call ≡ refused UnknownRelease p
+  pub unknown : version_of release ≡ None → call ≡ refused UnknownRelease p
   unfolding call_on
   unknown e = rw e
 
-  module _ {v : Version} (e : version_of release ≡ Known v) where
+  module _ {v : Version} (e : version_of release ≡ Some v) where
     pub main_long : limit < length γ.main → call ≡ refused PayloadTooLong p
     unfolding call_on
     main_long h = rw (e, lt-leb _ _ h)
@@ -178,7 +177,7 @@ module _ (caps : Caps) (handles : Handles) (nw nn : ℕ) (γ : Payloads) (p : Pl
       started h = on_start caps handles nw nn γ p release ∙ rw (e, le-leb _ _ f, le-leb _ _ g, h)
 
 -- a call that is refused before its fields
-pub refused_is : (xs : List ℕ) {o : Out Places Body} {k : Refusal} {p : CodePlaces} (l : Lists) → o ≡ refused k (places_of p)
+pub refused_is : (xs : List ℕ) {o : Out Places Body} {k : Refusal} {p : CodePlaces} (l : Lists) → o ≡ refused k p
     → CallIs xs o l l (RefusedBody k p)
 refused_is xs l e = rw e (record { body = refl; readable = tt; lists = refl })
 

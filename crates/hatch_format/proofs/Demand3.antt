@@ -1,5 +1,5 @@
 -- Demand 3 for hatch calls, sentence by sentence: theorems about the call's own definition, on any input. Assumes nothing.
-use Rattle.std.specs.Prelude.{◌≡◌, Bool, ◌&&◌, ◌↔◌, ℕ, ◌*◌, ◌≤◌, length}
+use Rattle.std.specs.Prelude.{Option, Some, None, ◌≡◌, Bool, ◌&&◌, ◌↔◌, ℕ, ◌*◌, ◌≤◌, length}
 use Rattle.std.proofs.Math.Path.{refl}
 use Rattle.std.proofs.Common.{sym, ap, ap₂, subst, ◌∙◌}
 use Rattle.std.proofs.Math.Bool.{true, false}
@@ -14,8 +14,6 @@ use Rattle.bitcursor.specs.Code.{stay}
 use Rattle.bitcursor.specs.Format.{Format, relay}
 use Rattle.bitcursor.specs.Inputs.{both, Places, Onward, Agree}
 use Rattle.text.specs.declared.version.Version.{Version}
-use Rattle.text.specs.declared.version.MaybeVersion.{MaybeVersion}
-use Rattle.text.specs.declared.version.MaybeVersion.TheVariants.{Known, Unknown}
 use Rattle.text.specs.Releases.{version_of}
 use Rattle.hatch_format.specs.Values.{Body}
 use Rattle.hatch_format.specs.Entries.{words, numbers}
@@ -56,7 +54,7 @@ module _ (c : Call) where
   abbrev body : Version → Format both Body
   body = hatch c.caps c.handles
 
-  abbrev by : MaybeVersion → Bool → Bool → Bool → Out Places Body
+  abbrev by : Option Version → Bool → Bool → Bool → Out Places Body
   by = call_by c.caps c.handles c.words c.numbers (payloads_of c) (starts_of c)
 
   sound : (a : Body) (q : Places) → hatch_call c ≡ got a q → HatchLaid c a q
@@ -65,14 +63,14 @@ module _ (c : Call) where
       go (version_of c.release) (leb (length c.main) limit) (leb (length (payloads_of c).string) limit)
       (leb (starts_of c).string (size (payloads_of c).string)) refl refl refl refl e
     where
-      go : (m : MaybeVersion) (s t u : Bool) → version_of c.release ≡ m → leb (length c.main) limit ≡ s
+      go : (m : Option Version) (s t u : Bool) → version_of c.release ≡ m → leb (length c.main) limit ≡ s
           → leb (length (payloads_of c).string) limit ≡ t → leb (starts_of c).string (size (payloads_of c).string) ≡ u
           → by m s t u ≡ got a q → HatchLaid c a q
-      go Unknown s t u em es et eu h = never h
-      go (Known v) false t u em es et eu h = never h
-      go (Known v) true false u em es et eu h = never h
-      go (Known v) true true false em es et eu h = never h
-      go (Known v) true true true em es et eu h =
+      go None s t u em es et eu h = never h
+      go (Some v) false t u em es et eu h = never h
+      go (Some v) true false u em es et eu h = never h
+      go (Some v) true true false em es et eu h = never h
+      go (Some v) true true true em es et eu h =
           let r = room_got c.words c.numbers ((body v).read (payloads_of c) (starts_of c)) h in
           let l = hatch_to c.caps c.handles v (payloads_of c) a (starts_of c) q ((body v).sound (payloads_of c) a (starts_of c) q r.0) in
           let b = body_begins c.caps c.handles v (payloads_of c) a (starts_of c) q l in
@@ -131,12 +129,12 @@ module _ (c : Call) where
       past : FinalPlaces c (record { main = c.start; string = size (payloads_of c).string })
       past = record { main = stay c.main c.start; string_onward = λ h. h; string_inside = omega arith }
 
-      go : (m : MaybeVersion) (s t u : Bool) → FinalPlaces c (place (by m s t u))
-      go Unknown s t u = still
-      go (Known v) false t u = still
-      go (Known v) true false u = still
-      go (Known v) true true false = past
-      go (Known v) true true true =
+      go : (m : Option Version) (s t u : Bool) → FinalPlaces c (place (by m s t u))
+      go None s t u = still
+      go (Some v) false t u = still
+      go (Some v) true false u = still
+      go (Some v) true true false = past
+      go (Some v) true true true =
           rw (room_place c.words c.numbers ((body v).read (payloads_of c) (starts_of c))) (from _ ((body v).grows (payloads_of c) (starts_of c)))
 
 module _ {n : ℕ} where
@@ -167,13 +165,13 @@ module _ (c d : Call) where
     agree : Agree (payloads_of c) (payloads_of d) q
     agree = record { main = h.main; string = alike_bytes h.strings; reader = same_reader h.strings; end = same_end h.strings }
 
-  by_tests : (m : MaybeVersion) (s t u : Bool) → AlikeCalls c d (place (by c m s t u)) → by d m s t u ≡ by c m s t u
-  by_tests Unknown s t u h = ap (refused UnknownRelease) (same_starts h)
-  by_tests (Known v) false t u h = ap (refused PayloadTooLong) (same_starts h)
-  by_tests (Known v) true false u h = ap (refused PayloadTooLong) (same_starts h)
-  by_tests (Known v) true true false h =
+  by_tests : (m : Option Version) (s t u : Bool) → AlikeCalls c d (place (by c m s t u)) → by d m s t u ≡ by c m s t u
+  by_tests None s t u h = ap (refused UnknownRelease) (same_starts h)
+  by_tests (Some v) false t u h = ap (refused PayloadTooLong) (same_starts h)
+  by_tests (Some v) true false u h = ap (refused PayloadTooLong) (same_starts h)
+  by_tests (Some v) true true false h =
       ap₂ (λ (m n : ℕ). refused TooFewBits (record { main = m; string = 8 * n })) h.start (same_length h)
-  by_tests (Known v) true true true h =
+  by_tests (Some v) true true true h =
       let o = (body c v).read (payloads_of c) (starts_of c) in
       let k : AlikeCalls c d (place o) = subst (AlikeCalls c d) (room_place c.words c.numbers o) h in
       let f : (body c v).read (payloads_of d) (starts_of d) ≡ o =

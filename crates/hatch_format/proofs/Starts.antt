@@ -1,5 +1,5 @@
 -- Where the string reader of a hatch call starts, for every start bit: theorems about the call's own definition. Assumes nothing.
-use Rattle.std.specs.Prelude.{◌≡◌, refl, Bool, true, false, ℕ, ◌*◌, ◌≤◌, ◌<◌, leb, length}
+use Rattle.std.specs.Prelude.{Option, Some, None, ◌≡◌, refl, Bool, true, false, ℕ, ◌*◌, ◌≤◌, ◌<◌, leb, length}
 use Rattle.std.proofs.Common.{sym, ap₂, ◌∙◌}
 use borrow.Author.Tests.{le-leb, lt-leb}
 use Rattle.bitcursor.specs.declared.Refusal.TheVariants.{TooFewBits}
@@ -7,8 +7,7 @@ use Rattle.loads.specs.Bits.{size, limit}
 use Rattle.bitcursor.specs.Reading.{refused}
 use Rattle.bitcursor.specs.Inputs.{Places, Payloads}
 use Rattle.string_start.specs.Start.{start_in, start_by}
-use Rattle.text.specs.declared.version.MaybeVersion.{MaybeVersion}
-use Rattle.text.specs.declared.version.MaybeVersion.TheVariants.{Known, Unknown}
+use Rattle.text.specs.declared.version.Version.{Version}
 use Rattle.text.specs.Releases.{version_of}
 use Rattle.hatch_format.specs.declared.Caps.{Caps}
 use Rattle.hatch_format.specs.HandleRule.{Handles}
@@ -22,13 +21,13 @@ module _ (caps : Caps) (handles : Handles) (nw nn : ℕ) (γ : Payloads) (p : Pl
   unfolding call_on
   on_start release = go (version_of release) (leb (length γ.main) limit) (leb (length γ.string) limit) (leb p.string (size γ.string))
     where
-      go : (m : MaybeVersion) (s t u : Bool) → call_by caps handles nw nn γ p m s t u ≡ call_from caps handles nw nn γ p m s t (start_by
+      go : (m : Option Version) (s t u : Bool) → call_by caps handles nw nn γ p m s t u ≡ call_from caps handles nw nn γ p m s t (start_by
           (size γ.string) p.string u)
-      go Unknown s t u = refl
-      go (Known v) false t u = refl
-      go (Known v) true false u = refl
-      go (Known v) true true false = refl
-      go (Known v) true true true = refl
+      go None s t u = refl
+      go (Some v) false t u = refl
+      go (Some v) true false u = refl
+      go (Some v) true true false = refl
+      go (Some v) true true true = refl
 
 -- .. and nothing else of the string payload is asked before the fields but whether it is within the limit
 pub by_reader_start : (c : Call)
@@ -55,13 +54,13 @@ unfolding call_on
 past_call_lem c k =
     rw (lt-leb _ _ k) (go (version_of c.release) (leb (length c.main) limit) (leb (length (string_bytes_of c.strings)) limit))
   where
-    go : (m : MaybeVersion) (s t : Bool)
+    go : (m : Option Version) (s t : Bool)
         → call_by c.caps c.handles c.words c.numbers (payloads_of c) (starts_of c) m s t false
         ≡ past_by (starts_of c) (length (string_bytes_of c.strings)) m s t
-    go Unknown s t = refl
-    go (Known v) false t = refl
-    go (Known v) true false = refl
-    go (Known v) true true = refl
+    go None s t = refl
+    go (Some v) false t = refl
+    go (Some v) true false = refl
+    go (Some v) true true = refl
 
 module _ (c d : Call) (h : AlikeLengths c d) where
   -- no bit of the payload is looked at for the start: the readers of both stand at the same place, or neither stands anywhere

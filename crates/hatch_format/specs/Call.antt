@@ -1,11 +1,10 @@
 -- A whole hatch call on any input: what a caller gives, and the body with its final places or the refusal with its places. Assumes nothing.
-use Rattle.std.specs.Prelude.{Bool, true, false, ◌&&◌, List, [], ℕ, leb, length}
+use Rattle.std.specs.Prelude.{Option, Some, None, Bool, true, false, ◌&&◌, List, [], ℕ, leb, length}
 use Rattle.bitcursor.specs.declared.Refusal.TheVariants.{TooFewBits, UnknownRelease, PayloadTooLong, ListTooShort}
 use Rattle.loads.specs.Bits.{size, limit}
 use Rattle.bitcursor.specs.Reading.{Out, got, refused}
 use Rattle.bitcursor.specs.Inputs.{Places, Payloads}
-use Rattle.text.specs.declared.version.MaybeVersion.{MaybeVersion}
-use Rattle.text.specs.declared.version.MaybeVersion.TheVariants.{Known, Unknown}
+use Rattle.text.specs.declared.version.Version.{Version}
 use Rattle.text.specs.Releases.{version_of}
 use Rattle.text.specs.Answers.{payloads}
 use Rattle.hatch_format.specs.declared.Caps.{Caps}
@@ -63,12 +62,12 @@ room_for nw nn (refused r q) = refused r q
 -- payload, with the second place at that payload's end; the fields, of which the first refuses a start past the main payload with 1 at that
 -- start; 11. The tests are: which release, whether each payload is within the limit, whether the string start is within its payload
 module _ (caps : Caps) (handles : Handles) (nw nn : ℕ) (γ : Payloads) (p : Places) where
-  abbrev pub call_by : MaybeVersion → Bool → Bool → Bool → Out Places Body
-  call_by Unknown main_within string_within start_within = refused UnknownRelease p
-  call_by (Known v) false string_within start_within = refused PayloadTooLong p
-  call_by (Known v) true false start_within = refused PayloadTooLong p
-  call_by (Known v) true true false = refused TooFewBits (record { main = p.main; string = size γ.string })
-  call_by (Known v) true true true = room_for nw nn ((hatch caps handles v).read γ p)
+  abbrev pub call_by : Option Version → Bool → Bool → Bool → Out Places Body
+  call_by None main_within string_within start_within = refused UnknownRelease p
+  call_by (Some v) false string_within start_within = refused PayloadTooLong p
+  call_by (Some v) true false start_within = refused PayloadTooLong p
+  call_by (Some v) true true false = refused TooFewBits (record { main = p.main; string = size γ.string })
+  call_by (Some v) true true true = room_for nw nn ((hatch caps handles v).read γ p)
 
   unfoldable pub call_on : ℕ → Out Places Body
   call_on release =

@@ -1,12 +1,11 @@
 -- Demand 3 for hatch calls, sentence by sentence: what it says; that every call meets it is proved in proofs/Demand3. Assumes nothing.
-use Rattle.std.specs.Prelude.{◌≡◌, List, ℕ, ◌≤◌, max, length}
+use Rattle.std.specs.Prelude.{Some, ◌≡◌, List, ℕ, ◌≤◌, max, length}
 use Rattle.bitcursor.specs.declared.Refusal.{Refusal}
 use Rattle.loads.specs.Bits.{size, Alike, limit}
 use Rattle.bitcursor.specs.Reading.{got, refused}
 use Rattle.bitcursor.specs.Code.{Moves}
 use Rattle.bitcursor.specs.Inputs.{Places}
 use Rattle.text.specs.declared.version.Version.{Version}
-use Rattle.text.specs.declared.version.MaybeVersion.TheVariants.{Known}
 use Rattle.text.specs.Releases.{version_of}
 use Rattle.hatch_format.specs.Values.{Body}
 use Rattle.hatch_format.specs.Layouts.{BodyLaid}
@@ -18,7 +17,7 @@ use Rattle.hatch_format.specs.Call.{Call, payloads_of, starts_of, hatch_call}
 -- release .., and both lists are long enough"
 pub record HatchLaid (c : Call) (a : Body) (q : Places) : Type 0 where
   pub version : Version
-  pub known : version_of c.release ≡ Known version
+  pub known : version_of c.release ≡ Some version
   pub main_within : length c.main ≤ limit
   pub string_within : length (payloads_of c).string ≤ limit
   pub main_start : c.start ≤ size c.main

@@ -8,7 +8,7 @@ use Rattle.bitcursor.specs.Inputs.{one, both}
 use Rattle.bitcursor.specs.Fields.{coded, main, part_in}
 use Rattle.text.specs.declared.version.Version.{Version}
 use Rattle.text.specs.TextField.{TV_field}
-use Rattle.hatch_format.specs.declared.GradientColor.{GradientColor}
+use Rattle.hatch_format.specs.declared.GradientColorBits.{GradientColorBits}
 use Rattle.hatch_format.specs.Values.{Block, Gradient, no_gradient, shown}
 use Rattle.hatch_format.specs.Layouts.{ColorLaid, BlockLaid}
 use Rattle.hatch_format.specs.Takes.{Takes, takes_first}
@@ -16,7 +16,7 @@ use Rattle.hatch_format.specs.Counts.{listed}
 use Rattle.hatch_format.specs.Patterns.{takes_bit_BD}
 
 -- ---- BD, BS signed, BL rgb, RC
-unfoldable pub color_read : Format one (GradientColor ℕ)
+unfoldable pub color_read : Format one GradientColorBits
 color_read = do
   d ← coded BD
   s ← coded signed_BS
@@ -24,13 +24,13 @@ color_read = do
   byte ← coded RC
   pure (record { unknown_double = d; unknown_short = s; rgb = rgb; ignored_color_byte = byte })
 
-pub color_to : (xs : List ℕ) (a : GradientColor ℕ) (p q : ℕ) → color_read.lays xs a p q → ColorLaid xs a p q
+pub color_to : (xs : List ℕ) (a : GradientColorBits) (p q : ℕ) → color_read.lays xs a p q → ColorLaid xs a p q
 unfolding color_read ◌>>=◌ pure
 color_to xs a p q l =
     let e = l.3.3.3.3 in
     rw (e.0, e.1) (l.1, l.2, (l.3.1, l.3.2, (l.3.3.1, l.3.3.2, l.3.3.3.2)))
 
-pub color_from : (xs : List ℕ) (a : GradientColor ℕ) (p q : ℕ) → ColorLaid xs a p q → color_read.lays xs a p q
+pub color_from : (xs : List ℕ) (a : GradientColorBits) (p q : ℕ) → ColorLaid xs a p q → color_read.lays xs a p q
 unfolding color_read ◌>>=◌ pure
 color_from xs a p q l = (
   a.unknown_double,
@@ -39,7 +39,7 @@ color_from xs a p q l = (
   (a.unknown_short, l.2.0, l.2.1, (a.rgb, l.2.2.0, l.2.2.1, (a.ignored_color_byte, q, l.2.2.2, (refl, refl)))),
 )
 
-unfoldable pub color : Format one (GradientColor ℕ)
+unfoldable pub color : Format one GradientColorBits
 color = relay color_read ColorLaid color_to color_from
 
 pub takes_color : Takes 1 color

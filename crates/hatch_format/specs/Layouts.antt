@@ -15,7 +15,7 @@ use Rattle.text.specs.declared.version.Version.{Version}
 use Rattle.text.specs.Releases.{release_number}
 use Rattle.text.specs.TextField.{TextLaid}
 use Rattle.hatch_format.specs.declared.Caps.{Caps}
-use Rattle.hatch_format.specs.declared.GradientColor.{GradientColor}
+use Rattle.hatch_format.specs.declared.GradientColorBits.{GradientColorBits}
 use Rattle.hatch_format.specs.HandleRule.{Handles, in_payload, in_stream}
 use Rattle.hatch_format.specs.Values.{Point, Vertex, Arc, Ellipse, Fits, unfitted, fitted, Spline, Edge, line, arc, ellipse, spline}
 use Rattle.hatch_format.specs.Values.{Segments, polyline, edges}
@@ -121,7 +121,7 @@ module _ (xs : List ℕ) where
   abbrev pub PlaneLaid : Plane → ℕ → ℕ → Type 0
   PlaneLaid a = Coded xs BD a.elevation ⨾ Coded xs BD a.x ⨾ Coded xs BD a.y ⨾ Coded xs BD a.z
 
-  abbrev pub ColorLaid : GradientColor ℕ → ℕ → ℕ → Type 0
+  abbrev pub ColorLaid : GradientColorBits → ℕ → ℕ → Type 0
   ColorLaid a =
       Coded xs BD a.unknown_double ⨾ Coded xs signed_BS a.unknown_short ⨾ Coded xs BL a.rgb ⨾ Coded xs RC a.ignored_color_byte
 

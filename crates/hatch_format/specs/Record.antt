@@ -5,21 +5,28 @@ use Rattle.std.proofs.lemmas.List.{map-id}
 use Rattle.std.specs.Float.Ieee.{of_bits}
 use Rattle.std.specs.Float.{binary64}
 use Rattle.bitcursor.specs.Inputs.{Places}
-use Rattle.text.specs.Answers.{as_places}
 use Rattle.hatch_format.specs.declared.GradientColor.{GradientColor}
+use Rattle.hatch_format.specs.declared.GradientColorBits.{GradientColorBits}
 use Rattle.hatch_format.specs.declared.GradientFill.{GradientFill}
 use Rattle.hatch_format.specs.declared.Hatch.{Hatch}
 use Rattle.hatch_format.specs.Values.{Gradient, no_gradient, no_text, Body}
 use Rattle.hatch_format.specs.Entries.{words, numbers}
 
-abbrev pub zero_color : GradientColor ℕ
+-- the record with each double as its 64 bits
+abbrev pub GradientFillBits : Type 0
+GradientFillBits = GradientFill ℕ GradientColorBits
+
+abbrev pub HatchBits : Type 0
+HatchBits = Hatch ℕ GradientColorBits
+
+abbrev pub zero_color : GradientColorBits
 zero_color = record { unknown_double = 0; unknown_short = pos 0; rgb = 0; ignored_color_byte = 0 }
 
 -- sixteen colours: those past their count are zero
-abbrev pub sixteen : List (GradientColor ℕ) → List (GradientColor ℕ)
+abbrev pub sixteen : List GradientColorBits → List GradientColorBits
 sixteen cs = cs ++ replicate (16 - length cs) zero_color
 
-abbrev pub fill_of : Gradient → GradientFill ℕ
+abbrev pub fill_of : Gradient → GradientFillBits
 fill_of a =
     record {
       present = a.present;
@@ -32,7 +39,7 @@ fill_of a =
       name = a.name;
     }
 
-abbrev pub record_of : Body → Places → Hatch ℕ
+abbrev pub record_of : Body → Places → HatchBits
 record_of a p =
     record {
       gradient = fill_of a.gradient;
@@ -52,11 +59,11 @@ record_of a p =
       num_seed_points = length a.rest.tail.ending.seed_points;
       words_used = length (words a.rest);
       numbers_used = length (numbers a.rest);
-      places = as_places p;
+      places = p;
     }
 
 -- a refused call's: zero but for the refusal's places
-abbrev pub zero_record : Places → Hatch ℕ
+abbrev pub zero_record : Places → HatchBits
 zero_record p =
     record {
       gradient = fill_of no_gradient;
@@ -76,24 +83,12 @@ zero_record p =
       num_seed_points = 0;
       words_used = 0;
       numbers_used = 0;
-      places = as_places p;
+      places = p;
     }
 
--- ---- with each double as what `of` makes of its 64 bits
-module _ {N : Type 0} (of : ℕ → N) where
-  abbrev pub color_as : GradientColor ℕ → GradientColor N
-  color_as a =
-      record {
-        unknown_double = of a.unknown_double;
-        unknown_short = a.unknown_short;
-        rgb = a.rgb;
-        ignored_color_byte = a.ignored_color_byte;
-      }
-
-  abbrev pub colors_as : List (GradientColor ℕ) → List (GradientColor N)
-  colors_as = map color_as
-
-  abbrev pub fill_as : GradientFill ℕ → GradientFill N
+-- ---- with each double as what `of` makes of its 64 bits, and each colour as what `color` makes of it
+module _ {N C : Type 0} (of : ℕ → N) (color : GradientColorBits → C) where
+  abbrev pub fill_as : GradientFillBits → GradientFill N C
   fill_as a =
       record {
         present = a.present;
@@ -102,11 +97,11 @@ module _ {N : Type 0} (of : ℕ → N) where
         is_single_color = a.is_single_color;
         tint = of a.tint;
         num_colors = a.num_colors;
-        colors = colors_as a.colors;
+        colors = map color a.colors;
         name = a.name;
       }
 
-  abbrev pub hatch_as : Hatch ℕ → Hatch N
+  abbrev pub hatch_as : HatchBits → Hatch N C
   hatch_as a =
       record {
         gradient = fill_as a.gradient;
@@ -133,9 +128,18 @@ module _ {N : Type 0} (of : ℕ → N) where
 abbrev pub double : ℕ → Float
 double n = of_bits binary64 n
 
-abbrev pub as_doubles : Hatch ℕ → Hatch Float
-as_doubles = hatch_as double
+abbrev pub color_as_doubles : GradientColorBits → GradientColor
+color_as_doubles a =
+    record {
+      unknown_double = double a.unknown_double;
+      unknown_short = a.unknown_short;
+      rgb = a.rgb;
+      ignored_color_byte = a.ignored_color_byte;
+    }
+
+abbrev pub as_doubles : HatchBits → Hatch Float GradientColor
+as_doubles = hatch_as double color_as_doubles
 
 -- ---- as the 64 bits themselves it is the record as it was
-pub hatch_as_bits : (a : Hatch ℕ) → hatch_as (λ n. n) a ≡ a
-hatch_as_bits a = ap (λ (cs : List (GradientColor ℕ)). record a { gradient = record a.gradient { colors = cs } }) (map-id a.gradient.colors)
+pub hatch_as_bits : (a : HatchBits) → hatch_as (λ n. n) (λ c. c) a ≡ a
+hatch_as_bits a = ap (λ (cs : List GradientColorBits). record a { gradient = record a.gradient { colors = cs } }) (map-id a.gradient.colors)

@@ -1,15 +1,13 @@
 -- Where the string reader of a hatch call starts (document 02, L4), for every start bit: what the theorems of proofs/Starts about the call's own
 -- definition speak of. They hold of a measuring call too, and of a call without a reader, whose string payload is empty and whose string start is 0.
 -- Assumes nothing.
-use Rattle.std.specs.Prelude.{◌≡◌, Bool, true, false, ℕ, ◌*◌, ◌≤◌, leb, length}
+use Rattle.std.specs.Prelude.{Option, Some, None, ◌≡◌, Bool, true, false, ℕ, ◌*◌, ◌≤◌, leb, length}
 use Rattle.bitcursor.specs.declared.Refusal.TheVariants.{TooFewBits, UnknownRelease, PayloadTooLong}
 use Rattle.loads.specs.Bits.{size, limit}
 use Rattle.bitcursor.specs.Reading.{Out, got, refused}
 use Rattle.bitcursor.specs.Inputs.{Places, Payloads}
 use Rattle.string_start.specs.Start.{start_in}
 use Rattle.text.specs.declared.version.Version.{Version}
-use Rattle.text.specs.declared.version.MaybeVersion.{MaybeVersion}
-use Rattle.text.specs.declared.version.MaybeVersion.TheVariants.{Known, Unknown}
 use Rattle.text.specs.Releases.{version_of}
 use Rattle.hatch_format.specs.declared.Caps.{Caps}
 use Rattle.hatch_format.specs.HandleRule.{Handles}
@@ -27,12 +25,12 @@ reader_start c = start_in (string_bits c) (string_start_of c.strings)
 
 -- the order of the refusals with the reader's start in place of the last test: where it stands, from which the fields are read, or why it stands nowhere
 module _ (caps : Caps) (handles : Handles) (nw nn : ℕ) (γ : Payloads) (p : Places) where
-  abbrev pub call_from : MaybeVersion → Bool → Bool → Out ℕ (Unit {0}) → Out Places Body
-  call_from Unknown main_within string_within reader = refused UnknownRelease p
-  call_from (Known v) false string_within reader = refused PayloadTooLong p
-  call_from (Known v) true false reader = refused PayloadTooLong p
-  call_from (Known v) true true (refused k q) = refused k (record { main = p.main; string = q })
-  call_from (Known v) true true (got u q) = room_for nw nn ((hatch caps handles v).read γ (record { main = p.main; string = q }))
+  abbrev pub call_from : Option Version → Bool → Bool → Out ℕ (Unit {0}) → Out Places Body
+  call_from None main_within string_within reader = refused UnknownRelease p
+  call_from (Some v) false string_within reader = refused PayloadTooLong p
+  call_from (Some v) true false reader = refused PayloadTooLong p
+  call_from (Some v) true true (refused k q) = refused k (record { main = p.main; string = q })
+  call_from (Some v) true true (got u q) = room_for nw nn ((hatch caps handles v).read γ (record { main = p.main; string = q }))
 
 -- the places of document 01 for a string start past its payload: the main start, and the payload's length in bits
 abbrev pub past_places : Call → Places
@@ -41,7 +39,7 @@ past_places c = record { main = c.start; string = string_bits c }
 -- a call that comes to its string start: no refusal 9 or 10 stands before it
 pub record ComesToStart (c : Call) : Type 0 where
   pub version : Version
-  pub known : version_of c.release ≡ Known version
+  pub known : version_of c.release ≡ Some version
   pub main_within : length c.main ≤ limit
   pub string_within : length (string_bytes_of c.strings) ≤ limit
 
@@ -55,11 +53,11 @@ pub record AlikeLengths (c d : Call) : Type 0 where
 
 -- what is answered where the string start is past its payload: by release, start bits and payload lengths, and nothing else
 module _ (starts : Places) (string_bytes : ℕ) where
-  abbrev pub past_by : MaybeVersion → Bool → Bool → Out Places Body
-  past_by Unknown main_within string_within = refused UnknownRelease starts
-  past_by (Known v) false string_within = refused PayloadTooLong starts
-  past_by (Known v) true false = refused PayloadTooLong starts
-  past_by (Known v) true true = refused TooFewBits (record { main = starts.main; string = 8 * string_bytes })
+  abbrev pub past_by : Option Version → Bool → Bool → Out Places Body
+  past_by None main_within string_within = refused UnknownRelease starts
+  past_by (Some v) false string_within = refused PayloadTooLong starts
+  past_by (Some v) true false = refused PayloadTooLong starts
+  past_by (Some v) true true = refused TooFewBits (record { main = starts.main; string = 8 * string_bytes })
 
 abbrev pub past_call : (release : ℕ) (starts : Places) (main_bytes string_bytes : ℕ) → Out Places Body
 past_call release starts m n = past_by starts n (version_of release) (leb m limit) (leb n limit)

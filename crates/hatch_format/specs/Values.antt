@@ -3,7 +3,7 @@ use Rattle.std.specs.Prelude.{Bool, true, false, ◌||◌, List, [], ◌∷◌, 
 use Rattle.text.specs.declared.Text.{Text}
 use Rattle.text.specs.declared.Source.TheVariants.{Absent}
 use Rattle.loads.specs.Bits.{odd}
-use Rattle.hatch_format.specs.declared.GradientColor.{GradientColor}
+use Rattle.hatch_format.specs.declared.GradientColorBits.{GradientColorBits}
 
 pub record Point : Type 0 where
   pub x : ℕ
@@ -93,7 +93,7 @@ pub record Block : Type 0 where
   pub shift : ℕ
   pub single_color : ℕ
   pub tint : ℕ
-  pub colors : List (GradientColor ℕ)
+  pub colors : List GradientColorBits
 
 -- what is handed over of the gradient
 pub record Gradient : Type 0 where
@@ -102,7 +102,7 @@ pub record Gradient : Type 0 where
   pub shift : ℕ
   pub single_color : ℕ
   pub tint : ℕ
-  pub colors : List (GradientColor ℕ)
+  pub colors : List GradientColorBits
   pub name : Text
 
 abbrev pub no_text : Text

@@ -5,9 +5,11 @@
 
 ghost use Rattle.std.specs.Prelude.{◌≡◌, ⊤};
 ghost use Rattle.hatch_format.specs.Caps.{document_caps};
+ghost use Rattle.hatch_format.specs.Record.{color_as_doubles};
 
+use bitcursor::{Places, values};
 use std::alloc::AllocError;
-use text::{Places, Text};
+use text::Text;
 
 // The greatest count that is read of each list. A boundary handle count is one per path.
 #[derive(Clone, Copy, Debug, PartialEq, Eq)]
@@ -44,33 +46,73 @@ pub fn document_caps() -> Caps
     }
 }
 
-// What a call hands over is generic in what a double is: `f64`, or `u64` for its 64 bits.
-// As C lays it out, since the C boundary hands it over as it is.
+// A gradient's colour with its double as f64, as C lays it out, since the C boundary hands it over as it is.
 #[repr(C)]
-#[derive(Clone, Copy, Debug, PartialEq, Eq)]
-pub struct GradientColor<N> {
-    pub unknown_double: N,
+#[derive(Clone, Copy, Debug, PartialEq)]
+pub struct GradientColor {
+    pub unknown_double: f64,
     pub unknown_short: i16,
     pub rgb: u32,
     pub ignored_color_byte: u8,
 }
 
+// The same with the double as its 64 bits: a struct of its own, since what crosses to C may have no type arguments.
+#[repr(C)]
+#[derive(Clone, Copy, Debug, PartialEq, Eq)]
+pub struct GradientColorBits {
+    pub unknown_double: u64,
+    pub unknown_short: i16,
+    pub rgb: u32,
+    pub ignored_color_byte: u8,
+}
+
+// What a caller has a colour as.
+pub trait Color: Copy {
+    ghost use Rattle.hatch_format.specs.declared.GradientColorBits.{GradientColorBits};
+
+    ghost of_bits: { GradientColorBits → Self };
+
+    fn from_bits(color: GradientColorBits) -> Self
+        ensures { result ≡ of_bits color };
+}
+
+impl Color for GradientColor {
+    ghost of_bits = { color_as_doubles };
+
+    fn from_bits(color: GradientColorBits) -> GradientColor {
+        GradientColor {
+            unknown_double: values::double_of(color.unknown_double),
+            unknown_short: color.unknown_short,
+            rgb: color.rgb,
+            ignored_color_byte: color.ignored_color_byte,
+        }
+    }
+}
+
+impl Color for GradientColorBits {
+    ghost of_bits = { λ color. color };
+
+    fn from_bits(color: GradientColorBits) -> GradientColorBits {
+        color
+    }
+}
+
 // The gradient of a hatch; colours past their count are zero. `present` is a field, and not an Option around the others, since document 01
 // has the record zero throughout where there is no gradient.
 #[derive(Copy)]
-pub struct GradientFill<N> {
+pub struct GradientFill<N = f64, C = GradientColor> {
     pub present: bool,
     pub angle: N,
     pub shift: N,
     pub is_single_color: u32,
     pub tint: N,
     pub num_colors: usize,
-    pub colors: [GradientColor<N>; 16],
+    pub colors: [C; 16],
     pub name: Text,
 }
 
 // A copy of the whole: a derived `clone` would go colour by colour, and its proof meets the check's limit.
-impl<N: Copy> Clone for GradientFill<N> {
+impl<N: Copy, C: Copy> Clone for GradientFill<N, C> {
     ghost is_clone = { λ x y. y ≡ x };
 
     ghost is_infallible = { λ _. ⊤ };
@@ -81,7 +123,7 @@ impl<N: Copy> Clone for GradientFill<N> {
 }
 
 #[derive(Clone, Copy, Debug, PartialEq, Eq)]
-pub struct Vec3D<N> {
+pub struct Vec3D<N = f64> {
     pub x: N,
     pub y: N,
     pub z: N,
@@ -89,8 +131,8 @@ pub struct Vec3D<N> {
 
 // What a hatch call hands over by value: document 01's record. The rest goes to the two lent lists, so far as their lengths used say.
 #[derive(Copy)]
-pub struct Hatch<N> {
-    pub gradient: GradientFill<N>,
+pub struct Hatch<N = f64, C = GradientColor> {
+    pub gradient: GradientFill<N, C>,
     pub elevation: N,
     pub extrusion: Vec3D<N>,
     pub pattern_name: Text,
@@ -111,7 +153,7 @@ pub struct Hatch<N> {
 }
 
 // As that of a gradient.
-impl<N: Copy> Clone for Hatch<N> {
+impl<N: Copy, C: Copy> Clone for Hatch<N, C> {
     ghost is_clone = { λ x y. y ≡ x };
 
     ghost is_infallible = { λ _. ⊤ };
@@ -120,3 +162,10 @@ impl<N: Copy> Clone for Hatch<N> {
         Ok(*self)
     }
 }
+
+// The same with each double as its 64 bits.
+pub type GradientFillBits = GradientFill<u64, GradientColorBits>;
+
+pub type Vec3DBits = Vec3D<u64>;
+
+pub type HatchBits = Hatch<u64, GradientColorBits>;

@@ -13,7 +13,7 @@ use Rattle.text.specs.declared.Text.{Text}
 use Rattle.text.specs.declared.version.Version.{Version}
 use Rattle.text.specs.Releases.{release_number}
 use Rattle.hatch_format.specs.declared.Caps.{Caps}
-use Rattle.hatch_format.specs.declared.Hatch.{Hatch}
+use Rattle.hatch_format.specs.declared.GradientColorBits.{GradientColorBits}
 use Rattle.hatch_format.specs.Caps.{document_caps, NowhereAbove}
 use Rattle.hatch_format.specs.HandleRule.{Handles, in_payload, in_stream}
 use Rattle.hatch_format.specs.Values.{Vertex, Fits, unfitted, fitted, Spline, Edge, line, arc, ellipse, spline, Segments, polyline, edges, Path, polylined}
@@ -21,7 +21,7 @@ use Rattle.hatch_format.specs.Values.{add_handles, PatternLine, Pattern, Block, 
 use Rattle.hatch_format.specs.Layouts.{VertexLaid, FitsLaid, SplineLaid, EdgeLaid, SegmentsLaid, HandlesLaid, PathLaid, LineLaid, PatternLaid, RestLaid}
 use Rattle.hatch_format.specs.Layouts.{GradientLaid, BodyLaid}
 use Rattle.hatch_format.specs.Entries.{words, numbers}
-use Rattle.hatch_format.specs.Record.{record_of, hatch_as, as_doubles}
+use Rattle.hatch_format.specs.Record.{HatchBits, record_of, hatch_as, as_doubles}
 use Rattle.hatch_format.specs.Call.{Call, hatch_call}
 use Rattle.hatch_format.proofs.Demand3.{read_iff_laid}
 use Rattle.hatch_lists.specs.Within.{All, VertexWithin, FitsWithin, SplineWithin, EdgeWithin, SegmentsWithin, PathWithin, LineWithin}
@@ -204,9 +204,9 @@ pub laid_whole : (caps : Caps) → NowhereAbove caps document_caps → (handles 
     → Whole (counts_of (record_of a q)) (words a.rest ++ vs) (numbers a.rest ++ ms) (holding_of a.rest)
 laid_whole caps h handles v γ a p q l vs ms = body_whole a q (laid_within caps document_caps h handles v γ a p q l) vs ms
 
--- the record as doubles says the same of its lists, and so does any record with other values for the doubles
-pub doubles_counts : {N : Type 0} (of : ℕ → N) (h : Hatch ℕ) → counts_of (hatch_as of h) ≡ counts_of h
-doubles_counts of h = refl
+-- the record as doubles says the same of its lists, and so does one with any other values for doubles and colours
+pub doubles_counts : {N C : Type 0} (of : ℕ → N) (color : GradientColorBits → C) (h : HatchBits) → counts_of (hatch_as of color h) ≡ counts_of h
+doubles_counts of color h = refl
 
 -- ---- of a call: whatever it hands over is whole
 module _ (c : Call) (h : NowhereAbove c.caps document_caps) (a : Body) (q : Places) (e : hatch_call c ≡ got a q) where

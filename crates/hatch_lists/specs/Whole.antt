@@ -8,8 +8,8 @@ use Rattle.hatch_lists.specs.declared.HatchCounts.{HatchCounts}
 use Rattle.hatch_lists.specs.Lists.{Lists, lists_of}
 use Rattle.hatch_lists.specs.Holding.{Holding, held_words, held_numbers, HoldingWithin, Numbered, holding}
 
--- ---- what a record says of its lists, whatever a double of it is
-abbrev pub counts_of : {N : Type 0} → Hatch N → HatchCounts
+-- ---- what a record says of its lists, whatever its doubles and colours are
+abbrev pub counts_of : {N C : Type 0} → Hatch N C → HatchCounts
 counts_of h =
     record {
       solid_fill = bit h.solid_fill;

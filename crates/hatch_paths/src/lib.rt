@@ -3,5 +3,14 @@
 // specs/ promises that each walk gathers for the lists what the path, edge or spline that hatch_format reads there holds.
 #![tactic(auto)]
 
+use hatch_format::Caps;
+
 pub mod edges;
 pub mod paths;
+
+// What holds of every path of a hatch: the greatest counts, and whether its release has fit points behind a spline's control points.
+#[derive(Clone, Copy)]
+pub struct Rules {
+    pub caps: Caps,
+    pub fits: bool,
+}

@@ -1,106 +1,82 @@
 // The boundary paths: polylines and lists of edges, each with the count of its boundary handles.
 ghost use Rattle.std.specs.Prelude.{◌≡◌, [], ◌∷◌, ◌+◌, ◌/◌, ◌^◌, ◌≤◌, ◌<◌};
 ghost use Rattle.std.proofs.lemmas.List.Edits.{sets};
-ghost use Rattle.loads.specs.Bits.{odd};
+ghost use Rattle.loads.specs.Bits.{bit, odd};
 ghost use Rattle.hatch_points.specs.Gathered.{repeated};
 ghost use Rattle.hatch_paths.specs.PathWalks.{polyline_walk, edges_walk, segments_walk, handles_walk, after_flags_walk, path_walk};
-ghost use Rattle.hatch_points.specs.Lists.{lists, Ready, Walks};
+ghost use Rattle.hatch_points.specs.Lists.{lists, Ready, Walks, WordWalks};
 ghost use Rattle.hatch_format.specs.Caps.{document_caps, NowhereAbove};
 
-use crate::edges;
-use bitcursor::Read;
+use crate::{Rules, edges};
+use bitcursor::Reading;
+use bitcursor::values::Number;
 use hatch_format::Caps;
-use hatch_points::lists::{Sizes, Walk};
-use hatch_points::{counts, lists, vertices};
+use hatch_points::lists::Sizes;
+use hatch_points::{counts, flags, lists, vertices};
 
-fn put_polyline_head(words: &mut [u32], at: usize, bulge: u64, closed: u64, n: u64)
-    requires { (at + 3 < 2 ^ 64) × ((bulge < 2 ^ 32) × ((closed < 2 ^ 32) × (n < 2 ^ 32))) }
-    ensures { words.new ≡ sets words.old at (bulge ∷ (closed ∷ (n ∷ []))) }
+fn put_polyline_head(words: &mut [u32], at: usize, bulge: bool, closed: bool, n: u64)
+    requires { (at + 3 < 2 ^ 64) × (n < 2 ^ 32) }
+    ensures { words.new ≡ sets words.old at (bit bulge ∷ (bit closed ∷ (n ∷ []))) }
 {
-    lists::put_word(words, at, bulge);
-    lists::put_word(words, at + 1, closed);
+    lists::put_word(words, at, u64::from(bulge));
+    lists::put_word(words, at + 1, u64::from(closed));
     lists::put_word(words, at + 2, n);
 }
 
 // A polyline: whether its vertices have bulges, whether it is closed, and the vertices.
-fn decode_polyline_path(
+fn decode_polyline_path<N: Number>(
     s: &[u8],
     at: usize,
     caps: Caps,
-    numbers: &mut [f64],
-    bits: &mut [u64],
+    numbers: &mut [N],
     words: &mut [u32],
     z: Sizes,
-) -> Walk
+) -> Reading<Sizes>
     requires { Ready s.now at z × NowhereAbove caps document_caps }
-    ensures { Walks s.now ((polyline_walk caps).read s.now at)
-        (lists numbers.old bits.old words.old) z (lists numbers.new bits.new words.new) result }
+    ensures { Walks N.of_bits s.now ((polyline_walk caps).read s.now at)
+        (lists numbers.old words.old) z (lists numbers.new words.new) result }
 {
-    let bulge = bitcursor::within::read_bits(s, at, 1);
-    let closed = sequence::then_bits(s, bulge, 1, true, 0);
-    let count = counts::then_count(s, closed, caps.vertices);
-    match count {
-        Read::Value(n, p) => {
-            let more = sequence::value_of(bulge);
-            put_polyline_head(words, z.words, more, sequence::value_of(closed), n);
-            let y = Sizes {
-                numbers: z.numbers,
-                words: z.words + 3,
-                derived: z.derived,
-            };
-            vertices::decode_points(s, p, n as usize, 1 == more, numbers, bits, y)
-        }
-        Read::Refused(k, p) => Walk::Refused(k, p),
-    }
+    let (bulge, p) = flags::read_flag(s, at)?;
+    let (closed, q) = flags::read_flag(s, p)?;
+    let (n, r) = counts::read_count(s, q, caps.vertices)?;
+    put_polyline_head(words, z.words, bulge, closed, n);
+    vertices::decode_points(s, r, n as usize, bulge, numbers, z.with_words(3))
 }
 
-fn decode_edge_path(
+fn decode_edge_path<N: Number>(
     s: &[u8],
     at: usize,
-    caps: Caps,
-    fits: bool,
-    numbers: &mut [f64],
-    bits: &mut [u64],
+    rules: Rules,
+    numbers: &mut [N],
     words: &mut [u32],
     z: Sizes,
-) -> Walk
-    requires { Ready s.now at z × NowhereAbove caps document_caps }
-    ensures { Walks s.now ((edges_walk caps fits).read s.now at)
-        (lists numbers.old bits.old words.old) z (lists numbers.new bits.new words.new) result }
+) -> Reading<Sizes>
+    requires { Ready s.now at z × NowhereAbove rules.caps document_caps }
+    ensures { Walks N.of_bits s.now ((edges_walk rules.caps rules.fits).read s.now at)
+        (lists numbers.old words.old) z (lists numbers.new words.new) result }
 {
-    match counts::read_count(s, at, caps.edges) {
-        Read::Value(n, p) => {
-            lists::put_word(words, z.words, n);
-            let y = Sizes {
-                numbers: z.numbers,
-                words: z.words + 1,
-                derived: z.derived,
-            };
-            edges::decode_edges(s, p, n as usize, caps, fits, numbers, bits, words, y)
-        }
-        Read::Refused(k, p) => Walk::Refused(k, p),
-    }
+    let (n, p) = counts::read_count(s, at, rules.caps.edges)?;
+    lists::put_word(words, z.words, n);
+    edges::decode_edges(s, p, n as usize, rules, numbers, words, z.with_words(1))
 }
 
-fn decode_segments(
+fn decode_segments<N: Number>(
     s: &[u8],
     at: usize,
     polyline: bool,
-    caps: Caps,
-    fits: bool,
-    numbers: &mut [f64],
-    bits: &mut [u64],
+    rules: Rules,
+    numbers: &mut [N],
     words: &mut [u32],
     z: Sizes,
-) -> Walk
-    requires { Ready s.now at z × NowhereAbove caps document_caps }
-    ensures { Walks s.now ((segments_walk caps fits polyline).read s.now at)
-        (lists numbers.old bits.old words.old) z (lists numbers.new bits.new words.new) result }
+) -> Reading<Sizes>
+    requires { Ready s.now at z × NowhereAbove rules.caps document_caps }
+    ensures { Walks N.of_bits s.now ((segments_walk rules.caps rules.fits polyline).read s.now at)
+        (lists numbers.old words.old) z (lists numbers.new words.new) result }
 {
     if polyline {
-        return decode_polyline_path(s, at, caps, numbers, bits, words, z);
+        return decode_polyline_path(s, at, rules.caps, numbers, words, z);
     }
-    decode_edge_path(s, at, caps, fits, numbers, bits, words, z)
+    decode_edge_path(s, at, rules, numbers, words, z)
 }
 
 // A value in the flags, 2 or 4, as a test.
@@ -112,117 +88,72 @@ fn has_flag(flags: u64, value: u64) -> bool
 }
 
 // The count of boundary handles, behind a path's segments: the handles are not here.
-fn put_handle_count(s: &[u8], at: usize, cap: usize, words: &mut [u32], z: Sizes) -> Walk
+fn put_handle_count(s: &[u8], at: usize, cap: usize, words: &mut [u32], z: Sizes) -> Reading<Sizes>
     requires { Ready s.now at z × (cap < 2 ^ 30) }
-    ensures { Walks s.now ((handles_walk cap).read s.now at)
-        (lists [] [] words.old) z (lists [] [] words.new) result }
+    ensures { WordWalks s.now ((handles_walk cap).read s.now at) words.old z words.new result }
 {
-    match counts::read_count(s, at, cap) {
-        Read::Value(n, p) => {
-            lists::put_word(words, z.words, n);
-            Walk::Done(
-                p,
-                Sizes {
-                    numbers: z.numbers,
-                    words: z.words + 1,
-                    derived: z.derived,
-                },
-            )
-        }
-        Read::Refused(k, p) => Walk::Refused(k, p),
-    }
+    let (n, p) = counts::read_count(s, at, cap)?;
+    lists::put_word(words, z.words, n);
+    Ok((z.with_words(1), p))
 }
 
 // What follows a path's flags: segments and handle count.
-fn decode_after_flags(
+fn decode_after_flags<N: Number>(
     s: &[u8],
     at: usize,
     polyline: bool,
-    caps: Caps,
-    fits: bool,
-    numbers: &mut [f64],
-    bits: &mut [u64],
+    rules: Rules,
+    numbers: &mut [N],
     words: &mut [u32],
     z: Sizes,
-) -> Walk
-    requires { Ready s.now at z × NowhereAbove caps document_caps }
-    ensures { Walks s.now ((after_flags_walk caps fits polyline).read s.now at)
-        (lists numbers.old bits.old words.old) z (lists numbers.new bits.new words.new) result }
+) -> Reading<Sizes>
+    requires { Ready s.now at z × NowhereAbove rules.caps document_caps }
+    ensures { Walks N.of_bits s.now ((after_flags_walk rules.caps rules.fits polyline).read s.now at)
+        (lists numbers.old words.old) z (lists numbers.new words.new) result }
 {
-    match decode_segments(s, at, polyline, caps, fits, numbers, bits, words, z) {
-        Walk::Done(p, y) => put_handle_count(s, p, caps.boundary_handles, words, y),
-        Walk::Refused(k, p) => Walk::Refused(k, p),
-    }
+    let (y, p) = decode_segments(s, at, polyline, rules, numbers, words, z)?;
+    put_handle_count(s, p, rules.caps.boundary_handles, words, y)
 }
 
 // A path: its flags, a polyline where they say so and else edges, and its handle count.
-fn decode_path(
+fn decode_path<N: Number>(
     s: &[u8],
     at: usize,
-    caps: Caps,
-    fits: bool,
-    numbers: &mut [f64],
-    bits: &mut [u64],
+    rules: Rules,
+    numbers: &mut [N],
     words: &mut [u32],
     z: Sizes,
-) -> Walk
-    requires { Ready s.now at z × NowhereAbove caps document_caps }
-    ensures { Walks s.now ((path_walk caps fits).read s.now at)
-        (lists numbers.old bits.old words.old) z (lists numbers.new bits.new words.new) result }
+) -> Reading<Sizes>
+    requires { Ready s.now at z × NowhereAbove rules.caps document_caps }
+    ensures { Walks N.of_bits s.now ((path_walk rules.caps rules.fits).read s.now at)
+        (lists numbers.old words.old) z (lists numbers.new words.new) result }
 {
-    match bitcursor::within::read_bl_u(s, at) {
-        Read::Value(flags, p) => {
-            lists::put_word(words, z.words, flags);
-            let y = Sizes {
-                numbers: z.numbers,
-                words: z.words + 1,
-                derived: z.derived | has_flag(flags, 4),
-            };
-            decode_after_flags(
-                s,
-                p,
-                has_flag(flags, 2),
-                caps,
-                fits,
-                numbers,
-                bits,
-                words,
-                y,
-            )
-        }
-        Read::Refused(k, p) => Walk::Refused(k, p),
-    }
+    let (flags, p) = bitcursor::within::read_bl_u(s, at)?;
+    lists::put_word(words, z.words, flags);
+    let y = Sizes {
+        derived: z.derived | has_flag(flags, 4),
+        ..z.with_words(1)
+    };
+    decode_after_flags(s, p, has_flag(flags, 2), rules, numbers, words, y)
 }
 
-pub fn decode_paths(
+pub fn decode_paths<N: Number>(
     s: &[u8],
     at: usize,
     n: usize,
-    caps: Caps,
-    fits: bool,
-    numbers: &mut [f64],
-    bits: &mut [u64],
+    rules: Rules,
+    numbers: &mut [N],
     words: &mut [u32],
     z: Sizes,
-) -> Walk
-    requires { Ready s.now at z × NowhereAbove caps document_caps }
-    ensures { Walks s.now ((repeated n (path_walk caps fits)).read s.now at)
-        (lists numbers.old bits.old words.old) z (lists numbers.new bits.new words.new) result }
+) -> Reading<Sizes>
+    requires { Ready s.now at z × NowhereAbove rules.caps document_caps }
+    ensures { Walks N.of_bits s.now ((repeated n (path_walk rules.caps rules.fits)).read s.now at)
+        (lists numbers.old words.old) z (lists numbers.new words.new) result }
 {
     let mut p = at;
     let mut y = z;
-    let mut i: usize = 0;
-    while i < n {
-        match decode_path(s, p, caps, fits, numbers, bits, words, y) {
-            Walk::Done(q, x) => {
-                p = q;
-                y = x;
-            }
-            Walk::Refused(k, q) => {
-                return Walk::Refused(k, q);
-            }
-        }
-        i += 1;
+    for _ in 0..n {
+        (y, p) = decode_path(s, p, rules, numbers, words, y)?;
     }
-    Walk::Done(p, y)
+    Ok((y, p))
 }

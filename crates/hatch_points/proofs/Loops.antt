@@ -1,26 +1,21 @@
 -- A loop that repeats a walk: what is left to read, behind what was gathered, is what the whole reads. Assumes nothing.
-use mathlib.Core.Path.{◌≡◌, refl, sym, ap, ◌∙◌}
+use mathlib.Core.Path.{◌≡◌, refl, sym, ap, subst, ◌∙◌}
 use mathlib.Core.List.{List, [], ◌∷◌}
-use Prim.Native.Nat.{ℕ, zero, suc, ◌+◌, ◌-◌, ◌*◌, ◌≤◌, ◌<◌, max}
+use Prim.Native.Nat.{ℕ, zero, suc, ◌+◌, ◌-◌, ◌*◌, ◌≤◌, ◌<◌}
 use native.Mathlib.Nat.{sub-zero}
 use native.Mathlib.Omega.{arith}
-use Rattle.bitcursor.specs.declared.Refusal.{Refusal}
-use Rattle.bitcursor.specs.declared.Passed.{Passed}
-use Rattle.bitcursor.specs.declared.Passed.TheVariants.{To, Refused as RefusedPassed}
+use lib.ListN.{length, length-append}
+use Rattle.std.specs.Prelude.{map, Result, Ok, Err}
+use Rattle.bitcursor.specs.declared.Refused.{Refused}
+use Rattle.bitcursor.specs.Doubles.{BD}
 use Rattle.bitcursor.specs.Reading.{Out, got, refused, and_then, never}
 use Rattle.bitcursor.specs.Format.{Format, pure, ◌>>=◌}
 use Rattle.bitcursor.specs.Inputs.{one}
-use lib.ListN.{length, length-append}
-use lib.Ieee.{Float}
 use Rattle.hatch_points.specs.declared.lists.Sizes.{Sizes}
 use Rattle.hatch_points.specs.Gathered.{Entries, none, numbers, plus, repeated}
-use Rattle.bitcursor.specs.Doubles.{BD}
 use Rattle.hatch_points.specs.Walks.{single_walk}
-use Rattle.hatch_points.specs.declared.lists.Walk.{Walk}
-use Rattle.hatch_points.specs.declared.lists.Walk.TheVariants.{Done, Refused}
-use Rattle.hatch_points.specs.Stores.{passed_by}
-use Rattle.hatch_points.specs.Lists.{Lists, lists, doubles_of, store, Kept, Ready, Walks}
-use Rattle.hatch_points.proofs.Laws.{Step, no_step, ◌⊕◌, plus_none, plus_again, kept_step, kept_then, walk_finished, walk_ready, walk_refused, walk_kept}
+use Rattle.hatch_points.specs.Lists.{Lists, lists, store, grow, Kept, Ready, Walks, Passes}
+use Rattle.hatch_points.proofs.Laws.{Step, no_step, ◌⊕◌, plus_none, plus_again, kept_step, kept_then, walk_finished, walk_refused, walk_kept}
 use Rattle.hatch_points.proofs.Laws.{walks_as, walks_unstored, refuses, ends, behind, sets_out}
 
 -- the entries a, and then what the rest has
@@ -102,128 +97,122 @@ module _ (d : Format one Entries) (xs : List ℕ) where
         go ih (refused x r) j f = never f
 
     -- so they use as many more of the numbers
-    pub used_after : (n p : ℕ) {l l' : Lists} {z : Sizes} {r : Walk} → Walks xs ((repeated n d).read xs p) l z l' r
-        → {q : ℕ} {y : Sizes} → r ≡ Done q y → y.numbers ≡ z.numbers + many n k
+    pub used_after : {N : Type 0} {of : ℕ → N} (n p : ℕ) {l l' : Lists N} {z : Sizes} {q : ℕ} {y : Sizes}
+        → Walks of xs ((repeated n d).read xs p) l z l' (Ok (y, q)) → y.numbers ≡ z.numbers + many n k
     unfolding left
-    used_after n p {z = z} h {q} e =
-        let t = walk_finished h e in
+    used_after n p {z = z} {q = q} h =
+        let t = walk_finished h in
         ap (λ (x : Sizes). x.numbers) t.step.sizes ∙ ap (λ (m : ℕ). z.numbers + m) (numbers_long n p t.entries q t.read)
 
-  -- of n turns the first m are one walk, and the others another behind it
-  module _ (n m p : ℕ) (le : m ≤ n) {l l₁ : Lists} {z : Sizes} {r : Walk} (h : Walks xs ((repeated m d).read xs p) l z l₁ r) where
-    parts : left n p ≡ and_then (left m p) (λ a q. onto a (left (n - m) q))
-    parts = let e : n ≡ m + (n - m) = omega arith in ap (λ (k : ℕ). left k p) e ∙ left_add m (n - m) p
+-- of n turns the first m are one walk, and the others another behind it
+module _ (d : Format one Entries) (n m p : ℕ) (le : m ≤ n) where
+  parts : (xs : List ℕ) → left d xs n p ≡ and_then (left d xs m p) (λ a q. onto a (left d xs (n - m) q))
+  parts xs = let e : n ≡ m + (n - m) = omega arith in ap (λ (k : ℕ). left d xs k p) e ∙ left_add d xs m (n - m) p
 
-    pub parts_walk : {q : ℕ} {y : Sizes} {l₂ : Lists} {r₂ : Walk} → r ≡ Done q y → Walks xs ((repeated (n - m) d).read xs q) l₁ y l₂ r₂
-        → Walks xs ((repeated n d).read xs p) l z l₂ r₂
+  module _ {N : Type 0} {of : ℕ → N} {xs : List ℕ} {l l₁ : Lists N} {z : Sizes} where
+    pub parts_walk : {q : ℕ} {y : Sizes} {l₂ : Lists N} {r : Result (Sizes × ℕ) (Refused ℕ)}
+        → Walks of xs ((repeated m d).read xs p) l z l₁ (Ok (y, q)) → Walks of xs ((repeated (n - m) d).read xs q) l₁ y l₂ r
+        → Walks of xs ((repeated n d).read xs p) l z l₂ r
     unfolding left ◌>>=◌ pure
-    parts_walk {q} e k =
-        let t = walk_finished h e in
+    parts_walk {q} h k =
+        let t = walk_finished h in
         walks_as (behind (repeated (n - m) d) (plus t.entries) t.step (λ a. refl) k)
-        (sym (parts ∙ ap (λ (o : Out ℕ Entries). and_then o (λ a q. onto a (left (n - m) q))) t.read))
+        (sym (parts xs ∙ ap (λ (o : Out ℕ Entries). and_then o (λ a q. onto a (left d xs (n - m) q))) t.read))
 
-    pub parts_refuse : {k : Refusal} {q : ℕ} → r ≡ Refused k q → Walks xs ((repeated n d).read xs p) l z l₁ (Refused k q)
+    pub parts_refuse : {e : Refused ℕ} → Walks of xs ((repeated m d).read xs p) l z l₁ (Err e) → Walks of xs ((repeated n d).read xs p) l z l₁ (Err e)
     unfolding left
-    parts_refuse e =
-        refuses (parts ∙ ap (λ (o : Out ℕ Entries). and_then o (λ a q. onto a (left (n - m) q))) (walk_refused h e)) (walk_kept h e)
+    parts_refuse h =
+        refuses (parts xs ∙ ap (λ (o : Out ℕ Entries). and_then o (λ a q. onto a (left d xs (n - m) q))) (walk_refused h)) (walk_kept h)
 
-  -- i of the n turns are done
-  pub record Along (n p₀ : ℕ) (l₀ : Lists) (z₀ : Sizes) (i p : ℕ) (l : Lists) (z : Sizes) : Type 0 where
-    pub gathered : Entries
-    pub whole : left n p₀ ≡ onto gathered (left (n - i) p)
-    pub step : Step l₀ z₀ gathered l z
-    pub ready : Ready xs p z
+-- i of the n turns are done
+pub record Along {N : Type 0} (of : ℕ → N) (d : Format one Entries) (xs : List ℕ) (n p₀ : ℕ) (l₀ : Lists N) (z₀ : Sizes) (i p : ℕ) (l : Lists N)
+    (z : Sizes) : Type 0 where
+  pub gathered : Entries
+  pub whole : left d xs n p₀ ≡ onto gathered (left d xs (n - i) p)
+  pub step : Step of l₀ z₀ gathered l z
+  pub ready : Ready xs p z
 
-  pub start : {n p : ℕ} {l : Lists} {z : Sizes} → Ready xs p z → Along n p l z 0 p l z
+module _ {N : Type 0} {of : ℕ → N} {d : Format one Entries} {xs : List ℕ} where
+  pub start : {n p : ℕ} {l : Lists N} {z : Sizes} → Ready xs p z → Along of d xs n p l z 0 p l z
   start {n} {p} h =
       record {
         gathered = none;
-        whole = sym (onto_none (left (n - 0) p) ∙ ap (λ (k : ℕ). left k p) (sub-zero n));
+        whole = sym (onto_none (left d xs (n - 0) p) ∙ ap (λ (k : ℕ). left d xs k p) (sub-zero n));
         step = no_step;
         ready = h;
       }
 
-  module _ {n p₀ : ℕ} {l₀ : Lists} {z₀ : Sizes} {i p : ℕ} {l : Lists} {z : Sizes} (h : Along n p₀ l₀ z₀ i p l z) where
-    turn : i < n → left n p₀ ≡ onto h.gathered (and_then (d.read xs p) (λ e q. onto e (left (n - (i + 1)) q)))
+  module _ {n p₀ : ℕ} {l₀ : Lists N} {z₀ : Sizes} {i p : ℕ} {l : Lists N} {z : Sizes} (h : Along of d xs n p₀ l₀ z₀ i p l z) where
+    turn : i < n → left d xs n p₀ ≡ onto h.gathered (and_then (d.read xs p) (λ e q. onto e (left d xs (n - (i + 1)) q)))
     turn lt =
         let e : n - i ≡ suc (n - (i + 1)) = omega arith in
-        h.whole ∙ ap (λ (k : ℕ). onto h.gathered (left k p)) e ∙ ap (onto h.gathered) (left_more (n - (i + 1)) p)
+        h.whole ∙ ap (λ (k : ℕ). onto h.gathered (left d xs k p)) e ∙ ap (onto h.gathered) (left_more d xs (n - (i + 1)) p)
 
     -- one turn more
-    pub next : {q : ℕ} {l' : Lists} {z' : Sizes} (e : Entries) → i < n → d.read xs p ≡ got e q → Step l z e l' z' → Ready xs q z'
-        → Along n p₀ l₀ z₀ (i + 1) q l' z'
+    pub next : {q : ℕ} {l' : Lists N} {z' : Sizes} (e : Entries) → i < n → d.read xs p ≡ got e q → Step of l z e l' z' → Ready xs q (grow z e)
+        → Along of d xs n p₀ l₀ z₀ (i + 1) q l' z'
     next {q} e lt r s y =
         record {
           gathered = plus h.gathered e;
-          whole = turn lt ∙ ap (λ (o : Out ℕ Entries). onto h.gathered (and_then o (λ e q. onto e (left (n - (i + 1)) q)))) r
-              ∙ onto_onto h.gathered e (left (n - (i + 1)) q);
+          whole = turn lt ∙ ap (λ (o : Out ℕ Entries). onto h.gathered (and_then o (λ e q. onto e (left d xs (n - (i + 1)) q)))) r
+              ∙ onto_onto h.gathered e (left d xs (n - (i + 1)) q);
           step = h.step ⊕ s;
-          ready = y;
+          ready = subst (Ready xs q) (sym s.sizes) y;
         }
 
     -- the walk refuses, so the loop does
-    stop : {k : Refusal} {q : ℕ} → i < n → d.read xs p ≡ refused k q → left n p₀ ≡ refused k q
-    stop lt r = turn lt ∙ ap (λ (o : Out ℕ Entries). onto h.gathered (and_then o (λ e q. onto e (left (n - (i + 1)) q)))) r
+    stop : {e : Refused ℕ} → i < n → d.read xs p ≡ refused e.refusal e.place → left d xs n p₀ ≡ refused e.refusal e.place
+    stop lt r = turn lt ∙ ap (λ (o : Out ℕ Entries). onto h.gathered (and_then o (λ e q. onto e (left d xs (n - (i + 1)) q)))) r
 
     -- all turns are done
-    finish : n ≤ i → left n p₀ ≡ got h.gathered p
+    finish : n ≤ i → left d xs n p₀ ≡ got h.gathered p
     finish le =
         let e : n - i ≡ 0 = omega arith in
-        h.whole ∙ ap (λ (k : ℕ). onto h.gathered (left k p)) e ∙ ap (onto h.gathered) (left_none p)
+        h.whole ∙ ap (λ (k : ℕ). onto h.gathered (left d xs k p)) e ∙ ap (onto h.gathered) (left_none d xs p)
         ∙ ap (λ (x : Entries). got x p) (plus_none h.gathered)
 
     -- what the loop answers: a turn's refusal, or its end
-    pub loop_refuses : {k : Refusal} {q : ℕ} {l' : Lists} → i < n → d.read xs p ≡ refused k q → Kept l z l'
-        → Walks xs ((repeated n d).read xs p₀) l₀ z₀ l' (Refused k q)
+    pub loop_refuses : {e : Refused ℕ} {l' : Lists N} → i < n → d.read xs p ≡ refused e.refusal e.place → Kept l z l'
+        → Walks of xs ((repeated n d).read xs p₀) l₀ z₀ l' (Err e)
     unfolding left
     loop_refuses lt r k = refuses (stop lt r) (kept_then h.step k)
 
-    pub loop_ends : n ≤ i → Walks xs ((repeated n d).read xs p₀) l₀ z₀ l (Done p z)
+    pub loop_ends : n ≤ i → Walks of xs ((repeated n d).read xs p₀) l₀ z₀ l (Ok (z, p))
     unfolding left
-    loop_ends le = ends h.gathered (finish le) h.step h.ready
+    loop_ends le = ends h.gathered (finish le) h.step (subst (Ready xs p) h.step.sizes h.ready)
 
     -- a turn that is a walk by itself
-    module _ {l' : Lists} {r : Walk} (lt : i < n) (w : Walks xs (d.read xs p) l z l' r) where
-      pub walk_next : {q : ℕ} {y : Sizes} → r ≡ Done q y → Along n p₀ l₀ z₀ (i + 1) q l' y
-      walk_next e = let t = walk_finished w e in next t.entries lt t.read t.step (walk_ready w e)
+    module _ {l' : Lists N} (lt : i < n) where
+      pub walk_next : {q : ℕ} {y : Sizes} → Walks of xs (d.read xs p) l z l' (Ok (y, q)) → Along of d xs n p₀ l₀ z₀ (i + 1) q l' y
+      walk_next {q} w = let t = walk_finished w in next t.entries lt t.read t.step (subst (Ready xs q) t.step.sizes w.ready)
 
-      pub walk_refuses : {k : Refusal} {q : ℕ} → r ≡ Refused k q → Walks xs ((repeated n d).read xs p₀) l₀ z₀ l' (Refused k q)
-      walk_refuses e = loop_refuses lt (walk_refused w e) (walk_kept w e)
+      pub walk_refuses : {e : Refused ℕ} → Walks of xs (d.read xs p) l z l' (Err e) → Walks of xs ((repeated n d).read xs p₀) l₀ z₀ l' (Err e)
+      walk_refuses w = loop_refuses lt (walk_refused w) (walk_kept w)
 
     -- what the lists keep, their lengths among it
     pub along_kept : Kept l₀ z₀ l
     along_kept = kept_step h.step
 
--- a walk that was lent no lists, said of lists of numbers that have no room for what it gathers
-module _ (d : Format one Entries) (xs : List ℕ) (n p : ℕ) {z : Sizes} {r : Walk} (a : List Float) (b : List ℕ) where
-  pub past_room : (0 < n → max (length a) (length b) ≤ z.numbers) → Walks xs ((repeated n d).read xs p) (lists [] [] []) z (lists [] [] []) r
-      → Walks xs ((repeated n d).read xs p) (lists a b []) z (lists a b []) r
+-- a walk that was lent no lists, said of a list of numbers that has no room for what it gathers
+module _ {N : Type 0} {of : ℕ → N} (d : Format one Entries) (xs : List ℕ) (n p : ℕ) {z : Sizes} {r : Result (Sizes × ℕ) (Refused ℕ)} (a : List N) where
+  pub past_room : (0 < n → length a ≤ z.numbers) → Passes xs ((repeated n d).read xs p) z r
+      → Walks of xs ((repeated n d).read xs p) (lists a []) z (lists a []) r
   unfolding repeated pure
   past_room h k = walks_unstored ((repeated n d).read xs p) (λ e q i. unstored n refl e q i) k
     where
-      unstored : (m : ℕ) → n ≡ m → (e : Entries) (q : ℕ) → (repeated n d).read xs p ≡ got e q → lists a b [] ≡ store (lists a b []) z e
+      unstored : (m : ℕ) → n ≡ m → (e : Entries) (q : ℕ) → (repeated n d).read xs p ≡ got e q → lists a [] ≡ store of (lists a []) z e
       unstored zero j e q i =
           let f : got none p ≡ got e q = sym (ap (λ (m : ℕ). (repeated m d).read xs p) j) ∙ i in
           let g : none ≡ e = cc in
-          ap (store (lists a b []) z) g
+          ap (store of (lists a []) z) g
       unstored (suc m) j e q i =
           let room = h (omega arith) in
-          λ t. lists (sym (sets_out a z.numbers (doubles_of e.numbers) (omega arith)) t) (sym (sets_out b z.numbers e.numbers (omega arith)) t)
-          (sym (sets_out [] z.words e.words (omega arith)) t)
-
--- what was read, from the place that it left
-pub passed_value : (o : Out ℕ ℕ) {x : Passed} {q : ℕ} → x ≡ passed_by o → x ≡ To q → (v : ℕ) × (o ≡ got v q)
-passed_value (got v p) {x} {q} e h = let i : p ≡ q = cc in (v, ap (got v) i)
-passed_value (refused k p) e h = let z : ◌≡◌ {A = ℕ} 0 1 = cc in absurd (omega arith)
-
-pub passed_refused : (o : Out ℕ ℕ) {x : Passed} {k : Refusal} {q : ℕ} → x ≡ passed_by o → x ≡ RefusedPassed k q → o ≡ refused k q
-passed_refused (got v p) e h = let z : ◌≡◌ {A = ℕ} 0 1 = cc in absurd (omega arith)
-passed_refused (refused k p) e h = cc
+          λ t. lists (sym (sets_out a z.numbers (map of e.numbers) (omega arith)) t) (sym (sets_out [] z.words e.words (omega arith)) t)
 
 -- one BD
-pub single_read : (xs : List ℕ) (p : ℕ) {v q : ℕ} → BD.read xs p ≡ got v q → single_walk.read xs p ≡ got (numbers (v ∷ [])) q
+pub single_read : (xs : List ℕ) (p : ℕ) {v q : ℕ} → got v q ≡ BD.read xs p → single_walk.read xs p ≡ got (numbers (v ∷ [])) q
 unfolding single_walk ◌>>=◌ pure
-single_read xs p e = rw e
+single_read xs p e = rw (← e)
 
 pub single_long : (xs : List ℕ) (p : ℕ) (e : Entries) (q : ℕ) → single_walk.read xs p ≡ got e q → length e.numbers ≡ 1
 unfolding single_walk ◌>>=◌ pure
@@ -233,6 +222,6 @@ single_long xs p e q i = go (BD.read xs p) i
     go (got v r) j = let g : numbers (v ∷ []) ≡ e = cc in sym (ap (λ (x : Entries). length x.numbers) g)
     go (refused k r) j = never j
 
-pub single_refused : (xs : List ℕ) (p : ℕ) {k : Refusal} {q : ℕ} → BD.read xs p ≡ refused k q → single_walk.read xs p ≡ refused k q
+pub single_refused : (xs : List ℕ) (p : ℕ) {e : Refused ℕ} → refused e.refusal e.place ≡ BD.read xs p → single_walk.read xs p ≡ refused e.refusal e.place
 unfolding single_walk ◌>>=◌ pure
-single_refused xs p e = rw e
+single_refused xs p e = rw (← e)

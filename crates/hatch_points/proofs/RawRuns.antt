@@ -5,9 +5,10 @@ use mathlib.Core.List.{List, [], ◌∷◌, ◌++◌}
 use mathlib.Core.Logic.{⊎_elim}
 use Prim.Native.Nat.{ℕ, zero, suc, ◌+◌, ◌-◌, ◌*◌, ◌/◌, ◌≤◌, ◌<◌, min}
 use native.Mathlib.Omega.{arith}
-use lib.Ieee.{Float, of_bits, binary64}
 use lib.ListN.{length, set}
 use lib.Seq.{sets, length-sets}
+use Rattle.std.specs.Prelude.{map}
+use Rattle.std.proofs.lemmas.List.{length-map, map-append}
 use Rattle.bitcursor.specs.declared.Refusal.TheVariants.{TooFewBits}
 use Rattle.loads.specs.Bits.{size}
 use Rattle.bitcursor.specs.Reading.{got, refused}
@@ -20,7 +21,6 @@ use Rattle.bitcursor.specs.Fields.{coded}
 use Rattle.hatch_format.specs.Counts.{times, times_read}
 use Rattle.hatch_points.specs.Gathered.{numbers, gathered}
 use Rattle.hatch_points.specs.Walks.{raw_run}
-use Rattle.hatch_points.specs.Lists.{doubles_of, doubles_append, length_doubles}
 use Rattle.hatch_points.specs.Stores.{raw_at}
 use Rattle.hatch_points.proofs.Laws.{sets_append, sets_out}
 
@@ -40,20 +40,13 @@ raw_snoc xs p (suc n) =
     ∙ ap (λ (q : ℕ). low_number (bytes_at xs p 8) ∷ (raw_at xs (p + 64) n ++ (low_number (bytes_at xs q 8) ∷ []))) f
 
 -- so one more is stored behind the first n
-pub one_more_bits : (xs : List ℕ) (p n i : ℕ) (b : List ℕ)
-    → set (sets b i (raw_at xs p n)) (i + n) (low_number (bytes_at xs (p + 64 * n) 8)) ≡ sets b i (raw_at xs p (n + 1))
-one_more_bits xs p n i b =
-    sym (ap (sets b i) (raw_snoc xs p n) ∙ sets_append b i (raw_at xs p n) _
-    ∙ ap (λ (k : ℕ). set (sets b i (raw_at xs p n)) (i + k) (low_number (bytes_at xs (p + 64 * n) 8))) (length_raw xs p n))
-
-pub one_more_double : (xs : List ℕ) (p n i : ℕ) (l : List Float)
-    → set (sets l i (doubles_of (raw_at xs p n))) (i + n) (of_bits binary64 (low_number (bytes_at xs (p + 64 * n) 8))) ≡ sets l i (doubles_of
-    (raw_at xs p (n + 1)))
-one_more_double xs p n i l =
-    sym (ap (λ (ns : List ℕ). sets l i (doubles_of ns)) (raw_snoc xs p n) ∙ ap (sets l i) (doubles_append (raw_at xs p n) _)
-    ∙ sets_append l i (doubles_of (raw_at xs p n)) _
-    ∙ ap (λ (k : ℕ). set (sets l i (doubles_of (raw_at xs p n))) (i + k) (of_bits binary64 (low_number (bytes_at xs (p + 64 * n) 8))))
-    (length_doubles (raw_at xs p n) ∙ length_raw xs p n))
+pub one_more : {N : Type 0} (of : ℕ → N) (xs : List ℕ) (p n i : ℕ) (l : List N)
+    → set (sets l i (map of (raw_at xs p n))) (i + n) (of (low_number (bytes_at xs (p + 64 * n) 8))) ≡ sets l i (map of (raw_at xs p (n + 1)))
+one_more of xs p n i l =
+    sym (ap (λ (ns : List ℕ). sets l i (map of ns)) (raw_snoc xs p n) ∙ ap (sets l i) (map-append of (raw_at xs p n) _)
+    ∙ sets_append l i (map of (raw_at xs p n)) _
+    ∙ ap (λ (k : ℕ). set (sets l i (map of (raw_at xs p n))) (i + k) (of (low_number (bytes_at xs (p + 64 * n) 8))))
+    (length-map (raw_at xs p n) of ∙ length_raw xs p n))
 
 -- ---- n RD, and where they end or stop
 RD_there : (xs : List ℕ) (p : ℕ) → 64 ≤ size xs - p → RD.read xs p ≡ got (low_number (bytes_at xs p 8)) (p + 64)
@@ -112,22 +105,14 @@ module _ (xs : List ℕ) (p n m i : ℕ) where
   split : m ≤ n → raw_at xs p n ≡ raw_at xs p m ++ raw_at xs (p + 64 * m) (n - m)
   split le = let e : n ≡ m + (n - m) = omega arith in ap (raw_at xs p) e ∙ raw_add xs p m (n - m)
 
-  pub bits_enough : (b : List ℕ) → m ≡ min n (length b - i) → sets b i (raw_at xs p m) ≡ sets b i (raw_at xs p n)
-  bits_enough b h =
+  pub enough : {N : Type 0} (of : ℕ → N) (l : List N) → m ≡ min n (length l - i) → sets l i (map of (raw_at xs p m)) ≡ sets l i (map of (raw_at xs p n))
+  enough of l h =
       ⊎_elim
-      (λ (w : n ≤ length b - i). let e : m ≡ n = omega arith in ap (λ (k : ℕ). sets b i (raw_at xs p k)) e)
-      (λ (w : length b - i < n).
-      sets_enough b i (raw_at xs p m) (raw_at xs (p + 64 * m) (n - m)) (omega (arith, length_raw xs p m)) ∙ ap (sets b i) (sym (split (omega arith))))
-      (le_or_lt n (length b - i))
-
-  pub doubles_enough : (l : List Float) → m ≡ min n (length l - i) → sets l i (doubles_of (raw_at xs p m)) ≡ sets l i (doubles_of (raw_at xs p n))
-  doubles_enough l h =
-      ⊎_elim
-      (λ (w : n ≤ length l - i). let e : m ≡ n = omega arith in ap (λ (k : ℕ). sets l i (doubles_of (raw_at xs p k))) e)
+      (λ (w : n ≤ length l - i). let e : m ≡ n = omega arith in ap (λ (k : ℕ). sets l i (map of (raw_at xs p k))) e)
       (λ (w : length l - i < n).
-      sets_enough l i (doubles_of (raw_at xs p m)) (doubles_of (raw_at xs (p + 64 * m) (n - m)))
-      (omega (arith, length_doubles (raw_at xs p m), length_raw xs p m))
-      ∙ ap (sets l i) (sym (ap doubles_of (split (omega arith)) ∙ doubles_append (raw_at xs p m) (raw_at xs (p + 64 * m) (n - m)))))
+      sets_enough l i (map of (raw_at xs p m)) (map of (raw_at xs (p + 64 * m) (n - m)))
+      (omega (arith, length-map (raw_at xs p m) of, length_raw xs p m))
+      ∙ ap (sets l i) (sym (ap (map of) (split (omega arith)) ∙ map-append of (raw_at xs p m) (raw_at xs (p + 64 * m) (n - m)))))
       (le_or_lt n (length l - i))
 
 -- none are there everywhere

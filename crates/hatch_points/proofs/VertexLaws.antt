@@ -1,15 +1,15 @@
 -- A vertex is the two RD at its place and the BD behind them; and three stores one behind the other. Assumes nothing.
-use mathlib.Core.Path.{◌≡◌, refl, sym, ap, ap₂, subst, ◌∙◌}
+use mathlib.Core.Path.{◌≡◌, refl, sym, ap, ap₂, ◌∙◌}
 use mathlib.Core.List.{List, [], ◌∷◌}
 use Prim.Native.Nat.{ℕ, suc, ◌+◌, ◌-◌, ◌*◌, ◌/◌, ◌≤◌, ◌<◌}
 use native.Mathlib.Omega.{arith}
 use lib.ListN.{length, length-append, set}
 use lib.Seq.{sets}
+use Rattle.std.specs.Prelude.{map, Result, Ok, Err}
 use Rattle.bitcursor.specs.declared.Refusal.{Refusal}
 use Rattle.bitcursor.specs.declared.Refusal.TheVariants.{TooFewBits}
-use Rattle.bitcursor.specs.declared.Read.{Read}
-use Rattle.bitcursor.specs.declared.Passed.{Passed}
-use Rattle.bitcursor.specs.Answers.{as_read}
+use Rattle.bitcursor.specs.declared.Refused.{Refused}
+use Rattle.bitcursor.specs.Answers.{outcome}
 use Rattle.loads.specs.Bits.{size}
 use Rattle.bitcursor.specs.Reading.{Out, got, refused, and_then, never}
 use Rattle.bitcursor.specs.Codes.{RD}
@@ -20,8 +20,8 @@ use Rattle.hatch_format.specs.Counts.{times, times_read}
 use Rattle.hatch_format.specs.Takes.{takes_BD}
 use Rattle.hatch_points.specs.Gathered.{Entries, numbers, plus}
 use Rattle.hatch_points.specs.Runs.{times_length}
-use Rattle.hatch_points.specs.Stores.{raw_at, passed_by}
-use Rattle.hatch_points.specs.Vertices.{vertex_at, Extra, ExtraPassed}
+use Rattle.hatch_points.specs.Stores.{raw_at}
+use Rattle.hatch_points.specs.Vertices.{vertex_at, Extra}
 use Rattle.hatch_points.specs.Walks.{raw_run, double_run, vertex_walk}
 use Rattle.hatch_points.proofs.Laws.{onward}
 use Rattle.hatch_points.proofs.RawRuns.{raw_there, raw_short}
@@ -51,23 +51,13 @@ module _ (xs : List ℕ) (p : ℕ) where
         then_got (raw_run 2) (λ a. double_run 1 >>= λ b. pure (plus a b)) xs point
         ∙ then_refused (double_run 1) (λ b. pure (plus (numbers (raw_at xs p 2)) b)) xs (no_double xs (p + 128) e)
 
-    on_double : (o : Out ℕ ℕ) → BD.read xs (p + 128) ≡ o → Extra xs p (as_read o)
-    on_double (got v q) e =
-        let on = onward (coded BD) 2 takes_BD xs (p + 128) e (omega arith) in
-        record { read = vertex_there e; onward = omega (arith, on.0); inside = on.1 }
-    on_double (refused k q) e = vertex_no e
-
     -- the double is read, or the vertex is refused as the double is
-    pub extra_on : {q : ℕ} {r : Read} → q ≡ p + 128 → r ≡ as_read (BD.read xs q) → Extra xs p r
-    extra_on {q} {r} e d = subst (Extra xs p) (sym (d ∙ ap (λ (k : ℕ). as_read (BD.read xs k)) e)) (on_double (BD.read xs (p + 128)) refl)
-
-    passed_on : (o : Out ℕ ℕ) → BD.read xs (p + 128) ≡ o → ExtraPassed xs p (passed_by o)
-    passed_on (got v q) e = (v, on_double (got v q) e)
-    passed_on (refused k q) e = on_double (refused k q) e
-
-    pub extra_passed : {q : ℕ} {r : Passed} → q ≡ p + 128 → r ≡ passed_by (BD.read xs q) → ExtraPassed xs p r
-    extra_passed {q} {r} e d =
-        subst (ExtraPassed xs p) (sym (d ∙ ap (λ (k : ℕ). passed_by (BD.read xs k)) e)) (passed_on (BD.read xs (p + 128)) refl)
+    pub extra_on : {q : ℕ} (r : Result (ℕ × ℕ) (Refused ℕ)) → q ≡ p + 128 → outcome r ≡ BD.read xs q → Extra xs p r
+    extra_on {q} (Ok v) e d =
+        let at_point : got v.0 v.1 ≡ BD.read xs (p + 128) = d ∙ ap (λ (k : ℕ). BD.read xs k) e in
+        let on = onward (coded BD) 2 takes_BD xs (p + 128) at_point (omega arith) in
+        record { read = vertex_there (sym at_point); onward = omega (arith, on.0); inside = on.1 }
+    extra_on {q} (Err x) e d = vertex_no (sym (d ∙ ap (λ (k : ℕ). BD.read xs k) e))
 
   -- the point is not there
   pub extra_short : size xs - p < 128 → vertex_walk.read xs p ≡ refused TooFewBits (p + (size xs - p) / 8 * 8)
@@ -96,11 +86,11 @@ vertex_long xs p e q i = first ((times 2 (coded RD)).read xs p) refl i
     first (refused x r) j f = never f
 
 -- three stores
-pub three : {A : Type 0} (f : ℕ → A) (l : List A) (i : ℕ) {a b : ℕ} (c : ℕ) {l₁ l₂ l₃ : List A} {a' b' : ℕ} → l₁ ≡ set l i (f a') → a' ≡ a
-    → l₂ ≡ set l₁ (i + 1) (f b') → b' ≡ b → l₃ ≡ set l₂ (i + 2) (f c)
-    → l₃ ≡ sets l i (f a ∷ (f b ∷ (f c ∷ [])))
-three {A} f l i {a} {b} c h₁ ha h₂ hb h₃ =
+pub three : {N : Type 0} (of : ℕ → N) (l : List N) (i : ℕ) {a b : ℕ} (c : ℕ) {l₁ l₂ l₃ : List N} {a' b' : ℕ} → l₁ ≡ set l i (of a') → a' ≡ a
+    → l₂ ≡ set l₁ (i + 1) (of b') → b' ≡ b → l₃ ≡ set l₂ (i + 2) (of c)
+    → l₃ ≡ sets l i (map of (a ∷ (b ∷ (c ∷ []))))
+three {N} of l i {a} {b} c h₁ ha h₂ hb h₃ =
     let e : i + 1 ≡ suc i = omega arith in
     let g : i + 2 ≡ suc (suc i) = omega arith in
-    h₃ ∙ ap (λ (m : List A). set m (i + 2) (f c)) (h₂ ∙ ap₂ (λ (m : List A) (x : ℕ). set m (i + 1) (f x)) (h₁ ∙ ap (λ (x : ℕ). set l i (f x)) ha) hb)
-    ∙ ap₂ (λ (j k : ℕ). set (set (set l i (f a)) j (f b)) k (f c)) e g
+    h₃ ∙ ap (λ (m : List N). set m (i + 2) (of c)) (h₂ ∙ ap₂ (λ (m : List N) (x : ℕ). set m (i + 1) (of x)) (h₁ ∙ ap (λ (x : ℕ). set l i (of x)) ha) hb)
+    ∙ ap₂ (λ (j k : ℕ). set (set (set l i (of a)) j (of b)) k (of c)) e g

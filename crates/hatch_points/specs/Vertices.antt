@@ -1,9 +1,6 @@
 -- A point and the double behind it, as one turn of a loop reads and stores them. Assumes nothing.
-use Rattle.std.specs.Prelude.{◌≡◌, List, [], ◌∷◌, ℕ, ◌+◌, ◌*◌, ◌≤◌, length}
-use Rattle.bitcursor.specs.declared.Read.{Read}
-use Rattle.bitcursor.specs.declared.Read.TheVariants.{Value, Refused}
-use Rattle.bitcursor.specs.declared.Passed.{Passed}
-use Rattle.bitcursor.specs.declared.Passed.TheVariants.{To, Refused as RefusedPassed}
+use Rattle.std.specs.Prelude.{◌≡◌, List, [], ◌∷◌, ℕ, ◌+◌, ◌*◌, ◌≤◌, length, Result, Ok, Err}
+use Rattle.bitcursor.specs.declared.Refused.{Refused}
 use Rattle.loads.specs.Bytes.{low_number, bytes_at}
 use Rattle.bitcursor.specs.Reading.{got, refused}
 use Rattle.hatch_points.specs.Gathered.{numbers}
@@ -19,11 +16,6 @@ pub record VertexThere (xs : List ℕ) (p v q : ℕ) : Type 0 where
   pub onward : p + 130 ≤ q
   pub inside : q ≤ 8 * length xs
 
-abbrev pub Extra : List ℕ → ℕ → Read → Type 0
-Extra xs p (Value v q) = VertexThere xs p v q
-Extra xs p (Refused k q) = vertex_walk.read xs p ≡ refused k q
-
--- the same, where the double's value is not wanted
-abbrev pub ExtraPassed : List ℕ → ℕ → Passed → Type 0
-ExtraPassed xs p (To q) = (v : ℕ) × VertexThere xs p v q
-ExtraPassed xs p (RefusedPassed k q) = vertex_walk.read xs p ≡ refused k q
+abbrev pub Extra : List ℕ → ℕ → Result (ℕ × ℕ) (Refused ℕ) → Type 0
+Extra xs p (Ok v) = VertexThere xs p v.0 v.1
+Extra xs p (Err e) = vertex_walk.read xs p ≡ refused e.refusal e.place

@@ -1,77 +1,50 @@
-// Counts: refused with 3 above the cap, and above the bits left after them, as the Rust's `bounds_check` has it. The functions `then_..` read one behind
-// another field, whose refusal stays.
+// Counts: refused with 3 above the cap, and above the bits left after them, as the Rust's `bounds_check` has it.
 ghost use Rattle.std.specs.Prelude.{◌≡◌, ◌-◌, ◌≤◌, length};
-ghost use Rattle.bitcursor.specs.Answers.{as_read};
+ghost use Rattle.bitcursor.specs.Answers.{outcome};
 ghost use Rattle.loads.specs.Bits.{limit, size};
 ghost use Rattle.bitcursor.specs.Codes.{BL, BS};
-ghost use Rattle.sequence.specs.Sequence.{then_read};
 ghost use Rattle.hatch_format.specs.Counts.{bounded};
 ghost use Rattle.hatch_points.specs.Heads.{bounds_of};
 
-use bitcursor::{Read, Refusal};
+use bitcursor::{Reading, Refusal, refuse};
 
 // The bits after a place, 0 past the end.
 fn remaining_bits(s: &[u8], p: usize) -> usize
     requires { length s.now ≤ limit }
     ensures { result ≡ size s.now - p }
 {
-    let end = s.len() * 8;
-    if end <= p {
-        return 0;
-    }
-    end - p
+    (s.len() * 8).saturating_sub(p)
 }
 
-fn bounds_check(s: &[u8], read: Read, cap: usize) -> Read
+fn bounds_check(s: &[u8], n: u64, p: usize, cap: usize) -> Reading<u64>
     requires { length s.now ≤ limit }
-    ensures { result ≡ bounds_of s.now cap read }
+    ensures { outcome result ≡ bounds_of s.now cap n p }
 {
-    match read {
-        Read::Value(n, p) => {
-            if (cap as u64) < n {
-                return Read::Refused(Refusal::CountTooLarge, p);
-            }
-            if (remaining_bits(s, p) as u64) < n {
-                return Read::Refused(Refusal::CountTooLarge, p);
-            }
-            Read::Value(n, p)
-        }
-        Read::Refused(k, p) => Read::Refused(k, p),
+    if (cap as u64) < n {
+        return refuse(Refusal::CountTooLarge, p);
     }
+    if (remaining_bits(s, p) as u64) < n {
+        return refuse(Refusal::CountTooLarge, p);
+    }
+    Ok((n, p))
 }
 
 // A count that is a BL.
-pub fn read_count(s: &[u8], at: usize, cap: usize) -> Read
+#[tactic(auto, using(bitcursor::proofs::Steps::reading, crate::specs::Heads::bounds_bounded))]
+pub fn read_count(s: &[u8], at: usize, cap: usize) -> Reading<u64>
     requires { length s.now ≤ limit }
-    ensures { result ≡ as_read ((bounded cap BL).read s.now at) }
+    ensures { outcome result ≡ (bounded cap BL).read s.now at }
 {
-    bounds_check(s, bitcursor::within::read_bl_u(s, at), cap)
+    let (n, p) = bitcursor::within::read_bl_u(s, at)?;
+    bounds_check(s, n, p, cap)
 }
 
 // A count that is a BS.
-pub fn read_short_count(s: &[u8], at: usize, cap: usize) -> Read
+#[tactic(auto, using(bitcursor::proofs::Steps::reading, crate::specs::Heads::bounds_bounded))]
+pub fn read_short_count(s: &[u8], at: usize, cap: usize) -> Reading<u64>
     requires { length s.now ≤ limit }
-    ensures { result ≡ as_read ((bounded cap BS).read s.now at) }
+    ensures { outcome result ≡ (bounded cap BS).read s.now at }
 {
-    bounds_check(s, bitcursor::within::read_bs_u(s, at), cap)
-}
-
-pub fn then_count(s: &[u8], prior: Read, cap: usize) -> Read
-    requires { length s.now ≤ limit }
-    ensures { result ≡ then_read ((bounded cap BL).read s.now) prior }
-{
-    match prior {
-        Read::Value(_, p) => read_count(s, p, cap),
-        Read::Refused(k, p) => Read::Refused(k, p),
-    }
-}
-
-pub fn then_short_count(s: &[u8], prior: Read, cap: usize) -> Read
-    requires { length s.now ≤ limit }
-    ensures { result ≡ then_read ((bounded cap BS).read s.now) prior }
-{
-    match prior {
-        Read::Value(_, p) => read_short_count(s, p, cap),
-        Read::Refused(k, p) => Read::Refused(k, p),
-    }
+    let (n, p) = bitcursor::within::read_bs_u(s, at)?;
+    bounds_check(s, n, p, cap)
 }

@@ -1,47 +1,48 @@
 // The lent lists: how far they are used, and a store where there is room.
-ghost use Rattle.std.specs.Prelude.{◌≡◌, ◌^◌, ◌<◌, set};
-ghost use Rattle.std.specs.Float.Ieee.{of_bits};
-ghost use Rattle.std.specs.Float.{binary64};
+// A walk takes the lists one by one, and not in a struct that borrows both: it would be no plainer, since most walks lend one of the two.
+ghost use Rattle.std.specs.Prelude.{◌≡◌, ◌+◌, ◌^◌, ◌<◌, set};
+ghost use Rattle.hatch_points.specs.Lists.{with_numbers, with_words};
 
-use bitcursor::{Refusal, values};
+use bitcursor::values::Number;
 
 // The lengths used of the numbers and of the words, and whether a path came from a boundary object.
-#[derive(Clone, Copy)]
+#[derive(Clone, Copy, Debug, PartialEq, Eq)]
 pub struct Sizes {
     pub numbers: usize,
     pub words: usize,
     pub derived: bool,
 }
 
-// A walk that came to its end, with the place after it and the lengths used then; or its refusal.
-#[derive(Clone, Copy)]
-pub enum Walk {
-    Done(usize, Sizes),
-    Refused(Refusal, usize),
+impl Sizes {
+    // n numbers more.
+    pub fn with_numbers(self, n: usize) -> Sizes
+        requires { self.numbers + n < 2 ^ 64 }
+        ensures { result ≡ with_numbers self n }
+    {
+        Sizes {
+            numbers: self.numbers + n,
+            ..self
+        }
+    }
+
+    // n words more.
+    pub fn with_words(self, n: usize) -> Sizes
+        requires { self.words + n < 2 ^ 64 }
+        ensures { result ≡ with_words self n }
+    {
+        Sizes {
+            words: self.words + n,
+            ..self
+        }
+    }
 }
 
-fn put_double(numbers: &mut [f64], at: usize, v: u64)
-    ensures { numbers.new ≡ set numbers.old at (of_bits binary64 v) }
+pub fn put_number<N: Number>(numbers: &mut [N], at: usize, v: u64)
+    ensures { numbers.new ≡ set numbers.old at (N.of_bits v) }
 {
     if at < numbers.len() {
-        numbers[at] = values::double_of(v);
+        numbers[at] = N::from_bits(v);
     }
-}
-
-fn put_bits(bits: &mut [u64], at: usize, v: u64)
-    ensures { bits.new ≡ set bits.old at v }
-{
-    if at < bits.len() {
-        bits[at] = v;
-    }
-}
-
-// A number goes to both lists of numbers, of which a call lends one.
-pub fn put_number(numbers: &mut [f64], bits: &mut [u64], at: usize, v: u64)
-    ensures { (numbers.new ≡ set numbers.old at (of_bits binary64 v)) × (bits.new ≡ set bits.old at v) }
-{
-    put_double(numbers, at, v);
-    put_bits(bits, at, v);
 }
 
 pub fn put_word(words: &mut [u32], at: usize, w: u64)

@@ -1,19 +1,29 @@
 -- 64 bits at once: the word at a place, from eight, nine or ten bytes, and some of its first bytes. Assumes nothing.
-use mathlib.Core.Path.{◌≡◌, sym, ap, subst, ◌∙◌}
-use mathlib.Core.List.{List}
+use mathlib.Core.Path.{◌≡◌, refl, sym, ap, subst, ◌∙◌}
+use mathlib.Core.List.{List, [], ◌∷◌}
 use Prim.Native.Nat.{ℕ, zero, suc, ◌+◌, ◌-◌, ◌*◌, ◌/◌, ◌%◌, ◌^◌, ◌≤◌, ◌<◌}
-use native.Mathlib.Nat.{add-zero, add-mul, mul_assoc, mul-add-div_right, mul-mod_left, mod-eq_of_lt, div-one}
+use native.Mathlib.Nat.{add-zero, add-mul, mul_assoc, mul-add-div_right, mul-mod_left, mod-eq_of_lt, div-one, lt_of_lt_of_le}
 use native.Mathlib.Omega.{arith}
-use lib.ListN.{length, get_or}
+use lib.ListN.{length, get_or, take, drop}
+use lib.Seq.{drop-cons}
 use lib.Arith.{digits_lt}
 use lib.Dec.{lit<}
-use lib.Pow.{pow-add, pow_pos, high, low, mod-pow-add, shl_lt, shl-shr, shr_lt}
+use lib.Pow.{pow-add, pow_pos, pow_mono, high, low, mod-pow-add, shl_lt, shl-shr, shr_lt}
+use Rattle.std.specs.Int.{w16, w64, from_be_bytes}
 use Rattle.loads.specs.Bits.{window, number}
 use Rattle.loads.specs.BitLaws.{number_append, number_lt, window_add, window_whole}
 use Rattle.loads.proofs.Parts.{big_at, part, part_at}
 
 pub window_lt : (s : List ℕ) (at n : ℕ) → at + n ≤ 8 * length s → number (window s at n) < 2 ^ n
 window_lt s at n h = rw (window_whole s at n (omega arith)) at (number_lt (window s at n))
+
+-- no bits are the number 0, and fewer than eight bytes leave room for one more
+pub none : (s : List ℕ) (at : ℕ) → number (window s at 0) ≡ 0
+unfolding window number
+none s at = refl
+
+pub short_lt : (s : List ℕ) (at i : ℕ) → at + 8 * i ≤ 8 * length s → i < 8 → number (window s at (8 * i)) < 2 ^ 56
+short_lt s at i h h₈ = lt_of_lt_of_le (window_lt s at (8 * i) h) (pow_mono {j = 56} (omega arith))
 
 -- m bits and then n
 pub number_split : (s : List ℕ) (at m n : ℕ) → at + (m + n) ≤ 8 * length s
@@ -52,48 +62,43 @@ shifted x b r h hb =
     eq₆₄ r h = omega arith
 
 module _ (s : List ℕ) (bytes : (i : ℕ) → get_or s i 0 < 256) where
-  pub two : (q : ℕ) → q + 2 ≤ length s → {a b : ℕ} → a ≡ get_or s q 0 → b ≡ get_or s (q + 1) 0 → a * 0x100 + b ≡ number (window s (8 * q) 16)
-  two q h ea eb =
-      let e : q + 1 ≡ suc q = omega arith in
-      rw (ea, eb, e)
-      (sum (get_or s q 0) (get_or s (suc q) 0) (bytes _) (bytes _)
-      ∙ sym (part s bytes q 0 16 2 h (omega arith)) ∙ ap (λ (p : ℕ). number (window s p 16)) (add-zero (8 * q)))
-    where
-      sum : (a b : ℕ) → a < 256 → b < 256 → a * 0x100 + b ≡ (a * 0x100 + (b * 1 + 0)) / 1 % 0x1_0000
-      sum a b ha hb = omega arith
-
-  pub four : (q : ℕ) → q + 4 ≤ length s → {a b c d : ℕ} → a ≡ get_or s q 0 → b ≡ get_or s (q + 1) 0 → c ≡ get_or s (q + 2) 0 → d ≡ get_or s (q + 3) 0
-      → a * 0x100_0000 + b * 0x1_0000 + c * 0x100 + d ≡ number (window s (8 * q) 32)
-  four q h ea eb ec ed =
-      let e₁ : q + 1 ≡ suc q = omega arith in
-      let e₂ : q + 2 ≡ suc (suc q) = omega arith in
-      let e₃ : q + 3 ≡ suc (suc (suc q)) = omega arith in
-      rw (ea, eb, ec, ed, e₁, e₂, e₃)
-      (sum (get_or s q 0) (get_or s (suc q) 0) (get_or s (suc (suc q)) 0) (get_or s (suc (suc (suc q))) 0) (bytes _) (bytes _) (bytes _) (bytes _)
-      ∙ sym (part s bytes q 0 32 4 h (omega arith)) ∙ ap (λ (p : ℕ). number (window s p 32)) (add-zero (8 * q)))
-    where
-      sum : (a b c d : ℕ) → a < 256 → b < 256 → c < 256 → d < 256
-          → a * 0x100_0000 + b * 0x1_0000 + c * 0x100 + d
-          ≡ (a * 0x100_0000 + (b * 0x1_0000 + (c * 0x100 + (d * 1 + 0)))) / 1 % 0x1_0000_0000
-      sum a b c d ha hb hc hd = omega arith
-
   big_lt : (k q : ℕ) → big_at s q k < 2 ^ (8 * k)
   big_lt zero q = lit< tt
   big_lt (suc k) q =
       let e : 8 + 8 * k ≡ 8 * suc k = omega arith in
       subst (λ (n : ℕ). big_at s q (suc k) < n) (sym (pow-add 2 8 (8 * k)) ∙ ap (λ (n : ℕ). 2 ^ n) e) (digits_lt (bytes q) (big_lt k (suc q)))
 
-  -- eight bytes, and the next
-  eight : (q : ℕ) → q + 8 ≤ length s → number (window s (8 * q) 64) ≡ big_at s q 8
-  eight q h =
-      ap (λ (p : ℕ). number (window s p 64)) (sym (add-zero (8 * q))) ∙ part s bytes q 0 64 8 h (omega arith)
-      ∙ ap (λ (x : ℕ). x % 2 ^ 64) (div-one (big_at s q 8))
-      ∙ mod-eq_of_lt (big_lt 8 q)
+  -- the bits of k bytes
+  whole : (k q : ℕ) → q + k ≤ length s → number (window s (8 * q) (8 * k)) ≡ big_at s q k
+  whole k q h =
+      let e : 8 * k - (0 + 8 * k) ≡ 0 = omega arith in
+      ap (λ (p : ℕ). number (window s p (8 * k))) (sym (add-zero (8 * q)))
+      ∙ part s bytes q 0 (8 * k) k h (omega arith)
+      ∙ rw e (ap (λ (x : ℕ). x % 2 ^ (8 * k)) (div-one (big_at s q k)) ∙ mod-eq_of_lt (big_lt k q))
+
+  -- the k bytes at q, one by one
+  abbrev one_by_one : ℕ → ℕ → List ℕ
+  one_by_one zero q = []
+  one_by_one (suc k) q = get_or s q 0 ∷ one_by_one k (suc q)
+
+  taken : (k q : ℕ) → q + k ≤ length s → take k (drop q s) ≡ one_by_one k q
+  taken zero q h = refl
+  taken (suc k) q h = ap (take (suc k)) (drop-cons s q 0 (omega arith)) ∙ ap (λ (bs : List ℕ). get_or s q 0 ∷ bs) (taken k (suc q) (omega arith))
+
+  -- what std makes of two bytes, and of eight
+  pub from_two : (q : ℕ) → q + 2 ≤ length s → from_be_bytes w16 (take 2 (drop q s)) ≡ number (window s (8 * q) 16)
+  from_two q h = ap (from_be_bytes w16) (taken 2 q h) ∙ two (get_or s q 0) (get_or s (suc q) 0) ∙ sym (whole 2 q h)
+    where
+      two : (a b : ℕ) → a * 256 + b ≡ a * 2 ^ 8 + (b * 2 ^ 0 + 0)
+      two a b = omega arith
+
+  pub from_eight : (q : ℕ) → q + 8 ≤ length s → from_be_bytes w64 (take 8 (drop q s)) ≡ number (window s (8 * q) 64)
+  from_eight q h = ap (from_be_bytes w64) (taken 8 q h) ∙ omega arith ∙ sym (whole 8 q h)
 
   nine : (q : ℕ) → q + 9 ≤ length s → big_at s q 9 ≡ number (window s (8 * q) 64) * 256 + get_or s (q + 8) 0
   nine q h =
       let e : q + 8 ≡ suc (suc (suc (suc (suc (suc (suc (suc q))))))) = omega arith in
-      rw (e, eight q (omega arith)) (omega arith)
+      rw (e, whole 8 q (omega arith)) (omega arith)
 
   pub word_shift : (at : ℕ) → at / 8 + 9 ≤ length s
       → number (window s (8 * (at / 8)) 64) * 2 ^ (at % 8) % 2 ^ 64 + get_or s (at / 8 + 8) 0 / 2 ^ (8 - at % 8) ≡ number (window s at 64)
@@ -101,12 +106,6 @@ module _ (s : List ℕ) (bytes : (i : ℕ) → get_or s i 0 < 256) where
       let e : 72 - (at % 8 + 64) ≡ 8 - at % 8 = omega arith in
       sym (part_at s bytes at 64 9 h (omega arith)
       ∙ rw (e, nine (at / 8) h) (shifted (number (window s (8 * (at / 8)) 64)) (get_or s (at / 8 + 8) 0) (at % 8) (omega arith) (bytes _)))
-
-pub two_halves : (s : List ℕ) (q x y : ℕ) → q + 8 ≤ length s → x ≡ number (window s (8 * q) 32) → y ≡ number (window s (8 * (q + 4)) 32)
-    → x * 0x1_0000_0000 + y ≡ number (window s (8 * q) 64)
-two_halves s q x y h e e' =
-    let p : 8 * (q + 4) ≡ 8 * q + 32 = omega arith in
-    rw (e, e', p) (sym (number_split s (8 * q) 32 32 (omega arith)))
 
 -- the first n bytes of the word at a place
 pub word_first : (s : List ℕ) (at n x : ℕ) → n ≤ 8 → at + 64 ≤ 8 * length s → x ≡ number (window s at 64)
@@ -123,6 +122,9 @@ byte_more s at i v b h e f =
     let m : 8 * (i + 1) ≡ 8 * i + 8 = omega arith in
     let k : at + i * 8 ≡ at + 8 * i = omega arith in
     rw (e, f, m, k) (sym (number_split s at (8 * i) 8 (omega arith)))
+
+-- what bytes put together one by one are
+pub ruleset byte_by_byte = (none, short_lt, window_lt, byte_more)
 
 -- ---- the bits from a place to the end of the eighth byte, on top of a word
 module _ (s : List ℕ) (at : ℕ) where

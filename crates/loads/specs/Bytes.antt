@@ -75,8 +75,3 @@ bits_of_bytes (suc n) cs h =
     let t = bits_of_bytes n (drop 8 cs) (length-drop 8 cs ∙ omega (arith, h)) in
     let d : digits 8 (number (take 8 cs)) ≡ take 8 cs = rw l at (digits_number (take 8 cs)) in
     (ap suc t.0, (rw l at (number_lt (take 8 cs)), t.1), sym (ap₂ ◌++◌ d (sym t.2) ∙ take-append-drop 8 cs))
-
--- the low n bytes of a number, the other way round: how code turns one order into the other
-unfoldable pub swapped : ℕ → ℕ → ℕ
-swapped zero x = 0
-swapped (suc n) x = x / 2 ^ (8 * n) % 256 + 256 * swapped n x

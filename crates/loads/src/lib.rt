@@ -3,56 +3,45 @@
 // specs/ says what the bits, bytes and numbers of a payload are; each load promises the number of bits or bytes that its caller knows to be there.
 #![tactic(auto)]
 
-ghost use Rattle.std.specs.Prelude.{◌≡◌, ◌+◌, ◌-◌, ◌*◌, ◌/◌, ◌%◌, ◌^◌, ◌≤◌, ◌<◌, length};
+ghost use Rattle.std.specs.Prelude.{◌≡◌, ◌+◌, ◌-◌, ◌*◌, ◌/◌, ◌%◌, ◌^◌, ◌≤◌, ◌<◌, length, take, drop};
 ghost use Rattle.loads.specs.Bits.{limit, number, window};
-ghost use Rattle.loads.specs.Bytes.{low_number, bytes_at, swapped};
-
-fn wide(x: u8) -> u64
-    ensures { (result ≡ x) × (result < 256) }
-{
-    x as u64
-}
+ghost use Rattle.loads.specs.Bytes.{low_number, bytes_at};
 
 // The n bits at `at`.
+#[tactic(auto, using(crate::proofs::Parts::in_one, crate::proofs::Parts::in_two))]
 pub fn bits_at(s: &[u8], at: usize, n: usize) -> u64
     requires { (1 ≤ n) × ((n ≤ 8) × (at + n ≤ 8 * length s.now)) }
     ensures { result ≡ number (window s.now at n) }
 {
     let q = at / 8;
     let e = at % 8 + n;
-    let b = wide(s[q]);
+    let b = u64::from(s[q]);
     if e <= 8 {
         return (b >> (8 - e)) % (1u64 << n);
     }
-    let d = wide(s[q + 1]);
+    let d = u64::from(s[q + 1]);
     ((b * 256 + d) >> (16 - e)) % (1u64 << n)
 }
 
-// The 16 bits of the two bytes at q.
-fn two_bytes(s: &[u8], q: usize) -> u64
-    requires { q + 2 ≤ length s.now }
-    ensures { (result ≡ number (window s.now (8 * q) 16)) × (result < 2 ^ 16) }
+// The N bytes at q.
+fn bytes<const N: usize>(s: &[u8], q: usize) -> [u8; N]
+    requires { q + N ≤ length s.now }
+    ensures { result ≡ take N (drop q s.now) }
 {
-    wide(s[q]) * 0x100 + wide(s[q + 1])
-}
-
-// The 32 bits of the four bytes at q.
-fn four_bytes(s: &[u8], q: usize) -> u64
-    requires { q + 4 ≤ length s.now }
-    ensures { (result ≡ number (window s.now (8 * q) 32)) × (result < 2 ^ 32) }
-{
-    wide(s[q]) * 0x100_0000 + wide(s[q + 1]) * 0x1_0000 + wide(s[q + 2]) * 0x100 + wide(s[q + 3])
+    *s[q..q + N].first_chunk().unwrap()
 }
 
 // The 64 bits of the eight bytes at q.
+#[tactic(auto, using(crate::proofs::LoadLaws::from_eight))]
 fn eight_bytes(s: &[u8], q: usize) -> u64
     requires { q + 8 ≤ length s.now }
     ensures { result ≡ number (window s.now (8 * q) 64) }
 {
-    four_bytes(s, q) * 0x1_0000_0000 + four_bytes(s, q + 4)
+    u64::from_be_bytes(bytes(s, q))
 }
 
 // The 64 bits at `at`.
+#[tactic(auto, using(crate::proofs::LoadLaws::word_shift, crate::proofs::LoadLaws::window_lt))]
 fn word_at(s: &[u8], at: usize) -> u64
     requires { at + 64 ≤ 8 * length s.now }
     ensures { result ≡ number (window s.now at 64) }
@@ -63,10 +52,26 @@ fn word_at(s: &[u8], at: usize) -> u64
     if r == 0 {
         return x;
     }
-    (x << r) + (wide(s[q + 8]) >> (8 - r))
+    (x << r) + (u64::from(s[q + 8]) >> (8 - r))
+}
+
+// The n bytes at `at` as a number, the high one first, byte by byte. A function of its own, since most bytes are far from the payload's end:
+// so what is compiled into the readers is `high_at` without this loop.
+#[inline(never)]
+#[tactic(auto, using(crate::proofs::LoadLaws::byte_by_byte))]
+fn last_at(s: &[u8], at: usize, n: usize) -> u64
+    requires { (length s.now ≤ limit) × ((1 ≤ n) × ((n ≤ 8) × (at + 8 * n ≤ 8 * length s.now))) }
+    ensures { result ≡ number (window s.now at (8 * n)) }
+{
+    let mut v = 0;
+    for i in 0..n {
+        v = v * 256 + bits_at(s, at + i * 8, 8);
+    }
+    v
 }
 
 // The n bytes at `at` as a number, the high one first.
+#[tactic(auto, using(crate::proofs::LoadLaws::word_first))]
 pub fn high_at(s: &[u8], at: usize, n: usize) -> u64
     requires { (length s.now ≤ limit) × ((1 ≤ n) × ((n ≤ 8) × (at + 8 * n ≤ 8 * length s.now))) }
     ensures { result ≡ number (window s.now at (8 * n)) }
@@ -74,54 +79,29 @@ pub fn high_at(s: &[u8], at: usize, n: usize) -> u64
     if 64 <= s.len() * 8 - at {
         return word_at(s, at) >> (64 - n * 8);
     }
-    let mut v: u64 = 0;
-    let mut i: usize = 0;
-    while i < n {
-        v = v * 256 + bits_at(s, at + i * 8, 8);
-        i += 1;
-    }
-    v
-}
-
-fn byte_of(x: u64, k: u64) -> u64
-    requires { k < 64 }
-    ensures { (result ≡ x / 2 ^ k % 256) × (result < 256) }
-{
-    (x >> k) % 256
-}
-
-// The bytes of x the other way round.
-fn swap(x: u64) -> u64
-    ensures { result ≡ swapped 8 x }
-{
-    let b0 = byte_of(x, 0);
-    let b1 = byte_of(x, 8);
-    let b2 = byte_of(x, 16);
-    let b3 = byte_of(x, 24);
-    let b4 = byte_of(x, 32);
-    let b5 = byte_of(x, 40);
-    let b6 = byte_of(x, 48);
-    let b7 = byte_of(x, 56);
-    b7 + 256 * (b6 + 256 * (b5 + 256 * (b4 + 256 * (b3 + 256 * (b2 + 256 * (b1 + 256 * b0))))))
+    last_at(s, at, n)
 }
 
 // The n bytes at `at` as a number, the low one first.
+#[tactic(auto, using(crate::proofs::Swaps::low_shift))]
 pub fn low_at(s: &[u8], at: usize, n: usize) -> u64
     requires { (length s.now ≤ limit) × ((1 ≤ n) × ((n ≤ 8) × (at + 8 * n ≤ 8 * length s.now))) }
     ensures { result ≡ low_number (bytes_at s.now at n) }
 {
-    swap(high_at(s, at, n)) >> (64 - n * 8)
+    high_at(s, at, n).swap_bytes() >> (64 - n * 8)
 }
 
 // The eight bytes at `at` as a number, the low one first. It asks for no length: for runs that are known to be there.
+#[tactic(auto, using(crate::proofs::Swaps::low_word))]
 pub fn eight_at(s: &[u8], at: usize) -> u64
     requires { at + 64 ≤ 8 * length s.now }
     ensures { result ≡ low_number (bytes_at s.now at 8) }
 {
-    swap(word_at(s, at))
+    word_at(s, at).swap_bytes()
 }
 
 // The bits from `at` to the end of the eighth byte, on top of the word.
+#[tactic(auto, using(crate::proofs::LoadLaws::top_shift))]
 pub fn top_at(s: &[u8], at: usize) -> u64
     requires { at / 8 + 8 ≤ length s.now }
     ensures { result ≡ number (window s.now at (64 - at % 8)) * 2 ^ (at % 8) }
@@ -129,11 +109,21 @@ pub fn top_at(s: &[u8], at: usize) -> u64
     eight_bytes(s, at / 8) << (at % 8)
 }
 
+// The 64 bits behind the two at `at`; `top` is what `top_at` has there.
+#[tactic(auto, using(crate::proofs::LoadLaws::from_two, crate::proofs::LoadLaws::top_behind, crate::proofs::LoadLaws::window_lt))]
+fn word_behind(s: &[u8], at: usize, top: u64) -> u64
+    requires { (at / 8 + 10 ≤ length s.now) × (top ≡ number (window s.now at (64 - at % 8)) * 2 ^ (at % 8)) }
+    ensures { result ≡ number (window s.now (at + 2) 64) }
+{
+    let last = u64::from(u16::from_be_bytes(bytes(s, at / 8 + 8)));
+    (top << 2) + (last >> (14 - at % 8))
+}
+
 // The eight bytes behind the two bits at `at`, the low one first; `top` is what `top_at` has there.
+#[tactic(auto, using(crate::proofs::Swaps::low_word))]
 pub fn low_behind(s: &[u8], at: usize, top: u64) -> u64
     requires { (at / 8 + 10 ≤ length s.now) × (top ≡ number (window s.now at (64 - at % 8)) * 2 ^ (at % 8)) }
     ensures { result ≡ low_number (bytes_at s.now (at + 2) 8) }
 {
-    let last = two_bytes(s, at / 8 + 8);
-    swap((top << 2) + (last >> (14 - at % 8)))
+    word_behind(s, at, top).swap_bytes()
 }

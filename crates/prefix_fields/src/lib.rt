@@ -5,124 +5,81 @@
 
 ghost use Rattle.std.specs.Prelude.{◌≡◌, ◌≤◌, length};
 ghost use Rattle.loads.specs.Bits.{limit};
-ghost use Rattle.bitcursor.specs.Answers.{as_read};
+ghost use Rattle.bitcursor.specs.Answers.{outcome, passing};
 ghost use Rattle.bitcursor.specs.Codes.{RL};
 ghost use Rattle.bitcursor.specs.Handles.{BLL, checked};
 ghost use Rattle.bitcursor.specs.Held.{held};
-ghost use Rattle.sequence.specs.Sequence.{then_read};
-ghost use Rattle.prefix_format.specs.Prefix.{graphics, name, graphics_block};
-ghost use Rattle.prefix_fields.specs.Blocks.{block, chain_from};
+ghost use Rattle.prefix_format.specs.Prefix.{extended, graphics, name};
+ghost use Rattle.prefix_fields.specs.Blocks.{block};
 
-use bitcursor::{Passed, Read, ReadHandle, Refusal};
-use text::ReadText;
+use bitcursor::{Passing, Reading, Refusal, refuse, within};
 
-// One XDATA block: 0 where its size is 0, and 1 after a handle and that many bytes.
-fn read_block(s: &[u8], at: usize) -> Read
+// One XDATA block: false where its size is 0, and true after a handle and that many bytes.
+#[tactic(auto, using(bitcursor::proofs::Steps::reading), unfolding(crate::specs::Blocks::block, bitcursor::specs::Handles::checked))]
+fn skip_block(s: &[u8], at: usize) -> Reading<bool>
     requires { length s.now ≤ limit }
-    ensures { result ≡ as_read (block.read s.now at) }
+    ensures { outcome result ≡ block.read s.now at }
 {
-    match bitcursor::within::read_bs_u(s, at) {
-        Read::Value(size, p) => {
-            if size == 0 {
-                return Read::Value(0, p);
-            }
-            match bitcursor::within::read_handle(s, p) {
-                ReadHandle::Value(_, q) => match bitcursor::within::skip_bytes(
-                    s,
-                    q,
-                    size as usize,
-                ) {
-                    Passed::To(e) => Read::Value(1, e),
-                    Passed::Refused(k, e) => Read::Refused(k, e),
-                },
-                ReadHandle::Refused(k, q) => Read::Refused(k, q),
-            }
-        }
-        Read::Refused(k, p) => Read::Refused(k, p),
+    let (size, p) = within::read_bs_u(s, at)?;
+    if size == 0 {
+        return Ok((false, p));
     }
+    let (_, q) = within::read_handle(s, p)?;
+    let behind = within::skip_bytes(s, q, size as usize)?;
+    Ok((true, behind))
 }
 
 // The XDATA chain block by block: whether there was one. After 256 nonzero blocks it is refused without another size.
-pub fn skip_extended_data(s: &[u8], at: usize) -> Read
+pub fn skip_extended_data(s: &[u8], at: usize) -> Reading<bool>
     requires { length s.now ≤ limit }
-    ensures { result ≡ as_read (chain_from 256 0 s.now at) }
+    ensures { outcome result ≡ extended.read s.now at }
 {
     let mut p = at;
-    let mut had: u64 = 0;
-    let mut left: usize = 256;
-    while 0 < left {
-        match read_block(s, p) {
-            Read::Value(more, q) => {
-                if more == 0 {
-                    return Read::Value(had, q);
-                }
-                p = q;
-                had = 1;
-                left -= 1;
-            }
-            Read::Refused(k, q) => {
-                return Read::Refused(k, q);
-            }
+    for blocks in 0..256usize {
+        let (more, q) = skip_block(s, p)?;
+        if !more {
+            return Ok((0 < blocks, q));
         }
+        p = q;
     }
-    Read::Refused(Refusal::TooManyXdataBlocks, p)
+    refuse(Refusal::TooManyXdataBlocks, p)
 }
 
-// What follows a set graphics bit: a size, as a BLL or an RL, and that many bytes.
-fn read_graphics_block(s: &[u8], at: usize, bll: bool) -> Read
+#[tactic(auto, using(bitcursor::proofs::Steps::reading), unfolding(bitcursor::specs::Codes::RL, bitcursor::specs::Handles::checked))]
+fn read_graphics_size(s: &[u8], at: usize, bll: bool) -> Reading<u64>
     requires { length s.now ≤ limit }
-    ensures { result ≡ as_read ((graphics_block bll).read s.now at) }
-{
-    let size = read_graphics_size(s, at, bll);
-    match size {
-        Read::Value(n, p) => match bitcursor::within::skip_bytes(s, p, n as usize) {
-            Passed::To(e) => Read::Value(1, e),
-            Passed::Refused(k, e) => Read::Refused(k, e),
-        },
-        Read::Refused(k, p) => Read::Refused(k, p),
-    }
-}
-
-fn read_graphics_size(s: &[u8], at: usize, bll: bool) -> Read
-    requires { length s.now ≤ limit }
-    ensures { result ≡ as_read ((checked bll BLL RL).read s.now at) }
+    ensures { outcome result ≡ (checked bll BLL RL).read s.now at }
 {
     if bll {
-        return bitcursor::within::read_bll(s, at);
+        return within::read_bll(s, at);
     }
-    bitcursor::within::read_low(s, at, 4)
+    within::read_low(s, at, 4)
 }
 
-pub fn then_graphics(s: &[u8], prior: Read, bll: bool) -> Read
+// A bit, and where it is set a size, as a BLL or an RL, and that many bytes.
+#[tactic(auto, using(bitcursor::proofs::Steps::reading), unfolding(prefix_format::specs::Prefix::graphics, prefix_format::specs::Prefix::graphics_block, bitcursor::specs::Handles::checked))]
+pub fn skip_graphics(s: &[u8], at: usize, bll: bool) -> Reading<bool>
     requires { length s.now ≤ limit }
-    ensures { result ≡ then_read ((graphics bll).read s.now) prior }
+    ensures { outcome result ≡ (graphics bll).read s.now at }
 {
-    match sequence::then_bits(s, prior, 1, true, 0) {
-        Read::Value(had, p) => {
-            if had == 1 {
-                return read_graphics_block(s, p, bll);
-            }
-            Read::Value(0, p)
-        }
-        Read::Refused(k, p) => Read::Refused(k, p),
+    let (had, p) = sequence::read_flag(s, at)?;
+    if !had {
+        return Ok((false, p));
     }
+    let (size, q) = read_graphics_size(s, p, bll)?;
+    let end = within::skip_bytes(s, q, size as usize)?;
+    Ok((true, end))
 }
 
-// A colour's name, read past if it is present.
-pub fn then_name(s: &[u8], prior: Read, has: bool, two_bytes: bool) -> Read
+// Past a colour's name, if it is present.
+#[tactic(auto, using(bitcursor::proofs::Steps::reading, crate::proofs::Laws::name_there, crate::proofs::Laws::name_short), unfolding(bitcursor::specs::Held::held))]
+pub fn skip_name(s: &[u8], at: usize, has: bool, two_bytes: bool) -> Passing
     requires { length s.now ≤ limit }
-    ensures { result ≡ then_read ((held has (name two_bytes) 0).read s.now) prior }
+    ensures { passing result ≡ (held has (name two_bytes) tt).read s.now at }
 {
-    match prior {
-        Read::Value(_, p) => {
-            if has {
-                return match text::within::read_tv_by(s, p, two_bytes) {
-                    ReadText::Found(_, q) => Read::Value(0, q),
-                    ReadText::Refused(k, q) => Read::Refused(k, q),
-                };
-            }
-            Read::Value(0, p)
-        }
-        Read::Refused(k, p) => Read::Refused(k, p),
+    if !has {
+        return Ok(at);
     }
+    let (_, p) = text::within::read_tv_by(s, at, two_bytes)?;
+    Ok(p)
 }

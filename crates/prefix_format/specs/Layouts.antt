@@ -1,6 +1,6 @@
 -- The layouts of an entity prefix: its fields back to back, in document 01's order, each in any code of its value. This is what demand 3
 -- calls a layout of a prefix; it speaks of bits, places and values alone, and of no reading. Assumes nothing.
-use Rattle.std.specs.Prelude.{◌≡◌, Bool, true, false, not, List, [], ◌∷◌, ℕ, ◌≤◌, length}
+use Rattle.std.specs.Prelude.{◌≡◌, Bool, true, false, not, List, [], ◌∷◌, ℕ, ◌≤◌, length, Option, Some, None}
 use Rattle.bitcursor.specs.declared.Handle.{Handle}
 use Rattle.bitcursor.specs.Code.{Code}
 use Rattle.bitcursor.specs.Joins.{Coded}
@@ -11,10 +11,10 @@ use Rattle.bitcursor.specs.Doubles.{BD}
 use Rattle.bitcursor.specs.Handles.{BLL, HANDLE}
 use Rattle.text.specs.Texts.{Written, TV}
 use Rattle.text.specs.Fields.{width_by}
-use Rattle.prefix_format.specs.declared.MaybeLong.{MaybeLong}
-use Rattle.prefix_format.specs.declared.CommonEntityBits.{CommonEntityBits}
+use Rattle.prefix_format.specs.declared.CommonEntityData.{CommonEntityData}
 use Rattle.prefix_format.specs.declared.table.Row.{Row}
-use Rattle.prefix_format.specs.Values.{mode_of, has_rgb, has_alpha, has_name, has_book_name}
+use Rattle.prefix_format.specs.Modes.{mode_of}
+use Rattle.prefix_format.specs.Values.{has_rgb, has_alpha, has_name, has_book_name}
 
 -- an XDATA block: its size in bytes and the handle before them
 pub record Block : Type 0 where
@@ -37,8 +37,9 @@ module _ (xs : List ℕ) where
   Field false c absent a = λ p q. (a ≡ absent) × Nothing p q
 
   -- such a field whose record says whether it was there
-  abbrev pub Marked : Bool → Code ℕ → MaybeLong → ℕ → ℕ → Type 0
-  Marked there c m = λ p q. (m.present ≡ there) × Field there c 0 m.value p q
+  abbrev pub Marked : Bool → Code ℕ → Option ℕ → ℕ → ℕ → Type 0
+  Marked true c m = λ p q. (v : ℕ) × (m ≡ Some v) × Coded xs c v p q
+  Marked false c m = λ p q. (m ≡ None) × Nothing p q
 
   -- XDATA: blocks of BS size that is not 0, handle and that many RC; then BS 0. 256 blocks have no layout
   abbrev pub BlockLaid : Block → ℕ → ℕ → Type 0
@@ -61,7 +62,7 @@ module _ (xs : List ℕ) where
   NameLaid true wide_units = λ p q. (t : Written) × Coded xs (TV (width_by wide_units)) t p q
   NameLaid false wide_units = Nothing
 
-  module _ (row : Row) (d : CommonEntityBits) where
+  module _ (row : Row) (d : CommonEntityData ℕ) where
     -- BB mode; BL reactors; B no-dictionary; B binary chain; B by-layer linetype; B nolinks
     abbrev pub ModesLaid : ℕ → ℕ → Type 0
     ModesLaid =

@@ -1,4 +1,5 @@
 pub mod Rows
+pub mod Modes
 pub mod Values
 pub mod Layouts
 pub mod Prefix

@@ -1,13 +1,9 @@
--- The zero record of a refused call, and the record with its linetype scale as a double. Assumes nothing.
-use Rattle.std.specs.Prelude.{false, [], ◌∷◌, pos}
-use Rattle.std.specs.Float.Ieee.{of_bits}
-use Rattle.std.specs.Float.{binary64}
+-- The zero record of a refused call, and the record with its linetype scale as what the caller has for it. Assumes nothing.
+use Rattle.std.specs.Prelude.{false, [], ◌∷◌, ℕ, pos, None}
 use Rattle.prefix_format.specs.declared.EntityMode.TheVariants.{ByLayer}
-use Rattle.prefix_format.specs.declared.CommonEntityBits.{CommonEntityBits}
 use Rattle.prefix_format.specs.declared.CommonEntityData.{CommonEntityData}
-use Rattle.prefix_format.specs.Values.{maybe}
 
-abbrev pub zero_bits : CommonEntityBits
+abbrev pub zero_bits : CommonEntityData ℕ
 zero_bits =
     record {
       raw_mode = 0;
@@ -23,20 +19,20 @@ zero_bits =
       invisibility = pos 0;
       nolinks = false;
       color_raw = 0;
-      color_rgb = maybe false 0;
-      color_alpha = maybe false 0;
+      color_rgb = None;
+      color_alpha = None;
       ltype_scale = 0;
       ltype_flags = 0;
       visual_style_flags = false ∷ (false ∷ (false ∷ []));
       lineweight = 0;
       had_graphics = false;
       had_extended_data = false;
-      data_end_bits = maybe false 0;
+      data_end_bits = None;
     }
 
--- with the linetype scale as the double that it is, the NaN where it is a NaN's pattern
-abbrev pub data_of : CommonEntityBits → CommonEntityData
-data_of b =
+-- with the linetype scale of its 64 bits: the double that they are, the NaN where they are a NaN's pattern, or the bits themselves
+abbrev pub data_of : {N : Type 0} → (ℕ → N) → CommonEntityData ℕ → CommonEntityData N
+data_of of_bits b =
     record {
       raw_mode = b.raw_mode;
       mode = b.mode;
@@ -53,7 +49,7 @@ data_of b =
       color_raw = b.color_raw;
       color_rgb = b.color_rgb;
       color_alpha = b.color_alpha;
-      ltype_scale = of_bits binary64 b.ltype_scale;
+      ltype_scale = of_bits b.ltype_scale;
       ltype_flags = b.ltype_flags;
       visual_style_flags = b.visual_style_flags;
       lineweight = b.lineweight;

@@ -4,12 +4,13 @@
 // call.
 #![tactic(auto)]
 
-use bitcursor::Refusal;
+ghost use Rattle.std.specs.Prelude.{◌≡◌};
+ghost use Rattle.prefix_format.specs.Modes.{mode_of, mode_number};
 
 pub mod table;
 
 // The entity's mode, from its two bits.
-#[derive(Clone, Copy)]
+#[derive(Clone, Copy, Debug, PartialEq, Eq)]
 pub enum EntityMode {
     ByLayer,
     ByPreviousEntity,
@@ -17,16 +18,35 @@ pub enum EntityMode {
     Reserved,
 }
 
-// A field with whether it was present.
-#[derive(Clone, Copy)]
-pub struct MaybeLong {
-    pub present: bool,
-    pub value: u32,
+impl From<u8> for EntityMode {
+    ghost from_gives = { λ bits mode. mode ≡ mode_of bits };
+
+    fn from(bits: u8) -> EntityMode {
+        match bits {
+            0 => EntityMode::ByLayer,
+            1 => EntityMode::ByPreviousEntity,
+            2 => EntityMode::InBlock,
+            _ => EntityMode::Reserved,
+        }
+    }
 }
 
-// All that a prefix holds, with the names of the Rust.
-#[derive(Clone, Copy)]
-pub struct CommonEntityData {
+impl From<EntityMode> for u8 {
+    ghost from_gives = { λ mode bits. bits ≡ mode_number mode };
+
+    fn from(mode: EntityMode) -> u8 {
+        match mode {
+            EntityMode::ByLayer => 0,
+            EntityMode::ByPreviousEntity => 1,
+            EntityMode::InBlock => 2,
+            EntityMode::Reserved => 3,
+        }
+    }
+}
+
+// All that a prefix holds, with the names of the Rust; the linetype scale is a double, or its 64 bits.
+#[derive(Clone, Copy, Debug, PartialEq)]
+pub struct CommonEntityData<N> {
     pub raw_mode: u8,
     pub mode: EntityMode,
     pub num_reactors: u32,
@@ -40,62 +60,13 @@ pub struct CommonEntityData {
     pub invisibility: i16,
     pub nolinks: bool,
     pub color_raw: u16,
-    pub color_rgb: MaybeLong,
-    pub color_alpha: MaybeLong,
-    pub ltype_scale: f64,
+    pub color_rgb: Option<u32>,
+    pub color_alpha: Option<u32>,
+    pub ltype_scale: N,
     pub ltype_flags: u8,
     pub visual_style_flags: [bool; 3],
     pub lineweight: u8,
     pub had_graphics: bool,
     pub had_extended_data: bool,
-    pub data_end_bits: MaybeLong,
-}
-
-// The same with the linetype scale as its 64 bits.
-#[derive(Clone, Copy)]
-pub struct CommonEntityBits {
-    pub raw_mode: u8,
-    pub mode: EntityMode,
-    pub num_reactors: u32,
-    pub no_xdictionary: bool,
-    pub binary_chain: bool,
-    pub is_on_layer: bool,
-    pub non_fixed_ltype: bool,
-    pub plotstyle_flag: u8,
-    pub material_flag: u8,
-    pub shadow_flags: u8,
-    pub invisibility: i16,
-    pub nolinks: bool,
-    pub color_raw: u16,
-    pub color_rgb: MaybeLong,
-    pub color_alpha: MaybeLong,
-    pub ltype_scale: u64,
-    pub ltype_flags: u8,
-    pub visual_style_flags: [bool; 3],
-    pub lineweight: u8,
-    pub had_graphics: bool,
-    pub had_extended_data: bool,
-    pub data_end_bits: MaybeLong,
-}
-
-// Whether a call gave a reading.
-#[derive(Clone, Copy)]
-pub enum Outcome {
-    Read,
-    Refused(Refusal),
-}
-
-// What a prefix call gives: on a refusal the record is zero throughout, and the place is the refusal's.
-#[derive(Clone, Copy)]
-pub struct Prefix {
-    pub outcome: Outcome,
-    pub place: usize,
-    pub fields: CommonEntityData,
-}
-
-#[derive(Clone, Copy)]
-pub struct PrefixBits {
-    pub outcome: Outcome,
-    pub place: usize,
-    pub fields: CommonEntityBits,
+    pub data_end_bits: Option<u32>,
 }

@@ -5,7 +5,7 @@ ghost use Rattle.prefix_format.specs.Rows.{rows, row_of};
 use text::version::Version;
 
 // One release: whether it has each field that not all have.
-#[derive(Clone, Copy)]
+#[derive(Clone, Copy, Debug, PartialEq, Eq)]
 pub struct Row {
     // the graphics size is a BLL, not an RL
     pub graphics_bll: bool,
@@ -137,13 +137,5 @@ pub fn row_of(v: Version) -> Row
     ensures { result ≡ row_of v }
 {
     let all = rows();
-    match v {
-        Version::R14 => all[0],
-        Version::R2000 => all[1],
-        Version::R2004 => all[2],
-        Version::R2007 => all[3],
-        Version::R2010 => all[4],
-        Version::R2013 => all[5],
-        Version::R2018 => all[6],
-    }
+    all[v.release_number() - 1]
 }

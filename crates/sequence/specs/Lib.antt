@@ -1,2 +1,1 @@
-pub mod Sequence
 pub mod OneByte

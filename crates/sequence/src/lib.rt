@@ -1,94 +1,74 @@
-// Fields in a row, for callers that know the payload's limit: src/common_entity.rs and src/entities/hatch.rs of dwg-rs; sections 20.4.1 and
-// 20.4.75 of the specification. Each step reads where the one before ended, and a refusal stays. A field that a release lacks is not read;
-// `absent` stands for it. specs/ promises that the answers are those of the code that `>>=` of crate `bitcursor` builds of the fields.
+// Fields that a release may lack, for callers that know the payload's limit: src/common_entity.rs of dwg-rs; section 20.4.1 of the
+// specification. A field that is lacking is not read, and `absent`, or None, stands for it.
+// specs/ has what each reads by bitcursor's `held`, and that an RC is eight raw bits.
 #![tactic(auto)]
 
-ghost use Rattle.std.specs.Prelude.{◌≡◌, ◌≤◌, length};
+ghost use Rattle.std.specs.Prelude.{◌≡◌, ◌^◌, ◌≤◌, ◌<◌, length};
 ghost use Rattle.bitcursor.specs.Code.{raw};
-ghost use Rattle.bitcursor.specs.Bytes.{low_first};
-ghost use Rattle.bitcursor.specs.Codes.{BS, BL};
-ghost use Rattle.bitcursor.specs.Doubles.{BD};
+ghost use Rattle.bitcursor.specs.Codes.{B, BL, RL};
+ghost use Rattle.bitcursor.specs.Answers.{outcome};
+ghost use Rattle.bitcursor.specs.Held.{held, marked};
 ghost use Rattle.loads.specs.Bits.{limit};
-ghost use Rattle.bitcursor.specs.Held.{held};
-ghost use Rattle.sequence.specs.Sequence.{then_read, value_of};
 
-use bitcursor::{Read, within};
+use bitcursor::{Reading, within};
 
-// The number of an answer, 0 of a refusal.
-pub fn value_of(r: Read) -> u64
-    ensures { result ≡ value_of r }
-{
-    match r {
-        Read::Value(v, _) => v,
-        Read::Refused(_, _) => 0,
-    }
-}
-
-// n bits (B, BB), if the release has them.
-pub fn then_bits(s: &[u8], prior: Read, n: usize, has: bool, absent: u64) -> Read
+// n bits (BB, RC), if the release has them; else 0.
+#[tactic(auto, using(bitcursor::proofs::Steps::reading), unfolding(bitcursor::specs::Held::held))]
+pub fn held_bits(s: &[u8], at: usize, n: usize, has: bool) -> Reading<u8>
     requires { (length s.now ≤ limit) × ((1 ≤ n) × (n ≤ 8)) }
-    ensures { result ≡ then_read ((held has (raw n) absent).read s.now) prior }
+    ensures { outcome result ≡ (held has (raw n) 0).read s.now at }
 {
-    match prior {
-        Read::Value(_, p) => {
-            if has {
-                return within::read_bits(s, p, n);
-            }
-            Read::Value(absent, p)
-        }
-        Read::Refused(k, p) => Read::Refused(k, p),
+    if !has {
+        return Ok((0, at));
     }
+    let (v, p) = within::read_bits(s, at, n)?;
+    Ok((v as u8, p))
 }
 
-// n bytes, the low one first (RC, RL), if the release has them.
-pub fn then_low(s: &[u8], prior: Read, n: usize, has: bool, absent: u64) -> Read
-    requires { (length s.now ≤ limit) × (n ≤ 8) }
-    ensures { result ≡ then_read ((held has (low_first n) absent).read s.now) prior }
-{
-    match prior {
-        Read::Value(_, p) => {
-            if has {
-                return within::read_low(s, p, n);
-            }
-            Read::Value(absent, p)
-        }
-        Read::Refused(k, p) => Read::Refused(k, p),
-    }
-}
-
-// BL, if the release has it.
-pub fn then_bl(s: &[u8], prior: Read, has: bool, absent: u64) -> Read
+// B.
+#[tactic(auto, using(bitcursor::proofs::Steps::reading), unfolding(bitcursor::specs::Codes::B, bitcursor::specs::Codes::B_read))]
+pub fn read_flag(s: &[u8], at: usize) -> Reading<bool>
     requires { length s.now ≤ limit }
-    ensures { result ≡ then_read ((held has BL absent).read s.now) prior }
+    ensures { outcome result ≡ B.read s.now at }
 {
-    match prior {
-        Read::Value(_, p) => {
-            if has {
-                return within::read_bl_u(s, p);
-            }
-            Read::Value(absent, p)
-        }
-        Read::Refused(k, p) => Read::Refused(k, p),
-    }
+    let (v, p) = within::read_bits(s, at, 1)?;
+    Ok((v == 1, p))
 }
 
-pub fn then_bs(s: &[u8], prior: Read) -> Read
+// B, if the release has it.
+#[tactic(auto, using(bitcursor::proofs::Steps::reading), unfolding(bitcursor::specs::Held::held))]
+pub fn held_flag(s: &[u8], at: usize, has: bool, absent: bool) -> Reading<bool>
     requires { length s.now ≤ limit }
-    ensures { result ≡ then_read (BS.read s.now) prior }
+    ensures { outcome result ≡ (held has B absent).read s.now at }
 {
-    match prior {
-        Read::Value(_, p) => within::read_bs_u(s, p),
-        Read::Refused(k, p) => Read::Refused(k, p),
+    if !has {
+        return Ok((absent, at));
     }
+    read_flag(s, at)
 }
 
-// BD, as its 64 bits.
-pub fn then_bd_bits(s: &[u8], prior: Read) -> Read
+// BL, or nothing.
+#[tactic(auto, using(bitcursor::proofs::Steps::reading, bitcursor::proofs::Smalls::smalls), unfolding(bitcursor::specs::Held::held, bitcursor::specs::Held::marked))]
+pub fn marked_bl(s: &[u8], at: usize, has: bool) -> Reading<Option<u32>>
     requires { length s.now ≤ limit }
-    ensures { result ≡ then_read (BD.read s.now) prior }
+    ensures { outcome result ≡ (marked has BL).read s.now at }
 {
-    match prior {
-        Read::Value(_, p) => within::read_bd_bits(s, p),
-        Read::Refused(k, p) => Read::Refused(k, p),
+    if !has {
+        return Ok((None, at));
     }
+    let (v, p) = within::read_bl_u(s, at)?;
+    Ok((Some(v as u32), p))
+}
+
+// RL, or nothing.
+#[tactic(auto, using(bitcursor::proofs::Steps::reading), unfolding(bitcursor::specs::Held::held, bitcursor::specs::Codes::RL, bitcursor::specs::Held::marked))]
+pub fn marked_rl(s: &[u8], at: usize, has: bool) -> Reading<Option<u32>>
+    requires { length s.now ≤ limit }
+    ensures { outcome result ≡ (marked has RL).read s.now at }
+{
+    if !has {
+        return Ok((None, at));
+    }
+    let (v, p) = within::read_low(s, at, 4)?;
+    Ok((Some(v as u32), p))
 }

@@ -1,93 +1,138 @@
 // The answers of the calls as the numbers that the list has: signed ones in two's complement, doubles as their 64 bits.
-ghost use Rattle.std.specs.Prelude.{◌≡◌};
+ghost use Rattle.std.specs.Prelude.{◌≤◌};
 
-use crate::record::ROOM;
-use bitcursor::{Read, ReadBool, ReadF64, ReadHandle, ReadI16, ReadI32, Refusal};
+use bitcursor::{Handle, Places, Reading, Refusal, Refused, values};
 
-// What one code answers: a refusal's number and its place; a value and the place after it; a handle's code, counter and value
-// and the place after it. `Unknown` is for a kind of request that is not here.
+// Room for the numbers of an answer.
+const ROOM: usize = 1024;
+
+// How many numbers open it: the refusal or 0, the place, the second place, which is 0 without a string reader, and how many values follow.
+const HEAD: usize = 4;
+
+// An answer as numbers. What there is no room for is dropped, as no answer of the list is so long.
 #[derive(Drop)]
-pub enum Code {
-    Refused(u64, usize),
-    Number(u64, usize),
-    Handle(u64, u64, u64, usize),
-    Unknown,
+pub struct Answer {
+    numbers: [u64; ROOM],
+    count: usize,
+    ghost within: { (4 ≤ count) × (count ≤ 1024) },
 }
 
-// The answer's first four numbers: the refusal or 0, the place, the second place, which is 0 without a string reader, and how many
-// values follow.
-pub fn open(found: &mut [u64; ROOM], refusal: u64, place: usize, second: usize, values: usize) {
-    found[0] = refusal;
-    found[1] = place as u64;
-    found[2] = second as u64;
-    found[3] = values as u64;
-}
-
-// A refusal and its places; how many numbers that are.
-pub fn refuse(found: &mut [u64; ROOM], r: Refusal, place: usize, second: usize) -> usize
-    ensures { result ≡ 4 }
-{
-    open(found, bitcursor::refusal_number(r) as u64, place, second, 0);
-    4
-}
-
-pub fn refused(r: Refusal, place: usize) -> Code {
-    Code::Refused(bitcursor::refusal_number(r) as u64, place)
-}
-
-fn signed(v: i64) -> u64 {
-    if v < 0 {
-        return !((!v) as u64);
+impl Answer {
+    fn open(refusal: u64, place: usize, second: usize) -> Answer {
+        let mut numbers = [0; ROOM];
+        numbers[0] = refusal;
+        numbers[1] = place as u64;
+        numbers[2] = second as u64;
+        Answer {
+            numbers,
+            count: HEAD,
+        }
     }
-    v as u64
-}
 
-pub fn of_short(v: i16) -> u64 {
-    signed(v as i64)
-}
-
-pub fn of_long(v: i32) -> u64 {
-    signed(v as i64)
-}
-
-pub fn of_read(r: Read) -> Code {
-    match r {
-        Read::Value(v, p) => Code::Number(v, p),
-        Read::Refused(k, p) => refused(k, p),
+    // A refusal at two places.
+    pub fn refused(refusal: Refusal, place: usize, second: usize) -> Answer {
+        Answer::open(u64::from(u8::from(refusal)), place, second)
     }
-}
 
-pub fn of_bool(r: ReadBool) -> Code {
-    match r {
-        ReadBool::Value(v, p) => Code::Number(v as u64, p),
-        ReadBool::Refused(k, p) => refused(k, p),
+    // What was read, up to two places; its values are to be pushed.
+    pub fn read(place: usize, second: usize) -> Answer {
+        Answer::open(0, place, second)
     }
-}
 
-pub fn of_i16(r: ReadI16) -> Code {
-    match r {
-        ReadI16::Value(v, p) => Code::Number(of_short(v), p),
-        ReadI16::Refused(k, p) => refused(k, p),
+    // Puts a value behind the others, if there is room.
+    pub fn push<T: Into<u64>>(&mut self, value: T) {
+        let at = self.count;
+        let number = value.into();
+        if at < ROOM {
+            self.numbers[at] = number;
+            self.numbers[3] = (at + 1 - HEAD) as u64;
+            self.count = at + 1;
+        }
+    }
+
+    // Puts these values behind the others.
+    pub fn extend<T: Copy + Into<u64>>(&mut self, values: &[T]) {
+        for value in values {
+            self.push(*value);
+        }
+    }
+
+    // Whether no value more is kept.
+    pub fn is_full(&self) -> bool {
+        self.count == ROOM
+    }
+
+    pub fn as_slice(&self) -> &[u64] {
+        &self.numbers[..self.count]
     }
 }
 
-pub fn of_i32(r: ReadI32) -> Code {
-    match r {
-        ReadI32::Value(v, p) => Code::Number(of_long(v), p),
-        ReadI32::Refused(k, p) => refused(k, p),
+// A value as the numbers that the list has of it.
+pub trait Values {
+    fn put(self, answer: &mut Answer);
+}
+
+impl Values for u64 {
+    fn put(self, answer: &mut Answer) {
+        answer.push(self);
     }
 }
 
-pub fn of_f64(r: ReadF64) -> Code {
-    match r {
-        ReadF64::Value(v, p) => Code::Number(bitcursor::values::bits_of(v), p),
-        ReadF64::Refused(k, p) => refused(k, p),
+impl Values for bool {
+    fn put(self, answer: &mut Answer) {
+        answer.push(self);
     }
 }
 
-pub fn of_handle(r: ReadHandle) -> Code {
-    match r {
-        ReadHandle::Value(h, p) => Code::Handle(h.code as u64, h.counter as u64, h.value, p),
-        ReadHandle::Refused(k, p) => refused(k, p),
+impl Values for i16 {
+    fn put(self, answer: &mut Answer) {
+        answer.push(i64::from(self).cast_unsigned());
+    }
+}
+
+impl Values for i32 {
+    fn put(self, answer: &mut Answer) {
+        answer.push(i64::from(self).cast_unsigned());
+    }
+}
+
+impl Values for f64 {
+    fn put(self, answer: &mut Answer) {
+        answer.push(values::bits_of(self));
+    }
+}
+
+impl Values for Handle {
+    fn put(self, answer: &mut Answer) {
+        answer.push(self.code);
+        answer.push(self.counter);
+        answer.push(self.value);
+    }
+}
+
+impl From<Refused> for Answer {
+    fn from(refused: Refused) -> Answer {
+        Answer::refused(refused.refusal, refused.place, 0)
+    }
+}
+
+impl From<Refused<Places>> for Answer {
+    fn from(refused: Refused<Places>) -> Answer {
+        let places = refused.place;
+        Answer::refused(refused.refusal, places.main, places.string)
+    }
+}
+
+// The answer of a reading without a string reader.
+impl<T: Values> From<Reading<T>> for Answer {
+    fn from(reading: Reading<T>) -> Answer {
+        match reading {
+            Ok((value, place)) => {
+                let mut answer = Answer::read(place, 0);
+                value.put(&mut answer);
+                answer
+            }
+            Err(refused) => Answer::from(refused),
+        }
     }
 }

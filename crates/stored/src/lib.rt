@@ -11,7 +11,9 @@ use std::io::Read;
 pub mod answers;
 pub mod compare;
 pub mod items;
+pub mod kinds;
 pub mod record;
+pub mod replay;
 pub mod report;
 pub mod texts;
 
@@ -22,23 +24,13 @@ pub fn large_buffer() -> [u8; 65536]
     [0; 65536]
 }
 
-// How many bytes one read puts at the start of `s`: 0 at the input's end, and where the read fails.
-fn read_some<R: Read>(file: &mut R, s: &mut [u8]) -> usize
-    ensures { IsPrefixLen result s.new }
-{
-    match file.read(s) {
-        Ok(n) => n,
-        Err(_) => 0,
-    }
-}
-
 // Reads until `s` is full, the input ends or a read fails, and returns how many bytes it put at the start of `s`.
 pub fn read_full<R: Read>(file: &mut R, s: &mut [u8]) -> usize
     ensures { IsPrefixLen result s.new }
 {
     let mut done = 0;
     while done < s.len() {
-        let n = read_some(file, &mut s[done..]);
+        let n = file.read(&mut s[done..]).unwrap_or(0);
         if n == 0 {
             break;
         }

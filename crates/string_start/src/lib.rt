@@ -5,19 +5,20 @@
 
 ghost use Rattle.std.specs.Prelude.{◌≡◌, ◌*◌, ◌≤◌};
 ghost use Rattle.loads.specs.Bits.{limit};
-ghost use Rattle.bitcursor.specs.Answers.{as_passed};
+ghost use Rattle.bitcursor.specs.Answers.{passing};
 ghost use Rattle.string_start.specs.Start.{start_in};
 
-use bitcursor::{Passed, Refusal};
+use bitcursor::{Passing, Refusal, refuse};
 
 // The place of a reader that starts at a bit of a payload of so many bytes.
-pub fn start_in(bytes: usize, start: usize) -> Passed
+#[tactic(auto, using(crate::specs::Start::inside, crate::specs::Start::past))]
+pub fn start_in(bytes: usize, start: usize) -> Passing
     requires { bytes ≤ limit }
-    ensures { result ≡ as_passed (start_in (8 * bytes) start) }
+    ensures { passing result ≡ start_in (8 * bytes) start }
 {
     let end = 8 * bytes;
     if end < start {
-        return Passed::Refused(Refusal::TooFewBits, end);
+        return refuse(Refusal::TooFewBits, end);
     }
-    Passed::To(start)
+    Ok(start)
 }

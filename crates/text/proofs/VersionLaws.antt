@@ -1,10 +1,10 @@
 -- A number that is none of 1 to 7 is no release. Assumes nothing.
 use mathlib.Core.Path.{◌≡◌, refl}
 use Prim.Native.Nat.{ℕ, zero, suc}
-use Rattle.text.specs.declared.version.MaybeVersion.TheVariants.{Unknown}
+use Rattle.std.specs.Prelude.{None}
 use Rattle.text.specs.Releases.{version_of}
 
-pub unknown : (n : ℕ) → (n ≡ 1 → ⊥) → (n ≡ 2 → ⊥) → (n ≡ 3 → ⊥) → (n ≡ 4 → ⊥) → (n ≡ 5 → ⊥) → (n ≡ 6 → ⊥) → (n ≡ 7 → ⊥) → version_of n ≡ Unknown
+pub unknown : (n : ℕ) → (n ≡ 1 → ⊥) → (n ≡ 2 → ⊥) → (n ≡ 3 → ⊥) → (n ≡ 4 → ⊥) → (n ≡ 5 → ⊥) → (n ≡ 6 → ⊥) → (n ≡ 7 → ⊥) → version_of n ≡ None
 unknown zero h₁ h₂ h₃ h₄ h₅ h₆ h₇ = refl
 unknown (suc zero) h₁ h₂ h₃ h₄ h₅ h₆ h₇ = absurd (h₁ refl)
 unknown (suc (suc zero)) h₁ h₂ h₃ h₄ h₅ h₆ h₇ = absurd (h₂ refl)

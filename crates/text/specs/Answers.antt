@@ -1,29 +1,18 @@
 -- What a text's reading is as the calls' answers, the reader's rule on its one payload, and what a call on any input gives.
 -- Assumes nothing.
-use Rattle.std.specs.Prelude.{Bool, true, false, ◌||◌, List, ℕ, ◌+◌, ◌*◌, leb, eqb}
+use Rattle.std.specs.Prelude.{Option, Some, None, Bool, true, false, ◌||◌, List, ℕ, ◌+◌, ◌*◌, leb, eqb}
 use Rattle.bitcursor.specs.declared.Refusal.TheVariants.{TextPastEnd, NotUtf16, UnknownRelease}
 use Rattle.bitcursor.specs.Reading.{Out, got, refused, and_then}
 use Rattle.bitcursor.specs.Code.{measured}
 use Rattle.bitcursor.specs.Codes.{BS}
-use Rattle.bitcursor.specs.Inputs.{Places, Payloads}
+use Rattle.bitcursor.specs.Inputs.{Payloads}
 use Rattle.text.specs.declared.Source.{Source}
 use Rattle.text.specs.declared.Source.TheVariants.{Main, String}
 use Rattle.text.specs.declared.Text.{Text}
-use Rattle.text.specs.declared.ReadText.{ReadText}
-use Rattle.text.specs.declared.ReadText.TheVariants.{Found, Refused}
-use Rattle.text.specs.declared.Places.{Places as CodePlaces}
-use Rattle.text.specs.declared.ReadField.{ReadField}
-use Rattle.text.specs.declared.ReadField.TheVariants.{Found as FoundField, Refused as RefusedField}
-use Rattle.text.specs.declared.version.MaybeVersion.{MaybeVersion}
-use Rattle.text.specs.declared.version.MaybeVersion.TheVariants.{Known, Unknown}
 use Rattle.text.specs.declared.version.Version.{Version}
 use Rattle.text.specs.Units.{units}
 use Rattle.text.specs.Texts.{UnitWidth, wide, unclosed, valid, Written, checked_units, TV}
 use Rattle.text.specs.Fields.{text_at, text_of, laid_text, width_of}
-
-abbrev pub as_text : Out ℕ Text → ReadText
-as_text (got t p) = Found t p
-as_text (refused r p) = Refused r p
 
 -- a text that was written from place `at` on
 abbrev pub placed : Source → UnitWidth → ℕ → Out ℕ Written → Out ℕ Text
@@ -54,20 +43,22 @@ reader_text end xs p =
     ]
 
 -- a call with any release number: refusal 9 where it is none of the seven
-unfoldable pub released : {A : Type 0} → (Version → List ℕ → ℕ → Out ℕ A) → MaybeVersion → List ℕ → ℕ → Out ℕ A
-released f (Known v) xs p = f v xs p
-released f Unknown xs p = refused UnknownRelease p
+unfoldable pub released : {A : Type 0} → (Version → List ℕ → ℕ → Out ℕ A) → Option Version → List ℕ → ℕ → Out ℕ A
+released f (Some v) xs p = f v xs p
+released f None xs p = refused UnknownRelease p
 
--- ---- a field of a body, over both payloads
-abbrev pub places_of : CodePlaces → Places
-places_of p = record { main = p.main; string = p.string }
-
-abbrev pub as_places : Places → CodePlaces
-as_places p = record { main = p.main; string = p.string }
-
+-- ---- both payloads
 abbrev pub payloads : List ℕ → List ℕ → Bool → ℕ → Payloads
 payloads xs ys reader end = record { main = xs; string = ys; reader = reader; end = end }
 
-abbrev pub as_field : Out Places Text → ReadField
-as_field (got t p) = FoundField t (as_places p)
-as_field (refused r p) = RefusedField r (as_places p)
+-- a string reader is lent if its end bit is said
+abbrev pub is_lent : Option ℕ → Bool
+is_lent (Some end) = true
+is_lent None = false
+
+abbrev pub end_bit : Option ℕ → ℕ
+end_bit (Some end) = end
+end_bit None = 0
+
+abbrev pub payloads_to : List ℕ → List ℕ → Option ℕ → Payloads
+payloads_to xs ys reader = payloads xs ys (is_lent reader) (end_bit reader)

@@ -4,12 +4,12 @@
 #![tactic(auto)]
 
 ghost use Rattle.std.specs.Prelude.{◌≡◌};
-ghost use Rattle.bitcursor.specs.Answers.{limited};
+ghost use Rattle.bitcursor.specs.Answers.{outcome, limited};
 ghost use Rattle.text.specs.Releases.{version_of};
-ghost use Rattle.text.specs.Answers.{as_text, inline_text, reader_text, released};
+ghost use Rattle.text.specs.Answers.{released, inline_text, reader_text};
 
-use bitcursor::Refusal;
-use version::MaybeVersion;
+use bitcursor::{Reading, Refusal, refuse};
+use version::Version;
 
 mod padding;
 mod utf16;
@@ -17,7 +17,7 @@ pub mod version;
 pub mod within;
 
 // Which payload a text lies in; an absent gradient's name lies in none.
-#[derive(Clone, Copy)]
+#[derive(Clone, Copy, Debug, PartialEq, Eq)]
 pub enum Source {
     Absent,
     Main,
@@ -27,7 +27,7 @@ pub enum Source {
 // Document 01's text: the payload, the bits of a unit, the bit position of the first unit, and how many units there are once a
 // closing zero is dropped; and document 02's: whether one was dropped. That stands beside the width, where it takes no room. Characters
 // are left to the host.
-#[derive(Clone, Copy)]
+#[derive(Clone, Copy, Debug, PartialEq, Eq)]
 pub struct Text {
     pub source: Source,
     pub width: u8,
@@ -36,48 +36,27 @@ pub struct Text {
     pub count: usize,
 }
 
-// A text and the place after it, or a refusal and its place.
-#[derive(Clone, Copy)]
-pub enum ReadText {
-    Found(Text, usize),
-    Refused(Refusal, usize),
-}
-
-// A place in each payload, in bits; without a reader the second is 0.
-#[derive(Clone, Copy)]
-pub struct Places {
-    pub main: usize,
-    pub string: usize,
-}
-
-// A text field of a body and the places after it, or a refusal and its places.
-#[derive(Clone, Copy)]
-pub enum ReadField {
-    Found(Text, Places),
-    Refused(Refusal, Places),
-}
-
 // Inline text of any release, from any bytes at any place: refusal 9, then 10, then the text's own.
-pub fn read_tv(s: &[u8], at: usize, release: u64) -> ReadText
-    ensures { result ≡ as_text (released (λ v. limited (inline_text v)) (version_of release) s.now at) }
+#[tactic(auto, using(bitcursor::proofs::Steps::limit_within, bitcursor::proofs::Steps::limit_above), unfolding(crate::specs::Answers::released))]
+pub fn read_tv(s: &[u8], at: usize, release: u64) -> Reading<Text>
+    ensures { outcome result ≡ released (λ v. limited (inline_text v)) (version_of release) s.now at }
 {
-    match version::version_of(release) {
-        MaybeVersion::Known(v) => {
-            if bitcursor::LIMIT < s.len() {
-                return ReadText::Refused(Refusal::PayloadTooLong, at);
-            }
-            within::read_tv(s, at, v)
-        }
-        MaybeVersion::Unknown => ReadText::Refused(Refusal::UnknownRelease, at),
+    let Ok(version) = Version::try_from(release) else {
+        return refuse(Refusal::UnknownRelease, at);
+    };
+    if bitcursor::LIMIT < s.len() {
+        return refuse(Refusal::PayloadTooLong, at);
     }
+    within::read_tv(s, at, version)
 }
 
 // Text from a string reader over any bytes, at any place and with any end bit.
-pub fn read_string_tv(s: &[u8], at: usize, end: usize) -> ReadText
-    ensures { result ≡ as_text (limited (reader_text end) s.now at) }
+#[tactic(auto, using(bitcursor::proofs::Steps::limit_within, bitcursor::proofs::Steps::limit_above))]
+pub fn read_string_tv(s: &[u8], at: usize, end: usize) -> Reading<Text>
+    ensures { outcome result ≡ limited (reader_text end) s.now at }
 {
     if bitcursor::LIMIT < s.len() {
-        return ReadText::Refused(Refusal::PayloadTooLong, at);
+        return refuse(Refusal::PayloadTooLong, at);
     }
     within::read_string_tv(s, at, end)
 }

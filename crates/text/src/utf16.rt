@@ -24,15 +24,13 @@ pub fn is_utf16(s: &[u8], at: usize, n: usize) -> bool
     ensures { result ≡ paired_from false (units_at s.now at 2 n) }
 {
     let mut half = false;
-    let mut i: usize = 0;
-    while i < n {
+    for i in 0..n {
         let u = loads::low_at(s, at + 16 * i, 2);
         let l = is_low(u);
         if l != half {
             return false;
         }
         half = is_high(u);
-        i += 1;
     }
     !half
 }

@@ -1,9 +1,11 @@
-// The seven releases that document 01 knows, and the tests for "this release or a later one".
+// The seven releases that document 01 knows, and the test for "this release or a later one".
 ghost use Rattle.std.specs.Prelude.{◌≡◌, leb};
-ghost use Rattle.text.specs.Releases.{release_number, version_of};
+ghost use Rattle.text.specs.Releases.{release_number, known, version_of};
+
+use bitcursor::Refusal;
 
 // src/version.rs of dwg-rs; document 01's release numbers are 1 to 7 in this order.
-#[derive(Clone, Copy)]
+#[derive(Clone, Copy, Debug, PartialEq, Eq)]
 pub enum Version {
     R14,
     R2000,
@@ -14,57 +16,46 @@ pub enum Version {
     R2018,
 }
 
-#[derive(Clone, Copy)]
-pub enum MaybeVersion {
-    Known(Version),
-    Unknown,
-}
+// The version of a release number; refusal 9 if it is none of the seven.
+impl TryFrom<u64> for Version {
+    type Error = Refusal;
 
-// The version of a release number, if it is one of the seven.
-pub fn version_of(release: u64) -> MaybeVersion
-    ensures { result ≡ version_of release }
-{
-    match release {
-        1 => MaybeVersion::Known(Version::R14),
-        2 => MaybeVersion::Known(Version::R2000),
-        3 => MaybeVersion::Known(Version::R2004),
-        4 => MaybeVersion::Known(Version::R2007),
-        5 => MaybeVersion::Known(Version::R2010),
-        6 => MaybeVersion::Known(Version::R2013),
-        7 => MaybeVersion::Known(Version::R2018),
-        _ => MaybeVersion::Unknown,
+    ghost try_from_gives = { λ release r. r ≡ known (version_of release) };
+
+    fn try_from(release: u64) -> Result<Version, Refusal> {
+        match release {
+            1 => Ok(Version::R14),
+            2 => Ok(Version::R2000),
+            3 => Ok(Version::R2004),
+            4 => Ok(Version::R2007),
+            5 => Ok(Version::R2010),
+            6 => Ok(Version::R2013),
+            7 => Ok(Version::R2018),
+            _ => Err(Refusal::UnknownRelease),
+        }
     }
 }
 
-// Document 01's number of a release.
-pub fn release_number(v: Version) -> usize
-    ensures { result ≡ release_number v }
-{
-    match v {
-        Version::R14 => 1,
-        Version::R2000 => 2,
-        Version::R2004 => 3,
-        Version::R2007 => 4,
-        Version::R2010 => 5,
-        Version::R2013 => 6,
-        Version::R2018 => 7,
+impl Version {
+    // Document 01's number of a release.
+    pub fn release_number(self) -> usize
+        ensures { result ≡ release_number self }
+    {
+        match self {
+            Version::R14 => 1,
+            Version::R2000 => 2,
+            Version::R2004 => 3,
+            Version::R2007 => 4,
+            Version::R2010 => 5,
+            Version::R2013 => 6,
+            Version::R2018 => 7,
+        }
     }
-}
 
-pub fn is_r2004_plus(v: Version) -> bool
-    ensures { result ≡ leb 3 (release_number v) }
-{
-    3 <= release_number(v)
-}
-
-pub fn is_r2007_plus(v: Version) -> bool
-    ensures { result ≡ leb 4 (release_number v) }
-{
-    4 <= release_number(v)
-}
-
-pub fn is_r2010_plus(v: Version) -> bool
-    ensures { result ≡ leb 5 (release_number v) }
-{
-    5 <= release_number(v)
+    // Whether this is the release or a later one: the Rust's `is_r2004_plus`, `is_r2007_plus` and `is_r2010_plus`.
+    pub fn is_from(self, first: Version) -> bool
+        ensures { result ≡ leb (release_number first) (release_number self) }
+    {
+        first.release_number() <= self.release_number()
+    }
 }

@@ -1,5 +1,5 @@
 -- The front, and the rest behind it; either refuses for the whole.
-use Rattle.text.specs.Answers.{payloads, places_of}
+use Rattle.text.specs.Answers.{payloads}
 use Rattle.hatch_format.specs.HandleRule.{in_payload}
 use Rattle.hatch_points.specs.Lists.{lists}
 use Rattle.hatch_call.proofs.CallLaws.{body_done, body_refused, body_starts}
@@ -15,7 +15,7 @@ fill_rest-requires c = let at-read-front = c.read_front in
     let a = c.args in
     let pre = c.requires in
     let γ = payloads a.main.now a.string.now a.reader a.end in
-    let p = places_of a.at in
+    let p = a.at in
     let starts = body_starts a.caps in_payload a.v γ p a.words_room a.numbers_room at-read-front.result at-read-front.ensures
     c.in-Done.is in
     (pre.0, (starts, pre.1.1))
@@ -27,7 +27,7 @@ returns-in-Done c =
     let a = c.args in
     let pre = c.requires in
     let γ = payloads a.main.now a.string.now a.reader a.end in
-    let p = places_of a.at in
+    let p = a.at in
     let l = lists a.numbers.now a.bits.now a.words.now in
     body_done a.caps in_payload a.v γ p a.words_room a.numbers_room at-read-front.result at-read-front.ensures l pre.0
     c.in-Done.is at-fill-rest.ensures
@@ -36,6 +36,6 @@ pub returns-in-Refused : goal.returns-in-Refused
 returns-in-Refused c = let at-read-front = c.read_front in
     let a = c.args in
     let γ = payloads a.main.now a.string.now a.reader a.end in
-    let p = places_of a.at in
+    let p = a.at in
     let l = lists a.numbers.now a.bits.now a.words.now in
     body_refused a.caps in_payload a.v γ p a.words_room a.numbers_room at-read-front.result at-read-front.ensures l c.in-Refused.is

@@ -4,7 +4,7 @@ use Prim.Native.Nat.{◌*◌}
 use lib.ListN.{length}
 use Rattle.bitcursor.proofs.Steps.{passed_got, passed_refused}
 use Rattle.string_start.specs.Start.{start_in}
-use Rattle.text.specs.Answers.{payloads, places_of}
+use Rattle.text.specs.Answers.{payloads}
 use Rattle.hatch_format.specs.HandleRule.{in_payload}
 use Rattle.hatch_points.specs.Lists.{lists}
 use Rattle.hatch_call.proofs.CallLaws.{unknown, main_long, string_long, not_started, started, refused_is, call_as}
@@ -16,7 +16,7 @@ returns-then-main-gt-LIMIT c =
     let at-version-of = c.version_of in
     let a = c.args in
     let γ = payloads a.main.now a.string.now a.reader a.end in
-    let p = places_of a.at in
+    let p = a.at in
     let l = lists a.numbers.now a.bits.now a.words.now in
     refused_is a.main.now l (main_long a.caps in_payload a.words_room a.numbers_room γ p a.release
     (sym at-version-of.ensures ∙ c.in-Known.is) at-if1.true)
@@ -28,7 +28,7 @@ returns-then-string-gt-LIMIT c =
     let at-version-of = c.version_of in
     let a = c.args in
     let γ = payloads a.main.now a.string.now a.reader a.end in
-    let p = places_of a.at in
+    let p = a.at in
     let l = lists a.numbers.now a.bits.now a.words.now in
     refused_is a.main.now l (string_long a.caps in_payload a.words_room a.numbers_room γ p a.release
     (sym at-version-of.ensures ∙ c.in-Known.is) at-if1.false at-if2.true)
@@ -42,7 +42,7 @@ returns-in-To c =
     let at-version-of = c.version_of in
     let a = c.args in
     let γ = payloads a.main.now a.string.now a.reader a.end in
-    let p = places_of a.at in
+    let p = a.at in
     let l = lists a.numbers.now a.bits.now a.words.now in
     let stands = passed_got (start_in (8 * length a.string.now) a.at.string) at-start-in.ensures c.in-To.is in
     let read = started a.caps in_payload a.words_room a.numbers_room γ p a.release (sym at-version-of.ensures ∙ c.in-Known.is)
@@ -56,7 +56,7 @@ returns-in-Refused c = let at-start-in = c.start_in in
     let at-version-of = c.version_of in
     let a = c.args in
     let γ = payloads a.main.now a.string.now a.reader a.end in
-    let p = places_of a.at in
+    let p = a.at in
     let l = lists a.numbers.now a.bits.now a.words.now in
     let past = passed_refused (start_in (8 * length a.string.now) a.at.string) at-start-in.ensures c.in-Refused.is in
     refused_is a.main.now l (not_started a.caps in_payload a.words_room a.numbers_room γ p a.release
@@ -66,7 +66,7 @@ pub returns-in-Unknown : goal.returns-in-Unknown
 returns-in-Unknown c = let at-version-of = c.version_of in
     let a = c.args in
     let γ = payloads a.main.now a.string.now a.reader a.end in
-    let p = places_of a.at in
+    let p = a.at in
     let l = lists a.numbers.now a.bits.now a.words.now in
     refused_is a.main.now l (unknown a.caps in_payload a.words_room a.numbers_room γ p a.release
     (sym at-version-of.ensures ∙ c.in-Unknown.is))

@@ -1,41 +1,40 @@
 -- What is left of the chain reads what the whole reads; each turn takes one block off.
-use mathlib.Core.Path.{◌≡◌, refl, sym, ap, ◌∙◌}
-use Prim.Native.Nat.{ℕ}
-use native.Mathlib.Omega.{arith}
-use Rattle.bitcursor.specs.Answers.{as_read}
-use Rattle.bitcursor.proofs.Steps.{read_value, read_refused}
-use Rattle.prefix_fields.specs.Blocks.{chain_from, chain_ends, chain_on, chain_stops, chain_over}
+use Rattle.std.specs.Prelude.{◌≡◌, true, ℕ, ◌-◌, ◌+◌, ◌<◌, ltb}
+use Rattle.std.proofs.Common.{sym, ap, ap₂, ◌∙◌, arith, le-leb}
+use Rattle.bitcursor.specs.Answers.{outcome}
+use Rattle.bitcursor.proofs.Steps.{left}
+use Rattle.prefix_fields.specs.Blocks.{chain_from, chain_whole, chain_ends, chain_on, chain_stops, chain_over}
 use Rattle.prefix_fields.proofs.skip_extended_data.Goals as goal
 
-pub loop-left-init : goal.loop-left-init
-loop-left-init c = (omega arith, refl)
-
-pub returns-then-more-eq0 : goal.returns-then-more-eq0
-returns-then-more-eq0 c =
+pub returns-then-not-more : goal.returns-then-not-more
+returns-then-not-more c =
     let a = c.args in
-    let l = c.loop-left in
-    sym (ap as_read (l.invariant.1 ∙ chain_ends l.had l.left a.s.now l.p (omega arith)
-    (read_value _ c.read_block.ensures c.in-Value.is) c.if-more-eq0.true))
+    let l = c.loop-blocks in
+    let some : 0 < 256 - l.blocks = omega arith in
+    sym (chain_whole a.s.now a.at ∙ l.invariant ∙ chain_ends (ltb 0 l.blocks) (256 - l.blocks) a.s.now l.p some c.in_ok-more.ensures c.if-not-more.true)
 
-pub loop-left-preserved : goal.loop-left-preserved
-loop-left-preserved c =
+pub loop-blocks-preserved : goal.loop-blocks-preserved
+loop-blocks-preserved c =
     let a = c.args in
-    let l = c.loop-left in (
-      omega arith,
-      l.invariant.1 ∙ chain_on l.had l.left a.s.now l.p (omega arith)
-          (read_value _ c.read_block.ensures c.in-Value.is) c.if-more-eq0.false,
-    )
+    let l = c.loop-blocks in
+    let some : 0 < 256 - l.blocks = omega arith in
+    let one_less : 256 - l.blocks - 1 ≡ 256 - (l.blocks + 1) = omega arith in
+    let one_more : true ≡ ltb 0 (l.blocks + 1) = sym (le-leb 1 (l.blocks + 1) (omega arith)) in
+    l.invariant ∙ chain_on (ltb 0 l.blocks) (256 - l.blocks) a.s.now l.p some c.in_ok-more.ensures c.if-not-more.false
+    ∙ ap₂ (λ (n : ℕ) b. chain_from n b a.s.now c.in_ok-more.q) one_less one_more
 
-pub returns-in-Refused : goal.returns-in-Refused
-returns-in-Refused c =
+pub returns-in_err-more : goal.returns-in_err-more
+returns-in_err-more c =
     let a = c.args in
-    let l = c.loop-left in
-    sym (ap as_read (l.invariant.1 ∙ chain_stops l.had l.left a.s.now l.p (omega arith)
-    (read_refused _ c.read_block.ensures c.in-Refused.is)))
+    let l = c.loop-blocks in
+    let some : 0 < 256 - l.blocks = omega arith in
+    left _ c.from_residual.ensures ∙ sym (chain_whole a.s.now a.at ∙ l.invariant
+    ∙ chain_stops (ltb 0 l.blocks) (256 - l.blocks) a.s.now l.p some c.in_err-more.ensures)
 
 pub returns : goal.returns
 returns c =
     let a = c.args in
-    let l = c.loop-left in
-    let z : l.left ≡ 0 = omega arith in
-    sym (ap as_read (l.invariant.1 ∙ ap (λ (n : ℕ). chain_from n l.had a.s.now l.p) z ∙ chain_over l.had a.s.now l.p))
+    let l = c.loop-blocks in
+    let none : 256 - l.blocks ≡ 0 = omega arith in
+    ap outcome c.refuse.ensures
+    ∙ sym (chain_whole a.s.now a.at ∙ l.invariant ∙ ap (λ (n : ℕ). chain_from n (ltb 0 l.blocks) a.s.now l.p) none ∙ chain_over (ltb 0 l.blocks) a.s.now l.p)

@@ -7,14 +7,12 @@ use Rattle.hatch_points.proofs.vertices.decode_points.Goals as goal
 
 pub returns-then-more : goal.returns-then-more
 unfolding vertices_walk
-returns-then-more c =
+returns-then-more g c =
     let args = c.args in
-    walks_as c.decode_vertices.ensures (ap (λ (b : Bool). (vertices_walk b args.n).read args.s.now args.at)
-    (sym c.if-more.true))
+    walks_as c.decode_vertices.ensures (ap (λ (b : Bool). (vertices_walk b args.n).read args.s.now args.at) (sym c.if-more.true))
 
 pub returns : goal.returns
 unfolding vertices_walk
-returns c =
+returns g c =
     let args = c.args in
-    walks_as c.raw_run.ensures (ap (λ (b : Bool). (vertices_walk b args.n).read args.s.now args.at)
-    (sym c.if-more.false))
+    walks_as c.raw_run.ensures (ap (λ (b : Bool). (vertices_walk b args.n).read args.s.now args.at) (sym c.if-more.false))

@@ -1,0 +1,111 @@
+// The kinds of request, numbered from 1 as oracle/pack.rs has them.
+use std::fmt;
+
+// The codes, each by value; BdBits, RdBits and DdBits hand over a double's 64 bits, Bd, Rd and Dd the double. Then the entity prefix, the
+// inline text, the hatch body without and with a string reader, and the text by a reader.
+#[derive(Clone, Copy, Debug, PartialEq, Eq)]
+pub enum Kind {
+    B = 1,
+    Bb,
+    ThreeB,
+    Bs,
+    BsU,
+    Bl,
+    BlU,
+    BdBits,
+    Bll,
+    Rc,
+    Rs,
+    Rl,
+    RdBits,
+    Handle,
+    DdBits,
+    Bd,
+    Rd,
+    Dd,
+    Prefix,
+    Text,
+    Hatch,
+    HatchWithStrings,
+    Reader,
+}
+
+// A number that no kind has.
+#[derive(Clone, Copy, Debug, PartialEq, Eq)]
+pub struct UnknownKind;
+
+impl Kind {
+    // Every kind, in the order of the numbers.
+    pub const ALL: [Kind; 23] = [
+        Kind::B,
+        Kind::Bb,
+        Kind::ThreeB,
+        Kind::Bs,
+        Kind::BsU,
+        Kind::Bl,
+        Kind::BlU,
+        Kind::BdBits,
+        Kind::Bll,
+        Kind::Rc,
+        Kind::Rs,
+        Kind::Rl,
+        Kind::RdBits,
+        Kind::Handle,
+        Kind::DdBits,
+        Kind::Bd,
+        Kind::Rd,
+        Kind::Dd,
+        Kind::Prefix,
+        Kind::Text,
+        Kind::Hatch,
+        Kind::HatchWithStrings,
+        Kind::Reader,
+    ];
+
+    fn as_str(self) -> &'static str {
+        match self {
+            Kind::B => "b",
+            Kind::Bb => "bb",
+            Kind::ThreeB => "3b",
+            Kind::Bs => "bs",
+            Kind::BsU => "bsu",
+            Kind::Bl => "bl",
+            Kind::BlU => "blu",
+            Kind::BdBits => "bd",
+            Kind::Bll => "bll",
+            Kind::Rc => "rc",
+            Kind::Rs => "rs",
+            Kind::Rl => "rl",
+            Kind::RdBits => "rd",
+            Kind::Handle => "handle",
+            Kind::DdBits => "dd",
+            Kind::Bd => "bd f64",
+            Kind::Rd => "rd f64",
+            Kind::Dd => "dd f64",
+            Kind::Prefix => "prefix",
+            Kind::Text => "tv",
+            Kind::Hatch => "hatch",
+            Kind::HatchWithStrings => "hatchs",
+            Kind::Reader => "reader",
+        }
+    }
+}
+
+impl TryFrom<u64> for Kind {
+    type Error = UnknownKind;
+
+    fn try_from(number: u64) -> Result<Kind, UnknownKind> {
+        for kind in Kind::ALL {
+            if kind as u64 == number {
+                return Ok(kind);
+            }
+        }
+        Err(UnknownKind)
+    }
+}
+
+impl fmt::Display for Kind {
+    fn fmt<W: fmt::Write>(&self, f: &mut fmt::Formatter<W>) -> fmt::Result {
+        f.pad(self.as_str())
+    }
+}
