@@ -3,13 +3,11 @@ use mathlib.Core.Path.{◌≡◌, refl}
 use mathlib.Core.Bool.{Bool}
 use mathlib.Core.List.{List}
 use Prim.Native.Nat.{ℕ, zero, suc, ◌+◌, ◌*◌}
-use lib.Dec.{eqb}
-use Rattle.bitcursor.specs.declared.Refusal.{Refusal}
+use Rattle.bitcursor.specs.declared.Refused.{Refused}
 use Rattle.bitcursor.specs.declared.Refusal.TheVariants.{EdgeKind}
 use Rattle.loads.specs.Bits.{bit}
 use Rattle.bitcursor.specs.Reading.{got, refused}
-use Rattle.bitcursor.specs.Code.{raw, give, mapped, tabled, ◌>>=◌ as ◌then◌}
-use Rattle.bitcursor.specs.Codes.{B, B_read, BL}
+use Rattle.bitcursor.specs.Codes.{B, BL}
 use Rattle.bitcursor.specs.Format.{pure, refuse, ◌>>=◌}
 use Rattle.hatch_format.specs.declared.Caps.{Caps}
 use Rattle.hatch_format.specs.HandleRule.{in_payload}
@@ -22,13 +20,13 @@ use Rattle.hatch_points.proofs.NoWords.{numberless}
 use Rattle.hatch_paths.specs.PathWalks.{bit_walk, fitted_raw, edge_of_walk, handles_walk}
 
 -- a bit that is a word
-pub bit_read : (xs : List ℕ) (p : ℕ) {v q : ℕ} → (raw 1).read xs p ≡ got v q → bit_walk.read xs p ≡ got (word (bit (eqb 1 v))) q
-unfolding bit_walk ◌>>=◌ pure B B_read mapped tabled ◌then◌ give
-bit_read xs p e = rw e
+pub bit_read : (xs : List ℕ) (p : ℕ) {b : Bool} {q : ℕ} → got b q ≡ B.read xs p → bit_walk.read xs p ≡ got (word (bit b)) q
+unfolding bit_walk ◌>>=◌ pure
+bit_read xs p e = rw (← e)
 
-pub bit_refused : (xs : List ℕ) (p : ℕ) {k : Refusal} {q : ℕ} → (raw 1).read xs p ≡ refused k q → bit_walk.read xs p ≡ refused k q
-unfolding bit_walk ◌>>=◌ pure B B_read mapped tabled ◌then◌ give
-bit_refused xs p e = rw e
+pub bit_refused : (xs : List ℕ) (p : ℕ) {e : Refused ℕ} → refused e.refusal e.place ≡ B.read xs p → bit_walk.read xs p ≡ refused e.refusal e.place
+unfolding bit_walk ◌>>=◌ pure
+bit_refused xs p e = rw (← e)
 
 pub bit_numberless : (xs : List ℕ) (p : ℕ) → Numberless (bit_walk.read xs p)
 unfolding bit_walk ◌>>=◌ pure
@@ -54,11 +52,11 @@ pub handles_numberless : (cap : ℕ) (xs : List ℕ) (p : ℕ) → Numberless ((
 unfolding handles_walk ◌>>=◌ pure
 handles_numberless cap xs p = numberless word (λ n. refl) ((handle_count cap in_payload 0).read xs p)
 
-pub handles_read : (cap : ℕ) (xs : List ℕ) (p : ℕ) {n q : ℕ} → (bounded cap BL).read xs p ≡ got n q → (handles_walk cap).read xs p ≡ got (word n) q
+pub handles_read : (cap : ℕ) (xs : List ℕ) (p : ℕ) {n q : ℕ} → got n q ≡ (bounded cap BL).read xs p → (handles_walk cap).read xs p ≡ got (word n) q
 unfolding handles_walk ◌>>=◌ pure
-handles_read cap xs p e = rw (handles_bounded cap 0 xs p, e)
+handles_read cap xs p e = rw (handles_bounded cap 0 xs p, ← e)
 
-pub handles_refused : (cap : ℕ) (xs : List ℕ) (p : ℕ) {k : Refusal} {q : ℕ} → (bounded cap BL).read xs p ≡ refused k q
-    → (handles_walk cap).read xs p ≡ refused k q
+pub handles_refused : (cap : ℕ) (xs : List ℕ) (p : ℕ) {e : Refused ℕ} → refused e.refusal e.place ≡ (bounded cap BL).read xs p
+    → (handles_walk cap).read xs p ≡ refused e.refusal e.place
 unfolding handles_walk ◌>>=◌ pure
-handles_refused cap xs p e = rw (handles_bounded cap 0 xs p, e)
+handles_refused cap xs p e = rw (handles_bounded cap 0 xs p, ← e)

@@ -1,3 +1,2 @@
 pub mod EdgeLaws
 pub mod SplineHeads
-pub mod PolylineHeads

@@ -102,18 +102,12 @@ fn decode_spline_lists<N: Number>(
         (lists numbers.old words.old) z (lists numbers.new words.new) result }
 {
     let (y, p) = runs::double_run(s, at, head.knots as usize, numbers, z)?;
-    let (x, q) = vertices::decode_points(
-        s,
-        p,
-        head.controls as usize,
-        head.rational,
-        numbers,
-        y,
-    )?;
+    let (x, q) = vertices::decode_points(s, p, head.controls as usize, head.rational, numbers, y)?;
     decode_fits(s, q, rules, numbers, words, x)
 }
 
 // The fields of a spline in front of its lists: both counts are tested before any knot is read.
+#[tactic(auto, using(bitcursor::proofs::FormatSteps::fields), unfolding(crate::specs::Splines::spline_head))]
 fn read_spline_head(s: &[u8], at: usize, caps: Caps) -> Reading<SplineHead>
     requires { length s.now ≤ limit }
     ensures { outcome result ≡ (spline_head caps).read s.now at }

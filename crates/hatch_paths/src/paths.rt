@@ -88,13 +88,7 @@ fn has_flag(flags: u64, value: u64) -> bool
 }
 
 // The count of boundary handles, behind a path's segments: the handles are not here.
-fn put_handle_count(
-    s: &[u8],
-    at: usize,
-    cap: usize,
-    words: &mut [u32],
-    z: Sizes,
-) -> Reading<Sizes>
+fn put_handle_count(s: &[u8], at: usize, cap: usize, words: &mut [u32], z: Sizes) -> Reading<Sizes>
     requires { Ready s.now at z × (cap < 2 ^ 30) }
     ensures { WordWalks s.now ((handles_walk cap).read s.now at) words.old z words.new result }
 {

@@ -14,7 +14,7 @@ use Rattle.std.proofs.lemmas.List.{length-map, map-append}
 use Rattle.std.proofs.lemmas.Result.{err_from_is_err_and}
 use Rattle.bitcursor.specs.declared.Refused.{Refused}
 use Rattle.loads.specs.Bits.{odd}
-use Rattle.bitcursor.specs.Answers.{outcome, value_as}
+use Rattle.bitcursor.specs.Answers.{value_as}
 use Rattle.bitcursor.specs.Reading.{Out, got, refused, and_then, never}
 use Rattle.bitcursor.specs.Format.{Format, pure, ◌>>=◌}
 use Rattle.bitcursor.specs.Inputs.{one}

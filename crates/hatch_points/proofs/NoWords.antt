@@ -2,7 +2,7 @@
 use mathlib.Core.Path.{◌≡◌, refl, sym, ap, ◌∙◌}
 use mathlib.Core.Bool.{Bool}
 use mathlib.Core.List.{List, []}
-use Prim.Native.Nat.{ℕ, zero, suc, ◌<◌}
+use Prim.Native.Nat.{ℕ, zero, suc, ◌≤◌, ◌<◌}
 use native.Mathlib.Omega.{arith}
 use lib.Dec.{eqb}
 use Rattle.loads.specs.Bits.{bit}
@@ -10,7 +10,8 @@ use Rattle.bitcursor.specs.Reading.{Out, got, refused, never}
 use lib.ListN.{length}
 use Rattle.loads.specs.BitLaws.{length_digits}
 use Rattle.bitcursor.specs.Code.{raw}
-use Rattle.bitcursor.specs.Codes.{RD}
+use Rattle.bitcursor.specs.Code.{tabled}
+use Rattle.bitcursor.specs.Codes.{B, B_codes, B_of, RD}
 use Rattle.hatch_format.specs.Takes.{Takes, takes_code}
 use Rattle.bitcursor.specs.Doubles.{BD}
 use Rattle.bitcursor.specs.Format.{pure, ◌>>=◌}
@@ -55,3 +56,10 @@ bit_of (suc (suc v)) h = absurd (omega arith)
 pub takes_raw : (n : ℕ) → Takes n (coded (raw n))
 unfolding raw
 takes_raw n = takes_code n (raw n) (λ v cs l. omega (arith, ap length l.1, length_digits n v))
+
+pub takes_flag : Takes 1 (coded B)
+unfolding B tabled
+takes_flag = takes_code 1 B go
+  where
+    go : (b : Bool) (cs : List Bool) → B_codes b cs → 1 ≤ length cs
+    go b cs B_of = omega arith

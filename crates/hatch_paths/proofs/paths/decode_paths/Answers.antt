@@ -1,64 +1,16 @@
 -- What is left to read, behind what is stored, is what the whole reads.
-use mathlib.Core.Path.{◌∙◌}
-use Rattle.hatch_points.proofs.Loops.{start, walk_next, walk_refuses, loop_ends, along_kept}
-use Rattle.hatch_paths.specs.PathWalks.{path_walk}
+use Rattle.hatch_points.proofs.Laws.{leaves}
+use Rattle.hatch_points.proofs.Loops.{start, walk_next, walk_refuses, loop_ends}
 use Rattle.hatch_paths.proofs.paths.decode_paths.Goals as goal
 
-pub loop-i-init : goal.loop-i-init
-loop-i-init c =
-    let a = c.args in
-    start (path_walk a.caps a.fits) a.s.now c.requires.0
+pub loop-init : goal.loop-init
+loop-init g c = start c.requires.0
 
-pub decode_path-requires : goal.decode_path-requires
-decode_path-requires c =
-    (c.loop-i.invariant.ready, c.requires.1)
-
-pub shape_of-numbers-in-Refused : goal.shape_of-numbers-in-Refused
-shape_of-numbers-in-Refused c =
-    let args = c.args in
-    c.decode_path.auto.numbers
-    ∙ (along_kept (path_walk args.caps args.fits) args.s.now c.loop-i.invariant).doubles.long
-
-pub shape_of-bits-in-Refused : goal.shape_of-bits-in-Refused
-shape_of-bits-in-Refused c =
-    let args = c.args in
-    c.decode_path.auto.bits
-    ∙ (along_kept (path_walk args.caps args.fits) args.s.now c.loop-i.invariant).bits.long
-
-pub shape_of-words-in-Refused : goal.shape_of-words-in-Refused
-shape_of-words-in-Refused c =
-    let args = c.args in
-    c.decode_path.auto.words
-    ∙ (along_kept (path_walk args.caps args.fits) args.s.now c.loop-i.invariant).words.long
-
-pub returns-in-Refused : goal.returns-in-Refused
-returns-in-Refused c =
-    let a = c.args in
-    let d = path_walk a.caps a.fits in
-    walk_refuses d a.s.now c.loop-i.invariant c.loop-i-test.true c.decode_path.ensures c.in-Refused.is
-
-pub loop-i-preserved : goal.loop-i-preserved
-loop-i-preserved c =
-    let a = c.args in
-    let d = path_walk a.caps a.fits in
-    walk_next d a.s.now c.loop-i.invariant c.loop-i-test.true c.decode_path.ensures c.in-Done.is
-
-pub shape_of-numbers : goal.shape_of-numbers
-shape_of-numbers c =
-    let args = c.args in
-    (along_kept (path_walk args.caps args.fits) args.s.now c.loop-i.invariant).doubles.long
-
-pub shape_of-bits : goal.shape_of-bits
-shape_of-bits c =
-    let args = c.args in
-    (along_kept (path_walk args.caps args.fits) args.s.now c.loop-i.invariant).bits.long
-
-pub shape_of-words : goal.shape_of-words
-shape_of-words c =
-    let args = c.args in
-    (along_kept (path_walk args.caps args.fits) args.s.now c.loop-i.invariant).words.long
+pub loop-preserved : goal.loop-preserved
+loop-preserved g c = walk_next c.loop.invariant c.loop-test.true c.in_ok-y.ensures
 
 pub returns : goal.returns
-returns c =
-    let a = c.args in
-    loop_ends (path_walk a.caps a.fits) a.s.now c.loop-i.invariant c.loop-i-test.false
+returns g c = loop_ends c.loop.invariant c.loop-test.false
+
+pub returns-in_err-y : goal.returns-in_err-y
+returns-in_err-y g c = leaves _ c.from_residual.ensures (walk_refuses c.loop.invariant c.loop-test.true c.in_err-y.ensures)

@@ -7,12 +7,12 @@ use Rattle.hatch_paths.proofs.paths.decode_segments.Goals as goal
 
 pub returns-then-polyline : goal.returns-then-polyline
 unfolding segments_walk
-returns-then-polyline c =
-    let a = c.args in walks_as c.decode_polyline_path.ensures
-    (ap (λ (b : Bool). (segments_walk a.caps a.fits b).read a.s.now a.at) (sym c.if-polyline.true))
+returns-then-polyline g c =
+    let a = c.args in
+    walks_as c.decode_polyline_path.ensures (ap (λ (b : Bool). (segments_walk a.rules.caps a.rules.fits b).read a.s.now a.at) (sym c.if-polyline.true))
 
 pub returns : goal.returns
 unfolding segments_walk
-returns c =
-    let a = c.args in walks_as c.decode_edge_path.ensures
-    (ap (λ (b : Bool). (segments_walk a.caps a.fits b).read a.s.now a.at) (sym c.if-polyline.false))
+returns g c =
+    let a = c.args in
+    walks_as c.decode_edge_path.ensures (ap (λ (b : Bool). (segments_walk a.rules.caps a.rules.fits b).read a.s.now a.at) (sym c.if-polyline.false))

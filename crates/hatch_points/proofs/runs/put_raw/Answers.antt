@@ -1,5 +1,4 @@
 -- As many as there is room for are stored; stores past the list's end change nothing.
-use mathlib.Core.Path.{◌∙◌}
 use native.Mathlib.Omega.{arith}
 use Rattle.hatch_points.specs.Stores.{raw_at}
 use Rattle.hatch_points.proofs.RawRuns.{enough}
@@ -15,4 +14,4 @@ pub returns : goal.returns
 returns g c =
     let a = c.args in
     let m = c.stores-m.result in
-    c.put_run.ensures ∙ enough a.s.now a.at a.n m a.from g.N.Number.of_bits a.numbers.now (omega (arith, c.stores-m.ensures))
+    rw c.put_run.ensures (enough a.s.now a.at a.n m a.from g.N.Number.of_bits a.numbers.now (omega (arith, c.stores-m.ensures)))

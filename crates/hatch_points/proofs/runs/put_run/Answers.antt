@@ -1,8 +1,5 @@
 -- What is stored so far is the first i of them, and each turn stores one more.
-use mathlib.Core.Path.{refl, ap, ap₂, ◌∙◌}
-use mathlib.Core.List.{List}
-use Prim.Native.Nat.{◌+◌}
-use lib.ListN.{set}
+use mathlib.Core.Path.{refl}
 use Rattle.hatch_points.specs.Stores.{raw_at}
 use Rattle.hatch_points.proofs.RawRuns.{one_more}
 use Rattle.hatch_points.proofs.runs.put_run.Goals as goal
