@@ -1,7 +1,5 @@
 -- The fields in front of the lines, and so many lines.
 use mathlib.Core.Path.{sym, ◌∙◌}
-use Prim.Native.Nat.{ℕ}
-use Rattle.bitcursor.specs.Reading.{Out}
 use Rattle.bitcursor.specs.Format.{pure, then_got, then_refused}
 use Rattle.hatch_format.specs.Counts.{times}
 use Rattle.hatch_format.specs.Patterns.{pattern_line}
