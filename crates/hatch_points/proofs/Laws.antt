@@ -86,6 +86,15 @@ one_word z w = λ i. record { numbers = sym (add-zero z.numbers) i; words = z.wo
 pub more_numbers : (z : Sizes) (ns : List ℕ) → with_numbers z (length ns) ≡ grow z (numbers ns)
 more_numbers z ns = λ i. record { numbers = z.numbers + length ns; words = sym (add-zero z.words) i; derived = sym (or_false z.derived) i }
 
+-- so many numbers, and then these
+pub numbers_again : (z : Sizes) (m : ℕ) (ns : List ℕ) {n : ℕ} → n ≡ m + length ns → with_numbers z n ≡ grow (with_numbers z m) (numbers ns)
+numbers_again z m ns e =
+    ap (with_numbers z) e ∙ (λ i. record { numbers = sym (add_assoc z.numbers m (length ns)) i; words = z.words; derived = z.derived })
+    ∙ more_numbers (with_numbers z m) ns
+
+pub no_numbers : (z : Sizes) → with_numbers z 0 ≡ z
+no_numbers z = λ i. record { numbers = add-zero z.numbers i; words = z.words; derived = z.derived }
+
 -- a front is kept where stores come behind it, and by one who keeps a longer front
 take_sets : {A : Type 0} (n : ℕ) (l : List A) (i : ℕ) (vs : List A) → n ≤ i → take n (sets l i vs) ≡ take n l
 take_sets n l i [] h = refl

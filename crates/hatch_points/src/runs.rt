@@ -88,14 +88,12 @@ fn put_doubles<N: Number>(
         (lists numbers.old []) z (lists numbers.new []) result }
 {
     let mut p = at;
-    let mut y = z;
-    for _ in 0..n {
+    for i in 0..n {
         let (v, q) = read_knot(s, p)?;
-        lists::put_number(numbers, y.numbers, v);
+        lists::put_number(numbers, z.numbers + i, v);
         p = q;
-        y = y.with_numbers(1);
     }
-    Ok((y, p))
+    Ok((z.with_numbers(n), p))
 }
 
 // n BD that no list has room for: their places alone are wanted.
@@ -104,13 +102,11 @@ fn pass_doubles(s: &[u8], at: usize, n: usize, z: Sizes) -> Reading<Sizes>
     ensures { Passes s.now ((repeated n single_walk).read s.now at) z result }
 {
     let mut p = at;
-    let mut y = z;
     for _ in 0..n {
         let (_, q) = read_knot(s, p)?;
         p = q;
-        y = y.with_numbers(1);
     }
-    Ok((y, p))
+    Ok((z.with_numbers(n), p))
 }
 
 // n BD: stored so far as there is room, and passed from there on.
