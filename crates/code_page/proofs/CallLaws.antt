@@ -1,41 +1,36 @@
 -- A call's answer by what judging said and by the room there is, over any mapping. Assumes nothing.
-use mathlib.Core.Path.{◌≡◌, refl, sym, ap, ◌∙◌}
-use mathlib.Core.Bool.{false}
-use mathlib.Core.List.{List}
-use Prim.Native.Nat.{ℕ, ◌<◌, ◌≤◌}
-use native.Mathlib.Omega.{arith}
-use lib.Dec.{ltb}
-use lib.ListN.{length}
-use borrow.Author.Tests.{lt-ltb, le-ltb}
-use Rattle.code_page.specs.declared.ConversionOutcome.{ConversionOutcome}
-use Rattle.code_page.specs.declared.ConversionOutcome.TheVariants.{Written, Refused}
-use Rattle.code_page.specs.declared.ConversionRefusal.TheVariants.{UndefinedCharacter, OutputTooShort}
-use Rattle.code_page.specs.Mapping.{Mapped}
-use Rattle.code_page.specs.Conversion.{AllMapped, all, not_all, mapped_all, Conversion, converts, refuses, with_room, conversion, after, answer_of, Converts}
-use Rattle.code_page.specs.Passes.{is_all}
-use Rattle.code_page.specs.MappedLists.{all_length}
+use Rattle.std.specs.Prelude.{◌≡◌, refl, Option, Some, None, Result, Ok, Err, is_some, IsSome, List, ℕ, ◌<◌, ◌≤◌, false, ltb, length}
+use Rattle.std.specs.List.{All}
+use Rattle.std.proofs.Common.{sym, ap, ◌∙◌, arith, lt-ltb, le-ltb}
+use Rattle.code_page.specs.declared.refusal.ConversionRefusal.{ConversionRefusal}
+use Rattle.code_page.specs.declared.refusal.ConversionRefusal.TheVariants.{UndefinedCharacter, OutputTooShort}
+use Rattle.code_page.specs.Conversion.{mapped_all, Conversion, with_room, conversion, after, answer_of, Converts}
+use Rattle.code_page.specs.MappedLists.{not_all_mapped}
+use Rattle.code_page.proofs.PassLaws.{entries, Laid, mapped, as_many, laid_all}
 
-module _ (f : ℕ → Mapped) (xs out : List ℕ) where
+module _ {A B : Type 0} (f : A → Option B) (xs : List A) (out : List B) where
   -- an outcome, and the answer and the output that go with it
-  given : (o : Conversion) (r : ConversionOutcome) (out' : List ℕ) → conversion f xs (length out) ≡ o → r ≡ answer_of o → out' ≡ after o out
+  given : (o : Conversion B) (r : Result ℕ ConversionRefusal) (out' : List B) → conversion f xs (length out) ≡ o → r ≡ answer_of o → out' ≡ after o out
       → Converts f xs r out out'
-  given o r out' e a b = (a ∙ ap answer_of (sym e), b ∙ ap (λ (p : Conversion). after p out) (sym e))
+  given o r out' e a b = (a ∙ ap answer_of (sym e), b ∙ ap (λ (p : Conversion B). after p out) (sym e))
 
-  pub gives_undefined : is_all (mapped_all f xs) ≡ false → Converts f xs (Refused UndefinedCharacter) out out
+  pub gives_undefined : (All (λ x. IsSome (f x)) xs → ⊥) → Converts f xs (Err UndefinedCharacter) out out
   unfolding conversion
-  gives_undefined e = given (refuses UndefinedCharacter) (Refused UndefinedCharacter) out (go (mapped_all f xs) e) refl refl
+  gives_undefined some_not =
+      given (Err UndefinedCharacter) (Err UndefinedCharacter) out (go (mapped_all f xs) (not_all_mapped f xs some_not)) refl refl
     where
-      go : (m : AllMapped) → is_all m ≡ false → with_room (ltb (length out) (length xs)) m ≡ refuses UndefinedCharacter
-      go not_all e = refl
-      go (all ys) e = absurd (let w : ◌≡◌ {A = ℕ} 0 1 = cc in omega arith)
+      go : (m : Option (List B)) → is_some m ≡ false → with_room (ltb (length out) (length xs)) m ≡ Err UndefinedCharacter
+      go None e = refl
+      go (Some ys) e = cc
 
-  module _ (ys : List ℕ) (mapped : mapped_all f xs ≡ all ys) where
-    pub gives_too_short : length out < length xs → Converts f xs (Refused OutputTooShort) out out
+  module _ (defined : All (λ x. IsSome (f x)) xs) where
+    pub gives_too_short : length out < length xs → Converts f xs (Err OutputTooShort) out out
     unfolding conversion
-    gives_too_short h = given (refuses OutputTooShort) (Refused OutputTooShort) out (rw (mapped, lt-ltb (length out) (length xs) h)) refl refl
+    gives_too_short h = given (Err OutputTooShort) (Err OutputTooShort) out (rw (mapped f xs out defined, lt-ltb (length out) (length xs) h)) refl refl
 
-    pub gives_written : (out' : List ℕ) → length xs ≤ length out → out' ≡ after (converts ys) out → Converts f xs (Written (length xs)) out out'
+    pub gives_written : (i : ℕ) (out' : List B) → length xs ≤ length out → i ≤ length xs → length xs ≤ i → Laid f xs out i out'
+        → Converts f xs (Ok (length xs)) out out'
     unfolding conversion
-    gives_written out' h e =
-        let number : Written (length xs) ≡ Written (length ys) = ap Written (sym (all_length f xs ys mapped)) in
-        given (converts ys) (Written (length xs)) out' (rw (mapped, le-ltb (length out) (length xs) h)) number e
+    gives_written i out' room l h laid =
+        given (Ok (entries f xs out)) (Ok (length xs)) out' (rw (mapped f xs out defined, le-ltb (length out) (length xs) room))
+        (ap Ok (sym (as_many f xs out defined))) (laid_all f xs out defined i out' laid (omega arith))

@@ -1,12 +1,12 @@
 -- What tests that are computed over the whole table say of code page 1252: which bytes are their own units, that no two bytes share a unit, and in which bytes
 -- a unit is to be looked for. Assumes nothing.
-use Rattle.std.specs.Prelude.{◌≡◌, refl, Bool, true, ◌||◌, ℕ, ◌<◌, ◌≤◌, T, get_or}
+use Rattle.std.specs.Prelude.{◌≡◌, refl, Some, Bool, true, ◌||◌, ℕ, ◌<◌, ◌≤◌, T, get_or}
 use Rattle.std.proofs.Common.{sym, ap, ◌∙◌, arith}
 use Rattle.std.proofs.Math.Bool.{false, or-true}
 use Rattle.std.proofs.Math.Dec.{ltb, leb, eqb→eq, leb→le}
 use borrow.Author.Tests.{lt-ltb, le-leb, le-ltb, lt-leb, ltb-true, ltb-false, leb-false}
 use Rattle.code_page.specs.Cp1252.{cp1252}
-use Rattle.code_page.specs.Mapping.{defined, mark, unit_of}
+use Rattle.code_page.specs.Mapping.{mark, unit_of}
 use Rattle.code_page.specs.Everywhere.{unlike, every, everywhere, distinct, not_twice}
 use Rattle.code_page.specs.Facts.{entries_256, unmarked_entry, unit_entry, unit_unmarked, unit_of_byte, placed}
 
@@ -23,14 +23,14 @@ module _ (b : ℕ) (h : b < 256) where
   unfolding placed
   own_entry f = eqb→eq (get_or cp1252 b mark) b (rw f at test)
 
-  own_unit : ltb b 0x80 || leb 0xA0 b ≡ true → unit_of b ≡ defined b
+  own_unit : ltb b 0x80 || leb 0xA0 b ≡ true → unit_of b ≡ Some b
   unfolding unit_of
   own_unit f = rw (own_entry f) (unmarked_entry b (λ m. omega arith))
 
-  pub low_own : b < 0x80 → unit_of b ≡ defined b
+  pub low_own : b < 0x80 → unit_of b ≡ Some b
   low_own l = own_unit (ap (λ (w : Bool). w || leb 0xA0 b) (lt-ltb b 0x80 l))
 
-  pub high_own : 0xA0 ≤ b → unit_of b ≡ defined b
+  pub high_own : 0xA0 ≤ b → unit_of b ≡ Some b
   high_own l = own_unit (ap (λ (w : Bool). ltb b 0x80 || w) (le-leb 0xA0 b l) ∙ or-true (ltb b 0x80))
 
   pub between_above : 0x80 ≤ b → b < 0xA0 → 0x100 ≤ get_or cp1252 b mark
@@ -44,10 +44,10 @@ all_distinct : T (distinct mark cp1252)
 unfolding cp1252
 all_distinct = tt
 
-pub one_byte : (a b u : ℕ) → unit_of a ≡ defined u → unit_of b ≡ defined u → a ≡ b
+pub one_byte : (a b u : ℕ) → unit_of a ≡ Some u → unit_of b ≡ Some u → a ≡ b
 one_byte a b u e f = go (ltb a b) (ltb b a) refl refl
   where
-    apart : (i j : ℕ) → unit_of i ≡ defined u → unit_of j ≡ defined u → i < j → ⊥
+    apart : (i j : ℕ) → unit_of i ≡ Some u → unit_of j ≡ Some u → i < j → ⊥
     apart i j e f l =
         not_twice mark cp1252 all_distinct i j l (omega (arith, unit_of_byte j u f, entries_256))
         (λ m. unit_unmarked i u e (sym (unit_entry i u e) ∙ m)) (unit_entry i u e ∙ sym (unit_entry j u f))
@@ -66,7 +66,7 @@ or_right : (a b : Bool) → a || b ≡ false → b ≡ false
 or_right true b f = absurd (unlike f)
 or_right false b f = f
 
-pub below_own : (b u : ℕ) → unit_of b ≡ defined u → u < 0x100 → b ≡ u
+pub below_own : (b u : ℕ) → unit_of b ≡ Some u → u < 0x100 → b ≡ u
 below_own b u e l = go (ltb b 0x80 || leb 0xA0 b) refl
   where
     go : (t : Bool) → ltb b 0x80 || leb 0xA0 b ≡ t → b ≡ u
@@ -76,7 +76,7 @@ below_own b u e l = go (ltb b 0x80 || leb 0xA0 b) refl
         let in_9f = leb-false 0xA0 b (or_right (ltb b 0x80) (leb 0xA0 b) f) in
         absurd (omega (arith, between_above b (unit_of_byte b u e) in_80 in_9f, unit_entry b u e))
 
-pub above_between : (b u : ℕ) → unit_of b ≡ defined u → 0x100 ≤ u → (0x80 ≤ b) × (b < 0xA0)
+pub above_between : (b u : ℕ) → unit_of b ≡ Some u → 0x100 ≤ u → (0x80 ≤ b) × (b < 0xA0)
 above_between b u e l = (go_low (ltb b 0x80) refl, go_high (leb 0xA0 b) refl)
   where
     own : ltb b 0x80 || leb 0xA0 b ≡ true → ⊥

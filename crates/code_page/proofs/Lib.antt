@@ -1,5 +1,4 @@
 pub mod PassLaws
-pub mod OwnLaws
 pub mod CallLaws
 pub mod SearchLaws
 pub mod Facts

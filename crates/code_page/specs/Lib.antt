@@ -1,7 +1,6 @@
 pub mod Cp1252
 pub mod Mapping
 pub mod Conversion
-pub mod Passes
 pub mod Everywhere
 pub mod Facts
 pub mod Inverse

@@ -6,42 +6,27 @@
 ghost use Rattle.code_page.specs.Mapping.{unit_of, byte_of};
 ghost use Rattle.code_page.specs.Conversion.{Converts};
 
-mod by_table;
 mod bytes;
-mod own;
+mod character;
+mod conversion;
+mod refusal;
 pub mod table;
 mod units;
 
-// Why a list is not converted: an entry stands for nothing in the code page, or the output is shorter than the input.
-#[derive(Drop)]
-pub enum ConversionRefusal {
-    UndefinedCharacter,
-    OutputTooShort,
-}
+pub use refusal::ConversionRefusal;
 
-// What a call answers: how many entries it wrote, at the front of the output.
-#[derive(Drop)]
-pub enum ConversionOutcome {
-    Written(usize),
-    Refused(ConversionRefusal),
-}
-
-// The units of 8-bit text, one for each byte. Where every byte is its own unit, the table is not needed.
-pub fn to_units(bytes: &[u8], units: &mut [u16]) -> ConversionOutcome
+// The units of 8-bit text, one for each byte, at the front of the output: how many were written, or why none was.
+#[tactic(auto, using(crate::proofs::OwnEntries::unit_there))]
+pub fn to_units(bytes: &[u8], units: &mut [u16]) -> Result<usize, ConversionRefusal>
     ensures { Converts unit_of bytes.now result units.old units.new }
 {
-    if own::are_own_bytes(bytes) {
-        return own::to_units(bytes, units);
-    }
-    by_table::to_units(bytes, units)
+    conversion::convert(bytes, units)
 }
 
 // The way back: the bytes of 16-bit units.
-pub fn to_bytes(units: &[u16], bytes: &mut [u8]) -> ConversionOutcome
+#[tactic(auto, using(crate::proofs::OwnEntries::byte_there))]
+pub fn to_bytes(units: &[u16], bytes: &mut [u8]) -> Result<usize, ConversionRefusal>
     ensures { Converts byte_of units.now result bytes.old bytes.new }
 {
-    if own::are_own_units(units) {
-        return own::to_bytes(units, bytes);
-    }
-    by_table::to_bytes(units, bytes)
+    conversion::convert(units, bytes)
 }

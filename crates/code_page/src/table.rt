@@ -1,5 +1,5 @@
 // Code page 1252 as a constant, in the order of the bytes: the rows are printed by oracle/code-page from the Unicode Consortium's CP1252.TXT.
-// One contract ties the whole table to its equal in specs/; whoever converts takes it here once and lends it.
+// The type that lends it ties the whole table to its equal in specs/; whoever converts takes it here once.
 ghost use Rattle.std.specs.Prelude.{◌≡◌};
 ghost use Rattle.code_page.specs.Cp1252.{cp1252};
 
@@ -265,9 +265,13 @@ const CP1252: [u16; 256] = [
     0x00FF, // FF
 ];
 
-// The unit of each byte, or the mark.
-pub fn cp1252() -> [u16; 256]
-    ensures { result ≡ cp1252 }
-{
-    CP1252
+// The unit of each byte, or the mark: the whole table is the definition's.
+#[derive(Drop)]
+pub struct Table {
+    pub units: [u16; 256],
+    ghost is_cp1252: { units ≡ cp1252 },
+}
+
+pub fn cp1252() -> Table {
+    Table { units: CP1252 }
 }

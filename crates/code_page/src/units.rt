@@ -1,37 +1,55 @@
-// From bytes to units: every byte is judged first, and only then is a unit stored.
-ghost use Rattle.std.specs.Prelude.{◌≡◌};
-ghost use Rattle.code_page.specs.Cp1252.{cp1252};
-ghost use Rattle.code_page.specs.Mapping.{unit_of};
-ghost use Rattle.code_page.specs.Conversion.{mapped_all, converts, after};
-ghost use Rattle.code_page.specs.Passes.{is_all, entries_of, Storing};
+// Units, which come from bytes. Those below 80 and from A0 to FF (hexadecimal) are their own bytes; any other byte is looked for in the table.
+ghost use Rattle.std.specs.Prelude.{◌≡◌, false};
+ghost use Rattle.code_page.specs.Mapping.{byte_of};
+ghost use Rattle.code_page.specs.Own.{is_own};
 
-use crate::table::UNDEFINED;
+use crate::character::Character;
+use crate::table::{Table, UNDEFINED};
 
-// Whether every byte has a unit.
-pub fn are_defined(table: &[u16; 256], bytes: &[u8]) -> bool
-    requires { table.now ≡ cp1252 }
-    ensures { result ≡ is_all (mapped_all unit_of bytes.now) }
-{
-    let mut k = 0;
-    while k < bytes.len() {
-        let byte = bytes[k] as usize;
-        if table[byte] == UNDEFINED {
-            return false;
-        }
-        k += 1;
+impl Character for u16 {
+    type Other = u8;
+
+    ghost mapped = { byte_of };
+
+    ghost is_own = { is_own };
+
+    fn is_own(self) -> bool {
+        (self < 0x80) | ((0xA0 <= self) & (self < 0x100))
     }
-    true
+
+    #[tactic(auto, using(crate::proofs::OwnEntries::own_byte))]
+    fn own(self) -> u8 {
+        self as u8
+    }
+
+    #[tactic(auto, using(crate::proofs::OwnEntries::byte_there))]
+    fn is_defined(self, table: &Table) -> bool {
+        self.is_own() || byte_80_to_9f(table, self).is_some()
+    }
+
+    fn by_table(self, table: &Table) -> u8 {
+        if self.is_own() {
+            return self.own();
+        }
+        byte_80_to_9f(table, self).unwrap()
+    }
 }
 
-// The unit of each byte, at the front of the output.
-pub fn put_units(table: &[u16; 256], bytes: &[u8], units: &mut [u16])
-    requires { Storing unit_of table.now bytes.now units.old }
-    ensures { units.new ≡ after (converts (entries_of (mapped_all unit_of bytes.now))) units.old }
+// The byte of a unit that is not its own byte, if there is one: among bytes 80 to 9F (hexadecimal), by 32 comparisons.
+// There is no way out before the last, so that the compiler makes many at once.
+#[tactic(auto, unfolding(crate::specs::Mapping::byte_of))]
+fn byte_80_to_9f(table: &Table, unit: u16) -> Option<u8>
+    requires { is_own unit ≡ false }
+    ensures { result ≡ byte_of unit }
 {
-    let mut i = 0;
-    while i < bytes.len() {
-        let byte = bytes[i] as usize;
-        units[i] = table[byte];
-        i += 1;
+    if unit == UNDEFINED {
+        return None;
     }
+    let mut found = None;
+    for byte in 0x80..0xA0u8 {
+        if table.units[byte as usize] == unit {
+            found = Some(byte);
+        }
+    }
+    found
 }

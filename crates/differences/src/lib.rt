@@ -1,69 +1,69 @@
 // A coordinate minus an origin, and the tests behind refusals 12 and 13: document 02's L1, which dwg-rs does not have and the specification does not
 // speak of. specs/Rational.antt has the exact value of a double. specs/Difference.antt promises that a difference is exact, or near, of the exact
-// values; specs/Limits.antt and specs/Upright.antt say what the two tests tell of them. Each call is there for doubles and for their 64 bits.
+// values; specs/Limits.antt and specs/Upright.antt say what the two tests tell of them. A coordinate is a double, or its 64 bits (doubles.rt, bits.rt).
 #![tactic(auto)]
 
-ghost use Rattle.std.specs.Prelude.{◌≡◌, true};
-ghost use Rattle.differences.specs.Difference.{difference, difference_bits};
-ghost use Rattle.differences.specs.Limits.{is_within, is_within_bits, below};
-ghost use Rattle.differences.specs.Upright.{is_upright, is_upright_bits};
+ghost use Rattle.std.specs.Prelude.{◌≡◌, ◌&&◌, Bool, true, ℕ, Float};
+ghost use Rattle.differences.specs.Difference.{difference};
+ghost use Rattle.differences.specs.Limits.{is_within};
+ghost use Rattle.differences.specs.Upright.{is_upright};
 
-use bitcursor::values;
+pub mod bits;
+pub mod doubles;
 
-// x - o, rounded once.
-pub fn difference(x: f64, o: f64) -> f64
-    ensures { result ≡ difference x o }
-{
-    x - o
+// Whether all of several tests hold, gathered by one instruction a test, and with no branch: so the compiler makes one of several.
+pub trait Judgement: Copy {
+    ghost holds: { Self → Bool };
+
+    // Of no test.
+    fn of_none() -> Self
+        ensures { holds result ≡ true };
+
+    fn and(self, other: Self) -> Self
+        ensures { holds result ≡ holds self && holds other };
+
+    fn holds(self) -> bool
+        ensures { result ≡ holds self };
 }
 
-// Of numbers in range neither pattern is a NaN's, and nor is their difference's: no test looks for one.
-pub fn difference_bits(x: u64, o: u64) -> u64
-    requires { (is_within_bits x ≡ true) × (is_within_bits o ≡ true) }
-    ensures { result ≡ difference_bits x o }
-{
-    f64::to_bits(f64::from_bits(x) - f64::from_bits(o))
-}
+// A double, in the form that a list has it.
+pub trait Coordinate: Copy {
+    type Judged: Judgement;
 
-// Whether x is a number within ±2^40.
-pub fn is_within(x: f64) -> bool
-    ensures { result ≡ is_within x }
-{
-    x <= 1099511627776.0 && x >= -1099511627776.0
-}
+    // the double, and its 64 bits
+    ghost value: { Self → Float };
 
-// Below 2^63 exactly where x is a number within ±2^40: without the sign's bit a pattern grows with the size of its double, and a NaN's is above all
-// others; the sum brings those above 2^40's to the top bit, which `|` of many keeps.
-pub fn over_bits(x: u64) -> u64
-    ensures { below result ≡ is_within_bits x }
-{
-    x % 0x8000_0000_0000_0000 + 0x3d8f_ffff_ffff_ffff
-}
+    ghost pattern: { Self → ℕ };
 
-pub fn is_within_bits(x: u64) -> bool
-    ensures { result ≡ is_within_bits x }
-{
-    over_bits(x) < 0x8000_0000_0000_0000
+    // the difference to an origin, by one rounding; whether this may be subtracted, or subtracted from
+    ghost minus: { Self → Self → Self };
+
+    ghost can_minus: { Self → Bool };
+
+    // whether this is a number within ±2^40
+    ghost within: { Self → Bool };
+
+    fn double(self) -> f64
+        ensures { result ≡ value self };
+
+    fn minus(self, o: Self) -> Self
+        requires { (can_minus self ≡ true) × (can_minus o ≡ true) }
+        ensures { result ≡ minus self o };
+
+    fn within(self) -> Self::Judged
+        ensures { Self.Judged.holds result ≡ within self };
+
+    ghost minus_value: { (x o : Self) → value (minus x o) ≡ difference (value x) (value o) };
+
+    ghost within_value: { (x : Self) → within x ≡ is_within (value x) };
+
+    ghost within_can_minus: { (x : Self) → within x ≡ true → can_minus x ≡ true };
 }
 
 // Whether (x, y, z) is (0, 0, 1), where -0.0 counts as 0.
-pub fn is_upright(x: f64, y: f64, z: f64) -> bool
-    ensures { result ≡ is_upright x y z }
+#[tactic(auto, unfolding(crate::specs::Upright::is_upright))]
+pub fn is_upright<C: Coordinate>(x: C, y: C, z: C) -> bool
+    ensures { result ≡ is_upright (C.value x) (C.value y) (C.value z) }
 {
-    if x == 0.0 {
-        if y == 0.0 {
-            return z == 1.0;
-        }
-    }
-    false
-}
-
-pub fn is_upright_bits(x: u64, y: u64, z: u64) -> bool
-    ensures { result ≡ is_upright_bits x y z }
-{
-    is_upright(
-        values::double_of(x),
-        values::double_of(y),
-        values::double_of(z),
-    )
+    x.double() == 0.0 && y.double() == 0.0 && z.double() == 1.0
 }

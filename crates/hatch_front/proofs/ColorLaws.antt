@@ -4,34 +4,16 @@ use mathlib.Core.List.{List, [], ◌∷◌, ◌++◌}
 use Prim.Native.Nat.{ℕ, zero, suc, ◌+◌, ◌-◌, ◌<◌}
 use native.Mathlib.Omega.{arith}
 use lib.ListN.{set, replicate}
+use Rattle.std.specs.Prelude.{map}
 use lib.Seq.{set_at, append_snoc}
 use Rattle.bitcursor.specs.declared.Refusal.{Refusal}
 use Rattle.bitcursor.specs.Reading.{Out, got, refused, and_then}
 use Rattle.bitcursor.specs.Format.{◌>>=◌, pure, relay}
-use Rattle.hatch_format.specs.declared.GradientColor.{GradientColor}
 use Rattle.hatch_format.specs.declared.GradientColorBits.{GradientColorBits}
 use Rattle.hatch_format.specs.Counts.{times_read, times}
 use Rattle.hatch_format.specs.Gradients.{color}
-use Rattle.hatch_format.specs.Record.{zero_color, sixteen, color_as_doubles, colors_as_doubles}
+use Rattle.hatch_format.specs.Record.{zero_color, sixteen}
 use Rattle.hatch_points.specs.Runs.{times_length, times_add, then_items}
-use Rattle.hatch_front.specs.declared.colors.ColorRead.{ColorRead}
-use Rattle.hatch_front.specs.declared.colors.ColorRead.TheVariants.{Done as DoneColor, Refused as RefusedColor}
-use Rattle.hatch_front.specs.Answers.{color_of}
-
--- ---- from the answer for a colour
-pub color_got : (o : Out ℕ GradientColorBits) {x : ColorRead} {a : GradientColorBits} {p : ℕ} → x ≡ color_of o → x ≡ DoneColor a p → o ≡ got a p
-color_got (got b q) {x} {a} {p} e h =
-    let ea : b ≡ a = cc in
-    let ep : q ≡ p = cc in
-    ap₂ got ea ep
-color_got (refused k q) {x} {a} {p} e h = let z : ◌≡◌ {A = ℕ} 0 1 = cc in absurd (omega arith)
-
-pub color_no : (o : Out ℕ GradientColorBits) {x : ColorRead} {k : Refusal} {p : ℕ} → x ≡ color_of o → x ≡ RefusedColor k p → o ≡ refused k p
-color_no (got b q) {x} {k} {p} e h = let z : ◌≡◌ {A = ℕ} 0 1 = cc in absurd (omega arith)
-color_no (refused j q) {x} {k} {p} e h =
-    let ek : j ≡ k = cc in
-    let ep : q ≡ p = cc in
-    ap₂ refused ek ep
 
 -- ---- i colours were read, from `at` to p
 pub record ReadTo (xs : List ℕ) (at i p : ℕ) : Type 0 where
@@ -81,9 +63,9 @@ pub filled_none : (xs : List ℕ) (at : ℕ) → sixteen [] ≡ filled (none_rea
 unfolding none_read
 filled_none xs at = refl
 
--- ---- the same as doubles
-pub set_doubles : (l : List GradientColorBits) (i : ℕ) (c : GradientColorBits)
-    → set (colors_as_doubles l) i (color_as_doubles c) ≡ colors_as_doubles (set l i c)
-set_doubles [] i c = refl
-set_doubles (a ∷ l) zero c = refl
-set_doubles (a ∷ l) (suc i) c = ap (λ (m : List GradientColor). color_as_doubles a ∷ m) (set_doubles l i c)
+-- ---- the same, each colour as a caller has it
+pub set_as : {C : Type 0} (of : GradientColorBits → C) (l : List GradientColorBits) (i : ℕ) (c : GradientColorBits)
+    → set (map of l) i (of c) ≡ map of (set l i c)
+set_as of [] i c = refl
+set_as of (a ∷ l) zero c = refl
+set_as of (a ∷ l) (suc i) c = ap (λ (m : List _). of a ∷ m) (set_as of l i c)

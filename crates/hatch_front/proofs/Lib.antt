@@ -1,3 +1,3 @@
 pub mod ColorLaws
-pub mod FrontLaws
-pub mod FrontJoins
+pub mod Handed
+pub mod Steps

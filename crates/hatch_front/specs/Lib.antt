@@ -1,3 +1,3 @@
-pub mod Rows
 pub mod Fronts
 pub mod Answers
+pub mod Passed

@@ -1,19 +1,14 @@
 // A gradient's colours: passed over where they stand, or read into the record's sixteen.
-ghost use Rattle.std.specs.Prelude.{◌≡◌, [], ◌≤◌, length};
+ghost use Rattle.std.specs.Prelude.{◌≡◌, [], ◌≤◌, length, map};
 ghost use Rattle.loads.specs.Bits.{limit};
+ghost use Rattle.bitcursor.specs.Answers.{outcome, passing};
 ghost use Rattle.hatch_format.specs.Counts.{times};
 ghost use Rattle.hatch_format.specs.Gradients.{color};
-ghost use Rattle.hatch_format.specs.Record.{zero_color, sixteen, color_as_doubles, colors_as_doubles};
-ghost use Rattle.hatch_front.specs.Answers.{color_of, passed_of, sixteen_of};
+ghost use Rattle.hatch_format.specs.Record.{zero_color, sixteen};
+ghost use Rattle.hatch_front.specs.Answers.{passed_of, sixteen_of};
 
-use bitcursor::{Passed, Read, Refusal, values};
-use hatch_format::{GradientColor, GradientColorBits};
-
-#[derive(Clone, Copy)]
-pub enum ColorRead {
-    Done(GradientColorBits, usize),
-    Refused(Refusal, usize),
-}
+use bitcursor::{Passing, Reading, values, within};
+use hatch_format::{Color, GradientColorBits};
 
 fn zero_color() -> GradientColorBits
     ensures { result ≡ zero_color }
@@ -26,114 +21,57 @@ fn zero_color() -> GradientColorBits
     }
 }
 
-fn color_as_doubles(c: GradientColorBits) -> GradientColor
-    ensures { result ≡ color_as_doubles c }
+// No colour: each of the sixteen is zero.
+pub fn zero_colors<C: Color>() -> [C; 16]
+    ensures { result ≡ map C.of_bits (sixteen []) }
 {
-    GradientColor {
-        unknown_double: values::double_of(c.unknown_double),
-        unknown_short: c.unknown_short,
-        rgb: c.rgb,
-        ignored_color_byte: c.ignored_color_byte,
-    }
+    [C::from_bits(zero_color()); 16]
 }
 
-pub fn zero_colors() -> [GradientColorBits; 16]
-    ensures { result ≡ sixteen [] }
-{
-    [zero_color(); 16]
-}
-
-pub fn zero_double_colors() -> [GradientColor; 16]
-    ensures { result ≡ colors_as_doubles (sixteen []) }
-{
-    [color_as_doubles(zero_color()); 16]
-}
-
-fn read_color(s: &[u8], at: usize) -> ColorRead
+#[tactic(auto, using(bitcursor::proofs::FormatSteps::fields, bitcursor::proofs::Smalls::smalls, crate::proofs::Steps::colors), unfolding(hatch_format::specs::Gradients::color, hatch_format::specs::Gradients::color_read))]
+fn read_color(s: &[u8], at: usize) -> Reading<GradientColorBits>
     requires { length s.now ≤ limit }
-    ensures { result ≡ color_of (color.read s.now at) }
+    ensures { outcome result ≡ color.read s.now at }
 {
-    let double = bitcursor::within::read_bd_bits(s, at);
-    let short = sequence::then_bs(s, double);
-    let rgb = sequence::then_bl(s, short, true, 0);
-    let byte = sequence::then_low(s, rgb, 1, true, 0);
-    match byte {
-        Read::Value(v, p) => ColorRead::Done(
-            GradientColorBits {
-                unknown_double: sequence::value_of(double),
-                unknown_short: values::short_of(sequence::value_of(short)),
-                rgb: sequence::value_of(rgb) as u32,
-                ignored_color_byte: v as u8,
-            },
-            p,
-        ),
-        Read::Refused(k, p) => ColorRead::Refused(k, p),
-    }
+    let (double, p) = within::read_bd_bits(s, at)?;
+    let (short, q) = within::read_bs_u(s, p)?;
+    let (rgb, r) = within::read_bl_u(s, q)?;
+    let (byte, t) = within::read_low(s, r, 1)?;
+    let color = GradientColorBits {
+        unknown_double: double,
+        unknown_short: values::short_of(short),
+        rgb: rgb as u32,
+        ignored_color_byte: byte as u8,
+    };
+    Ok((color, t))
 }
 
 // The place behind n colours.
-pub fn pass_colors(s: &[u8], at: usize, n: usize) -> Passed
+pub fn pass_colors(s: &[u8], at: usize, n: usize) -> Passing
     requires { length s.now ≤ limit }
-    ensures { result ≡ passed_of ((times n color).read s.now at) }
+    ensures { passing result ≡ passed_of ((times n color).read s.now at) }
 {
     let mut p = at;
-    let mut i: usize = 0;
-    while i < n {
-        match read_color(s, p) {
-            ColorRead::Done(_, q) => {
-                p = q;
-            }
-            ColorRead::Refused(k, q) => {
-                return Passed::Refused(k, q);
-            }
-        }
-        i += 1;
+    for _ in 0..n {
+        let (_, q) = read_color(s, p)?;
+        p = q;
     }
-    Passed::To(p)
+    Ok(p)
 }
 
 // n colours, and zero behind them; zero throughout where they are refused.
-pub fn read_colors(s: &[u8], at: usize, n: usize) -> [GradientColorBits; 16]
+pub fn read_colors<C: Color>(s: &[u8], at: usize, n: usize) -> [C; 16]
     requires { (length s.now ≤ limit) × (n ≤ 16) }
-    ensures { result ≡ sixteen_of ((times n color).read s.now at) }
+    ensures { result ≡ map C.of_bits (sixteen_of ((times n color).read s.now at)) }
 {
     let mut colors = zero_colors();
     let mut p = at;
-    let mut i: usize = 0;
-    while i < n {
-        match read_color(s, p) {
-            ColorRead::Done(c, q) => {
-                colors[i] = c;
-                p = q;
-            }
-            ColorRead::Refused(_, _) => {
-                return zero_colors();
-            }
-        }
-        i += 1;
-    }
-    colors
-}
-
-// The same with each double as the double that it is.
-pub fn read_double_colors(s: &[u8], at: usize, n: usize) -> [GradientColor; 16]
-    requires { (length s.now ≤ limit) × (n ≤ 16) }
-    ensures { result ≡ colors_as_doubles (sixteen_of ((times n color).read s.now at)) }
-{
-    let mut colors = zero_double_colors();
-    let mut p = at;
-    let mut i: usize = 0;
-    while i < n {
-        match read_color(s, p) {
-            ColorRead::Done(c, q) => {
-                colors[i] = color_as_doubles(c);
-                p = q;
-            }
-            ColorRead::Refused(_, _) => {
-                return zero_double_colors();
-            }
-        }
-        i += 1;
+    for i in 0..n {
+        let Ok((color, q)) = read_color(s, p) else {
+            return zero_colors();
+        };
+        colors[i] = C::from_bits(color);
+        p = q;
     }
     colors
 }

@@ -1,99 +1,55 @@
 // The gradient: its block of fields, its colours passed over, and its name.
-ghost use Rattle.std.specs.Prelude.{◌≡◌, ◌^◌, ◌≤◌, ◌<◌, leb, length};
+ghost use Rattle.std.specs.Prelude.{◌≡◌, ◌≤◌, leb, length};
 ghost use Rattle.loads.specs.Bits.{limit};
-ghost use Rattle.text.specs.Answers.{payloads, places_of};
+ghost use Rattle.bitcursor.specs.Answers.{outcome};
+ghost use Rattle.text.specs.Answers.{payloads_to};
 ghost use Rattle.text.specs.Releases.{release_number};
-ghost use Rattle.text.specs.TextField.{TV_field};
-ghost use Rattle.hatch_format.specs.Gradients.{block, gradient};
-ghost use Rattle.hatch_front.specs.Rows.{block_head};
-ghost use Rattle.hatch_front.specs.Answers.{no_gradient_read, shown_of, shown_read, BlockIs, GradientIs};
+ghost use Rattle.hatch_front.specs.Passed.{block_passed, gradient_passed};
+ghost use Rattle.hatch_front.specs.Answers.{no_gradient_read, shown_of};
 
 use crate::{Gradient, colors};
-use bitcursor::{Passed, Read, Refusal};
+use bitcursor::{Places, Reading, within};
 use hatch_points::counts;
 use text::version::Version;
-use text::{Places, ReadField, Source, Text, version};
+use text::{Source, Text};
 
-// The fields in front of the colours; `last` has the count of colours and the place where they begin.
-#[derive(Clone, Copy)]
-pub struct BlockHead {
-    pub flag: u64,
-    pub angle: u64,
-    pub shift: u64,
-    pub single_color: u64,
-    pub tint: u64,
-    pub last: Read,
-}
-
-#[derive(Clone, Copy)]
+// The fields of a gradient in front of its name, without its colours, which stand from `colors_at` on.
+#[derive(Clone, Copy, Debug, PartialEq, Eq)]
 pub struct Block {
     pub flag: u64,
     pub angle: u64,
     pub shift: u64,
-    pub single_color: u64,
+    pub single_color: u32,
     pub tint: u64,
     pub num_colors: usize,
     pub colors_at: usize,
 }
 
-#[derive(Clone, Copy)]
-pub enum BlockRead {
-    Done(Block, usize),
-    Refused(Refusal, usize),
-}
-
-#[derive(Clone, Copy)]
-pub enum GradientRead {
-    Done(Gradient, Places),
-    Refused(Refusal, Places),
-}
-
-fn read_block_head(s: &[u8], at: usize, cap: usize) -> BlockHead
-    requires { length s.now ≤ limit }
-    ensures { result ≡ block_head s.now cap at }
-{
-    let flag = bitcursor::within::read_bl_u(s, at);
-    let ignored = sequence::then_bl(s, flag, true, 0);
-    let angle = sequence::then_bd_bits(s, ignored);
-    let shift = sequence::then_bd_bits(s, angle);
-    let single = sequence::then_bl(s, shift, true, 0);
-    let tint = sequence::then_bd_bits(s, single);
-    let count = counts::then_count(s, tint, cap);
-    BlockHead {
-        flag: sequence::value_of(flag),
-        angle: sequence::value_of(angle),
-        shift: sequence::value_of(shift),
-        single_color: sequence::value_of(single),
-        tint: sequence::value_of(tint),
-        last: count,
-    }
-}
-
 // The block; its colours are at most 16.
-fn read_block(s: &[u8], at: usize, cap: usize) -> BlockRead
+#[tactic(auto, using(bitcursor::proofs::FormatSteps::fields, bitcursor::proofs::Smalls::smalls, crate::proofs::Steps::steps), unfolding(crate::specs::Passed::block_passed))]
+fn read_block(s: &[u8], at: usize, cap: usize) -> Reading<Block>
     requires { (length s.now ≤ limit) × (cap ≤ 16) }
-    ensures { BlockIs s.now ((block cap).read s.now at) result }
+    ensures { outcome result ≡ (block_passed cap).read s.now at }
 {
-    let head = read_block_head(s, at, cap);
-    let count = head.last;
-    match count {
-        Read::Value(n, p) => match colors::pass_colors(s, p, n as usize) {
-            Passed::To(q) => BlockRead::Done(
-                Block {
-                    flag: head.flag,
-                    angle: head.angle,
-                    shift: head.shift,
-                    single_color: head.single_color,
-                    tint: head.tint,
-                    num_colors: n as usize,
-                    colors_at: p,
-                },
-                q,
-            ),
-            Passed::Refused(k, q) => BlockRead::Refused(k, q),
-        },
-        Read::Refused(k, p) => BlockRead::Refused(k, p),
-    }
+    let (flag, p) = within::read_bl_u(s, at)?;
+    let (_, p) = within::read_bl_u(s, p)?;
+    let (angle, p) = within::read_bd_bits(s, p)?;
+    let (shift, p) = within::read_bd_bits(s, p)?;
+    let (single_color, p) = within::read_bl_u(s, p)?;
+    let (tint, p) = within::read_bd_bits(s, p)?;
+    let (n, colors_at) = counts::read_count(s, p, cap)?;
+    let num_colors = n as usize;
+    let q = colors::pass_colors(s, colors_at, num_colors)?;
+    let block = Block {
+        flag,
+        angle,
+        shift,
+        single_color: single_color as u32,
+        tint,
+        num_colors,
+        colors_at,
+    };
+    Ok((block, q))
 }
 
 fn no_gradient() -> Gradient
@@ -119,7 +75,6 @@ fn no_gradient() -> Gradient
 
 // What is handed over of a block and its name: nothing where its flag is 0.
 fn shown(b: Block, name: Text) -> Gradient
-    requires { b.single_color < 2 ^ 32 }
     ensures { result ≡ shown_of b name }
 {
     if b.flag == 0 {
@@ -129,63 +84,31 @@ fn shown(b: Block, name: Text) -> Gradient
         present: true,
         angle: b.angle,
         shift: b.shift,
-        is_single_color: b.single_color as u32,
+        is_single_color: b.single_color,
         tint: b.tint,
         num_colors: b.num_colors,
         colors_at: b.colors_at,
-        name: name,
-    }
-}
-
-// The name behind a block; then the block's flag decides what is handed over.
-fn read_gradient_name(
-    block: Block,
-    main: &[u8],
-    string: &[u8],
-    at: Places,
-    reader: bool,
-    end: usize,
-    v: Version,
-) -> GradientRead
-    requires { (length main.now ≤ limit) × ((length string.now ≤ limit) × (block.single_color < 2 ^ 32)) }
-    ensures { result ≡ shown_read block ((TV_field v).read (payloads main.now string.now reader end) (places_of at)) }
-{
-    match text::within::read_tv_field(main, string, at, reader, end, v) {
-        ReadField::Found(name, p) => GradientRead::Done(shown(block, name), p),
-        ReadField::Refused(k, p) => GradientRead::Refused(k, p),
+        name,
     }
 }
 
 // The gradient: its block and its name are read with flag 0 too; releases 1 and 2 have neither.
+#[tactic(auto, using(bitcursor::proofs::FormatSteps::fields), unfolding(crate::specs::Passed::gradient_passed))]
 pub fn decode_gradient(
     main: &[u8],
     string: &[u8],
     at: Places,
-    reader: bool,
-    end: usize,
+    reader: Option<usize>,
     v: Version,
     cap: usize,
-) -> GradientRead
+) -> Reading<Gradient, Places>
     requires { (length main.now ≤ limit) × ((length string.now ≤ limit) × (cap ≤ 16)) }
-    ensures { GradientIs main.now ((gradient cap v (leb 3 (release_number v))).read
-        (payloads main.now string.now reader end) (places_of at)) result }
+    ensures { outcome result ≡ (gradient_passed cap v (leb 3 (release_number v))).read (payloads_to main.now string.now reader) at }
 {
-    if !version::is_r2004_plus(v) {
-        return GradientRead::Done(no_gradient(), at);
+    if !v.is_from(Version::R2004) {
+        return Ok((no_gradient(), at));
     }
-    let q = at.string;
-    match read_block(main, at.main, cap) {
-        BlockRead::Done(block, p) => {
-            read_gradient_name(
-                block,
-                main,
-                string,
-                Places { main: p, string: q },
-                reader,
-                end,
-                v,
-            )
-        }
-        BlockRead::Refused(k, p) => GradientRead::Refused(k, Places { main: p, string: q }),
-    }
+    let (block, p) = at.after_main(read_block(main, at.main, cap))?;
+    let (name, q) = text::within::read_tv_field(main, string, p, reader, v)?;
+    Ok((shown(block, name), q))
 }

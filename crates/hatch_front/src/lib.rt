@@ -5,21 +5,22 @@
 
 ghost use Rattle.std.specs.Prelude.{◌≡◌, ◌≤◌, length};
 ghost use Rattle.loads.specs.Bits.{limit};
-ghost use Rattle.text.specs.Answers.{payloads, places_of};
+ghost use Rattle.bitcursor.specs.Answers.{outcome, value_as};
+ghost use Rattle.text.specs.Answers.{payloads_to};
 ghost use Rattle.hatch_format.specs.Hatch.{plane};
-ghost use Rattle.hatch_front.specs.Fronts.{named, front};
-ghost use Rattle.hatch_front.specs.Answers.{plane_of, with_gradient, FrontIs};
+ghost use Rattle.hatch_front.specs.Fronts.{front};
+ghost use Rattle.hatch_front.specs.Answers.{plane_as, FrontIs};
 
-use bitcursor::{Read, Refusal};
+use bitcursor::{Places, Reading, within};
 use hatch_format::Caps;
+use text::Text;
 use text::version::Version;
-use text::{Places, ReadField, Text};
 
 pub mod colors;
 mod gradients;
 
-// A gradient without its colours, which stand from `colors_at` on; zero throughout where there is none.
-#[derive(Clone, Copy)]
+// A gradient without its colours, which stand from `colors_at` on; zero throughout where there is none, as document 01 has it.
+#[derive(Clone, Copy, Debug, PartialEq, Eq)]
 pub struct Gradient {
     pub present: bool,
     pub angle: u64,
@@ -31,7 +32,7 @@ pub struct Gradient {
     pub name: Text,
 }
 
-#[derive(Clone, Copy)]
+#[derive(Clone, Copy, Debug, PartialEq, Eq)]
 pub struct Plane {
     pub elevation: u64,
     pub x: u64,
@@ -39,85 +40,24 @@ pub struct Plane {
     pub z: u64,
 }
 
-#[derive(Clone, Copy)]
-pub enum PlaneRead {
-    Done(Plane, usize),
-    Refused(Refusal, usize),
-}
-
-#[derive(Clone, Copy)]
+#[derive(Clone, Copy, Debug, PartialEq, Eq)]
 pub struct Front {
     pub gradient: Gradient,
     pub plane: Plane,
     pub name: Text,
 }
 
-#[derive(Clone, Copy)]
-pub enum FrontRead {
-    Done(Front, Places),
-    Refused(Refusal, Places),
-}
-
 // The elevation and the extrusion.
-fn read_plane(s: &[u8], at: usize) -> PlaneRead
+#[tactic(auto, using(bitcursor::proofs::FormatSteps::fields), unfolding(hatch_format::specs::Hatch::plane, hatch_format::specs::Hatch::plane_read))]
+fn read_plane(s: &[u8], at: usize) -> Reading<Plane>
     requires { length s.now ≤ limit }
-    ensures { result ≡ plane_of (plane.read s.now at) }
+    ensures { outcome result ≡ value_as plane_as (plane.read s.now at) }
 {
-    let elevation = bitcursor::within::read_bd_bits(s, at);
-    let x = sequence::then_bd_bits(s, elevation);
-    let y = sequence::then_bd_bits(s, x);
-    let z = sequence::then_bd_bits(s, y);
-    match z {
-        Read::Value(v, p) => PlaneRead::Done(
-            Plane {
-                elevation: sequence::value_of(elevation),
-                x: sequence::value_of(x),
-                y: sequence::value_of(y),
-                z: v,
-            },
-            p,
-        ),
-        Read::Refused(k, p) => PlaneRead::Refused(k, p),
-    }
-}
-
-// The plane and the pattern's name, behind a gradient.
-fn read_named(
-    gradient: Gradient,
-    main: &[u8],
-    string: &[u8],
-    at: Places,
-    reader: bool,
-    end: usize,
-    v: Version,
-) -> FrontRead
-    requires { (length main.now ≤ limit) × (length string.now ≤ limit) }
-    ensures { result ≡ with_gradient gradient ((named v).read (payloads main.now string.now reader end) (places_of at)) }
-{
-    let q = at.string;
-    match read_plane(main, at.main) {
-        PlaneRead::Done(plane, p) => {
-            match text::within::read_tv_field(
-                main,
-                string,
-                Places { main: p, string: q },
-                reader,
-                end,
-                v,
-            ) {
-                ReadField::Found(name, r) => FrontRead::Done(
-                    Front {
-                        gradient: gradient,
-                        plane: plane,
-                        name: name,
-                    },
-                    r,
-                ),
-                ReadField::Refused(k, r) => FrontRead::Refused(k, r),
-            }
-        }
-        PlaneRead::Refused(k, p) => FrontRead::Refused(k, Places { main: p, string: q }),
-    }
+    let (elevation, p) = within::read_bd_bits(s, at)?;
+    let (x, p) = within::read_bd_bits(s, p)?;
+    let (y, p) = within::read_bd_bits(s, p)?;
+    let (z, p) = within::read_bd_bits(s, p)?;
+    Ok((Plane { elevation, x, y, z }, p))
 }
 
 // A body up to its pattern's name.
@@ -125,18 +65,20 @@ pub fn read_front(
     main: &[u8],
     string: &[u8],
     at: Places,
-    reader: bool,
-    end: usize,
+    reader: Option<usize>,
     v: Version,
     caps: Caps,
-) -> FrontRead
+) -> Reading<Front, Places>
     requires { (length main.now ≤ limit) × ((length string.now ≤ limit) × (caps.colors ≤ 16)) }
-    ensures { FrontIs main.now ((front caps v).read (payloads main.now string.now reader end) (places_of at)) result }
+    ensures { FrontIs main.now ((front caps v).read (payloads_to main.now string.now reader) at) result }
 {
-    match gradients::decode_gradient(main, string, at, reader, end, v, caps.colors) {
-        gradients::GradientRead::Done(gradient, p) => {
-            read_named(gradient, main, string, p, reader, end, v)
-        }
-        gradients::GradientRead::Refused(k, p) => FrontRead::Refused(k, p),
-    }
+    let (gradient, p) = gradients::decode_gradient(main, string, at, reader, v, caps.colors)?;
+    let (plane, q) = p.after_main(read_plane(main, p.main))?;
+    let (name, r) = text::within::read_tv_field(main, string, q, reader, v)?;
+    let front = Front {
+        gradient,
+        plane,
+        name,
+    };
+    Ok((front, r))
 }

@@ -1,5 +1,4 @@
-// The entries of both lent lists: what they hold before a call, and what of them goes to the answer.
-use stored::record::ROOM;
+// The entries of both lent lists: what they hold before a call, so that one that must not change shows it.
 
 // How many entries there are to lend of each list.
 pub const LENT: usize = 512;
@@ -18,57 +17,6 @@ pub fn old_numbers() -> [u64; LENT] {
 }
 
 // Whether all these entries are as they were before the call.
-pub fn old_are_words(words: &[u32]) -> bool {
-    let mut k: usize = 0;
-    while k < words.len() {
-        if words[k] != OLD_WORD {
-            return false;
-        }
-        k += 1;
-    }
-    true
-}
-
-pub fn old_are_numbers(numbers: &[u64]) -> bool {
-    let mut k: usize = 0;
-    while k < numbers.len() {
-        if numbers[k] != OLD_NUMBER {
-            return false;
-        }
-        k += 1;
-    }
-    true
-}
-
-// Puts a number at `at`, if there is room; the index behind it.
-pub fn put(found: &mut [u64; ROOM], at: usize, v: u64) -> usize {
-    if at < ROOM {
-        found[at] = v;
-        return at + 1;
-    }
-    ROOM
-}
-
-fn put_word(found: &mut [u64; ROOM], at: usize, w: u32) -> usize {
-    put(found, at, w as u64)
-}
-
-pub fn put_words(found: &mut [u64; ROOM], from: usize, words: &[u32]) -> usize {
-    let mut at = from;
-    let mut k: usize = 0;
-    while k < words.len() {
-        at = put_word(found, at, words[k]);
-        k += 1;
-    }
-    at
-}
-
-pub fn put_numbers(found: &mut [u64; ROOM], from: usize, numbers: &[u64]) -> usize {
-    let mut at = from;
-    let mut k: usize = 0;
-    while k < numbers.len() {
-        at = put(found, at, numbers[k]);
-        k += 1;
-    }
-    at
+pub fn are_old(words: &[u32], numbers: &[u64]) -> bool {
+    words.iter().all(|word| *word == OLD_WORD) && numbers.iter().all(|number| *number == OLD_NUMBER)
 }

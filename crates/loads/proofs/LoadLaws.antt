@@ -123,8 +123,8 @@ byte_more s at i v b h e f =
     let k : at + i * 8 ≡ at + 8 * i = omega arith in
     rw (e, f, m, k) (sym (number_split s at (8 * i) 8 (omega arith)))
 
--- what `high_at` does with a word, and byte by byte
-pub ruleset first_bytes = (none, short_lt, window_lt, word_first, byte_more)
+-- what bytes put together one by one are
+pub ruleset byte_by_byte = (none, short_lt, window_lt, byte_more)
 
 -- ---- the bits from a place to the end of the eighth byte, on top of a word
 module _ (s : List ℕ) (at : ℕ) where

@@ -13,12 +13,12 @@ use Rattle.loads.specs.Bytes.{low_number, bytes_at}
 use Rattle.loads.proofs.LoadLaws.{window_lt, number_split}
 
 -- the low n bytes of a number, the other way round
-unfoldable swapped : ℕ → ℕ → ℕ
+unfoldable pub swapped : ℕ → ℕ → ℕ
 swapped zero x = 0
 swapped (suc n) x = x / 2 ^ (8 * n) % 256 + 256 * swapped n x
 
 -- std's word for eight
-swap_is : (x : ℕ) → swap_bytes w64 x ≡ swapped 8 x
+pub swap_is : (x : ℕ) → swap_bytes w64 x ≡ swapped 8 x
 unfolding swapped
 swap_is x = omega arith
 
@@ -35,7 +35,7 @@ swap_low (suc n) m a b h =
     rw (d, swap_low n m a b (omega arith))
 
 -- n bytes, the low one first, are the bits' number with its bytes the other way round
-low_swap : (s : List ℕ) (n at : ℕ) → at + 8 * n ≤ 8 * length s → low_number (bytes_at s at n) ≡ swapped n (number (window s at (8 * n)))
+pub low_swap : (s : List ℕ) (n at : ℕ) → at + 8 * n ≤ 8 * length s → low_number (bytes_at s at n) ≡ swapped n (number (window s at (8 * n)))
 unfolding low_number bytes_at swapped
 low_swap s zero at h = refl
 low_swap s (suc n) at h =

@@ -55,8 +55,23 @@ fn word_at(s: &[u8], at: usize) -> u64
     (x << r) + (u64::from(s[q + 8]) >> (8 - r))
 }
 
+// The n bytes at `at` as a number, the high one first, byte by byte. A function of its own, since most bytes are far from the payload's end:
+// so what is compiled into the readers is `high_at` without this loop.
+#[inline(never)]
+#[tactic(auto, using(crate::proofs::LoadLaws::byte_by_byte))]
+fn last_at(s: &[u8], at: usize, n: usize) -> u64
+    requires { (length s.now ≤ limit) × ((1 ≤ n) × ((n ≤ 8) × (at + 8 * n ≤ 8 * length s.now))) }
+    ensures { result ≡ number (window s.now at (8 * n)) }
+{
+    let mut v = 0;
+    for i in 0..n {
+        v = v * 256 + bits_at(s, at + i * 8, 8);
+    }
+    v
+}
+
 // The n bytes at `at` as a number, the high one first.
-#[tactic(auto, using(crate::proofs::LoadLaws::first_bytes))]
+#[tactic(auto, using(crate::proofs::LoadLaws::word_first))]
 pub fn high_at(s: &[u8], at: usize, n: usize) -> u64
     requires { (length s.now ≤ limit) × ((1 ≤ n) × ((n ≤ 8) × (at + 8 * n ≤ 8 * length s.now))) }
     ensures { result ≡ number (window s.now at (8 * n)) }
@@ -64,11 +79,7 @@ pub fn high_at(s: &[u8], at: usize, n: usize) -> u64
     if 64 <= s.len() * 8 - at {
         return word_at(s, at) >> (64 - n * 8);
     }
-    let mut v = 0;
-    for i in 0..n {
-        v = v * 256 + bits_at(s, at + i * 8, 8);
-    }
-    v
+    last_at(s, at, n)
 }
 
 // The n bytes at `at` as a number, the low one first.

@@ -1,7 +1,8 @@
 -- From what the tests say to the definition's outcome: whole lists hold a hatch, whose roles the walk finds; then extrusion, origin and coordinates decide.
 -- Assumes nothing.
-use mathlib.Core.Path.{◌≡◌, refl, sym, ap, subst, ◌∙◌}
-use mathlib.Core.Bool.{Bool, true, false, ◌&&◌}
+use Rattle.std.specs.Prelude.{Result, Ok, Err}
+use mathlib.Core.Path.{◌≡◌, refl, sym, ap, ap₂, subst, ◌∙◌}
+use mathlib.Core.Bool.{Bool, true, false, ◌&&◌, and_assoc}
 use mathlib.Core.List.{List, [], ◌++◌}
 use Prim.Native.Nat.{ℕ, ◌≤◌}
 use native.Mathlib.Omega.{arith}
@@ -16,14 +17,14 @@ use Rattle.hatch_lists.specs.Coordinates.{Role, item_roles, held_roles}
 use Rattle.hatch_lists.proofs.CoordinateLaws.{roles_of_items}
 use Rattle.hatch_lists.specs.Walks.{left_of}
 use Rattle.hatch_lists.specs.FollowsWhole.{items_held}
-use Rattle.whole_lists.specs.declared.Place.{Place}
 use Rattle.whole_lists.specs.Ended.{is_held, Judges}
 use Rattle.whole_lists.proofs.Judged.{items_walk}
-use Rattle.moved_hatch.specs.declared.MoveRefusal.TheVariants.{ListsNotWhole, OtherPlane, CoordinateOutOfRange}
-use Rattle.moved_hatch.specs.Moving.{Arithmetic, patterns, Outcome, moves, refuses, judged, outcome_of, outcome, all_in_range, moved, after}
+use Rattle.moved_hatch.specs.declared.MoveRefusal.{MoveRefusal}
+use Rattle.moved_hatch.specs.declared.MoveRefusal.TheVariants.{ListsNotWhole, CoordinateOutOfRange}
+use Rattle.moved_hatch.specs.Moving.{Arithmetic, patterns, Outcome, refuses, judged, outcome_of, outcome, all_in_range, moved, after, answer_of, MovesOrigin}
 use Rattle.moved_hatch.specs.MovedLists.{patterns_length}
-use Rattle.moved_hatch.specs.Parts.{moved_from, in_range_from, Movable}
-use Rattle.move_origin.specs.Walked.{start_of, Walks, roles_in, roles_at}
+use Rattle.moved_hatch.specs.Parts.{Movable}
+use Rattle.move_origin.specs.Walked.{Walks, roles_in, roles_of, may_move}
 
 module _ {A : Type 0} (m : Arithmetic A) (c : HatchCounts) (ws : List ℕ) (ns : List A) where
   abbrev here : Held
@@ -37,8 +38,8 @@ module _ {A : Type 0} (m : Arithmetic A) (c : HatchCounts) (ws : List ℕ) (ns :
   pub record Holds : Type 0 where
     pub hatch : Holding
     pub is_held_here : here ≡ whole hatch
-    pub walks : Walks used_of (length ns) c.numbers_used (start_of c) c.num_seed_points
-    pub roles : roles_at used_of c.numbers_used (start_of c) c.num_seed_points ≡ held_roles hatch
+    pub walks : Walks c used_of (length ns)
+    pub roles : roles_of c used_of ≡ held_roles hatch
 
   holds_of : (h : Holding) → here ≡ whole h → Holds
   unfolding held
@@ -54,7 +55,6 @@ module _ {A : Type 0} (m : Arithmetic A) (c : HatchCounts) (ws : List ℕ) (ns :
         walks =
             record {
               room = omega (arith, f.numbers_long, patterns_length m.pattern ns);
-              within = record { word = omega arith; number = omega arith; parts = omega arith };
               few = f.seeds;
               items = held_items h;
               left = left_of [] 0;
@@ -77,84 +77,72 @@ module _ {A : Type 0} (m : Arithmetic A) (c : HatchCounts) (ws : List ℕ) (ns :
   pub holds_where : {b : Bool} → Judges c ws (length ns) b → b ≡ true → Holds
   holds_where j e = holds (subst (Judges c ws (length ns)) e j)
 
-  -- ---- the walk from a place that is the start
-  module _ {p : Place} (start : p ≡ start_of c) where
-    abbrev roles_from : Place → List Role
-    roles_from q = roles_at used_of c.numbers_used q c.num_seed_points
-
-    pub walks_from : Holds → Walks used_of (length ns) c.numbers_used p c.num_seed_points
-    walks_from h = subst (λ (q : Place). Walks used_of (length ns) c.numbers_used q c.num_seed_points) (sym start) h.walks
-
-    pub range_from : {b : Bool} → b ≡ in_range_from m.in_range p.number (roles_from p) ns → in_range_from m.in_range 0 (roles_from (start_of c)) ns ≡ b
-    range_from e = sym (e ∙ ap (λ (q : Place). in_range_from m.in_range q.number (roles_from q) ns) start)
-
-    pub movable_from : (x₀ y₀ : A) → m.in_range x₀ && m.in_range y₀ ≡ true → in_range_from m.in_range 0 (roles_from (start_of c)) ns ≡ true
-        → Movable m.in_range x₀ y₀ p.number (roles_from p) ns
-    movable_from x₀ y₀ e f =
-        subst (λ (q : Place). Movable m.in_range x₀ y₀ q.number (roles_from q) ns) (sym start) (record { origin = e; coordinates = f })
-
-    pub moved_by : (x₀ y₀ : A) {l : List A} → l ≡ moved_from m.difference x₀ y₀ p.number (roles_from p) ns
-        → l ≡ moved_from m.difference x₀ y₀ 0 (roles_from (start_of c)) ns
-    moved_by x₀ y₀ e = e ∙ ap (λ (q : Place). moved_from m.difference x₀ y₀ q.number (roles_from q) ns) start
-
   pub words_long : Holds → c.words_used ≤ length ws
   words_long h = (held_whole c ws (patterns m.pattern ns) h.hatch h.is_held_here).fits.words_long
 
   -- ---- the outcome
   module _ (upright : Bool) (x₀ y₀ : A) where
-    pub refused_11 : Judges c ws (length ns) false → outcome m c upright ws ns x₀ y₀ ≡ refuses ListsNotWhole
+    abbrev here_outcome : Outcome
+    here_outcome = outcome m c upright ws ns x₀ y₀
+
+    -- a refusal, and the list as it was
+    refuses_so : {k : MoveRefusal} → here_outcome ≡ refuses k → MovesOrigin m here_outcome x₀ y₀ (Err k) ns ns
+    refuses_so e = (sym (ap answer_of e), sym (ap (λ (o : Outcome). after m o x₀ y₀ ns) e))
+
+    pub refused_11 : {b : Bool} → Judges c ws (length ns) b → b ≡ false → MovesOrigin m here_outcome x₀ y₀ (Err ListsNotWhole) ns ns
     unfolding outcome
-    refused_11 j = go here (j (patterns m.pattern ns) (patterns_length m.pattern ns))
+    refused_11 {b} j e = refuses_so (go here (sym e ∙ j (patterns m.pattern ns) (patterns_length m.pattern ns)))
       where
         go : (h : Held) → false ≡ is_held h → outcome_of m h upright ns x₀ y₀ ≡ refuses ListsNotWhole
         go (whole a) k = let z : ◌≡◌ {A = ℕ} 0 1 = cc in absurd (omega arith)
         go not_whole k = refl
 
-    outcome_is : (h : Holds) → outcome m c upright ws ns x₀ y₀
-        ≡ judged (held_roles h.hatch) upright (m.in_range x₀ && (m.in_range y₀ && all_in_range m.in_range (held_roles h.hatch) ns))
-    unfolding outcome
-    outcome_is h = ap (λ (k : Held). outcome_of m k upright ns x₀ y₀) h.is_held_here
+    module _ (h : Holds) where
+      abbrev range : Bool
+      range = m.in_range x₀ && (m.in_range y₀ && all_in_range m.in_range (held_roles h.hatch) ns)
 
-    pub refused_12 : Holds → upright ≡ false → outcome m c upright ws ns x₀ y₀ ≡ refuses OtherPlane
-    refused_12 h e =
-        outcome_is h
-        ∙ ap (λ (b : Bool). judged (held_roles h.hatch) b (m.in_range x₀ && (m.in_range y₀ && all_in_range m.in_range (held_roles h.hatch) ns))) e
+      outcome_is : here_outcome ≡ judged (held_roles h.hatch) upright range
+      unfolding outcome
+      outcome_is = ap (λ (k : Held). outcome_of m k upright ns x₀ y₀) h.is_held_here
 
-    -- all three of the range
-    range_is : (h : Holds) {o a : Bool} → m.in_range x₀ && m.in_range y₀ ≡ o
-        → in_range_from m.in_range 0 (roles_at used_of c.numbers_used (start_of c) c.num_seed_points) ns ≡ a
-        → m.in_range x₀ && (m.in_range y₀ && all_in_range m.in_range (held_roles h.hatch) ns) ≡ o && a
-    range_is h {o} {a} e f =
-        let k : all_in_range m.in_range (held_roles h.hatch) ns ≡ a = ap (λ (rs : List Role). all_in_range m.in_range rs ns) (sym h.roles) ∙ f in
-        ap (λ (b : Bool). m.in_range x₀ && (m.in_range y₀ && b)) k ∙ both (m.in_range x₀) (m.in_range y₀) ∙ ap (λ (b : Bool). b && a) e
-      where
-        both : (s t : Bool) → s && (t && a) ≡ (s && t) && a
-        both true t = refl
-        both false t = refl
+      -- by the plane, or the origin
+      pub refused_before : {r : Result (Unit {0}) MoveRefusal} {k : MoveRefusal} → r ≡ may_move upright (m.in_range x₀ && m.in_range y₀) → r ≡ Err k
+          → MovesOrigin m here_outcome x₀ y₀ (Err k) ns ns
+      refused_before {r} {k} e f = refuses_so (outcome_is ∙ by (m.in_range x₀) (m.in_range y₀) upright (all_in_range m.in_range (held_roles h.hatch) ns) (sym e ∙ f))
+        where
+          by : (x y u a : Bool) → may_move u (x && y) ≡ Err k → judged (held_roles h.hatch) u (x && (y && a)) ≡ refuses k
+          by x y false a g = cc
+          by true true true a g = let z : ◌≡◌ {A = ℕ} 0 1 = cc in absurd (omega arith)
+          by true false true a g = cc
+          by false y true a g = cc
 
-    judged_is : (h : Holds) {b : Bool} → upright ≡ true
-        → m.in_range x₀ && (m.in_range y₀ && all_in_range m.in_range (held_roles h.hatch) ns) ≡ b
-        → outcome m c upright ws ns x₀ y₀ ≡ judged (held_roles h.hatch) true b
-    judged_is h {b} e f =
-        outcome_is h
-        ∙ ap (λ (t : Bool). judged (held_roles h.hatch) t (m.in_range x₀ && (m.in_range y₀ && all_in_range m.in_range (held_roles h.hatch) ns))) e
-        ∙ ap (judged (held_roles h.hatch) true) f
+      module _ {r : Result (Unit {0}) MoveRefusal} (may : r ≡ may_move upright (m.in_range x₀ && m.in_range y₀)) (yes : r ≡ Ok tt) where
+        both : (upright ≡ true) × (m.in_range x₀ && m.in_range y₀ ≡ true)
+        both = by upright (m.in_range x₀ && m.in_range y₀) (sym may ∙ yes)
+          where
+            by : (u o : Bool) → may_move u o ≡ Ok tt → (u ≡ true) × (o ≡ true)
+            by true true e = (refl, refl)
+            by true false e = let z : ◌≡◌ {A = ℕ} 0 1 = cc in absurd (omega arith)
+            by false o e = let z : ◌≡◌ {A = ℕ} 0 1 = cc in absurd (omega arith)
 
-    pub refused_origin : Holds → upright ≡ true → m.in_range x₀ && m.in_range y₀ ≡ false → outcome m c upright ws ns x₀ y₀ ≡ refuses CoordinateOutOfRange
-    refused_origin h e f = judged_is h e (range_is h f refl)
+        judged_is : {a : Bool} → all_in_range m.in_range (roles_of c used_of) ns ≡ a → here_outcome ≡ judged (held_roles h.hatch) true a
+        judged_is {a} f =
+            outcome_is ∙ ap₂ (λ (t b : Bool). judged (held_roles h.hatch) t b) both.0
+            (ap (λ (rs : List Role). m.in_range x₀ && (m.in_range y₀ && all_in_range m.in_range rs ns)) (sym h.roles)
+            ∙ ap (λ (b : Bool). m.in_range x₀ && (m.in_range y₀ && b)) f ∙ sym (and_assoc (m.in_range x₀) (m.in_range y₀) a)
+            ∙ ap (λ (b : Bool). b && a) both.1)
 
-    pub refused_13 : Holds → upright ≡ true → m.in_range x₀ && m.in_range y₀ ≡ true
-        → in_range_from m.in_range 0 (roles_at used_of c.numbers_used (start_of c) c.num_seed_points) ns ≡ false
-        → outcome m c upright ws ns x₀ y₀ ≡ refuses CoordinateOutOfRange
-    refused_13 h e f g = judged_is h e (range_is h f g)
+        pub refused_13 : all_in_range m.in_range (roles_of c used_of) ns ≡ false → MovesOrigin m here_outcome x₀ y₀ (Err CoordinateOutOfRange) ns ns
+        refused_13 f = refuses_so (judged_is f)
 
-    pub moves_all : (h : Holds) → upright ≡ true → m.in_range x₀ && m.in_range y₀ ≡ true
-        → in_range_from m.in_range 0 (roles_at used_of c.numbers_used (start_of c) c.num_seed_points) ns ≡ true
-        → outcome m c upright ws ns x₀ y₀ ≡ moves (held_roles h.hatch)
-    moves_all h e f g = judged_is h e (range_is h f g)
+        pub movable : all_in_range m.in_range (roles_of c used_of) ns ≡ true → Movable m.in_range x₀ y₀ 0 (roles_of c used_of) ns
+        movable f = record { origin = both.1; coordinates = f }
 
-    -- the list afterwards, by the roles that the walk finds
-    pub after_all : (h : Holds) {o : Outcome} → o ≡ moves (held_roles h.hatch)
-        → moved_from m.difference x₀ y₀ 0 (roles_at used_of c.numbers_used (start_of c) c.num_seed_points) ns ≡ after m o x₀ y₀ ns
-    after_all h {o} e =
-        ap (λ (rs : List Role). moved m.difference x₀ y₀ rs ns) h.roles ∙ sym (ap (λ (k : Outcome). after m k x₀ y₀ ns) e)
+        -- the list afterwards, by the roles that the walk finds
+        pub moves_all : {l : List A} → all_in_range m.in_range (roles_of c used_of) ns ≡ true → l ≡ moved m.difference x₀ y₀ (roles_of c used_of) ns
+            → MovesOrigin m here_outcome x₀ y₀ (Ok tt) ns l
+        moves_all {l} f g =
+            let e = judged_is f in (
+              sym (ap answer_of e),
+              g ∙ ap (λ (rs : List Role). moved m.difference x₀ y₀ rs ns) h.roles ∙ sym (ap (λ (k : Outcome). after m k x₀ y₀ ns) e),
+            )

@@ -1,5 +1,6 @@
 -- The walk over whole lists item by item: the coordinates so far are in range, or are moved; at its end all are. One law for doubles and for their 64
 -- bits. Assumes nothing.
+use Rattle.std.specs.Prelude.{Some, None}
 use mathlib.Core.Path.{◌≡◌, refl, sym, ap, subst, ◌∙◌}
 use mathlib.Core.Bool.{Bool, true, false, ◌&&◌, and-eq-true_iff}
 use mathlib.Core.List.{List, [], ◌∷◌, ◌++◌, append_assoc, append-nil}
@@ -7,7 +8,8 @@ use Prim.Native.Nat.{ℕ, ◌+◌, ◌-◌, ◌*◌, ◌≤◌}
 use native.Mathlib.Omega.{arith}
 use lib.Dec.{eqb}
 use borrow.Author.Tests.{eqb-true}
-use lib.ListN.{length, drop, length-append, take-append-drop}
+use lib.ListN.{length, drop, length-append}
+use Rattle.hatch_lists.specs.declared.HatchCounts.{HatchCounts}
 use Rattle.hatch_lists.specs.declared.Item.{Item}
 use Rattle.hatch_lists.specs.Items.{gathered, item_size, points_item}
 use Rattle.hatch_lists.specs.Within.{All}
@@ -17,8 +19,8 @@ use Rattle.hatch_lists.specs.Steps.{Step as Walked, next, broken}
 use Rattle.hatch_lists.specs.Walks.{Left, prepend, end_if, finish}
 use Rattle.list_items.specs.Found.{Small}
 use Rattle.whole_lists.specs.declared.Place.{Place}
-use Rattle.std.specs.Prelude.{Some, None}
 use Rattle.whole_lists.specs.Stepped.{Within, finished, left_at, walk_at, Steps}
+use Rattle.whole_lists.specs.Ended.{start_of}
 use Rattle.whole_lists.proofs.Loops.{sizes, Along, along_start, along_next, along_broken, along_end}
 use Rattle.moved_hatch.specs.Moving.{all_in_range}
 use Rattle.moved_hatch.specs.Parts.{moved_from, in_range_from, Movable}
@@ -98,14 +100,17 @@ module _ (ws : List ℕ) (used seeds : ℕ) (p : Place) {q : Place} (a : Along w
       go (next ks n) is e = append_assoc (item_roles i) (gathered item_roles ks) (item_roles (points_item seeds))
       go broken is e = let z : ◌≡◌ {A = ℕ} 0 1 = cc in absurd (omega arith)
 
+start_within : (c : HatchCounts) (ws : List ℕ) (used : ℕ) → Within ws used (start_of c)
+start_within c ws used = record { word = omega arith; number = omega arith; parts = omega arith }
+
 -- ---- judged: the coordinates so far are in range
 module _ {A : Type 0} (in_range : A → Bool) (ws : List ℕ) (used : ℕ) (l : List A) where
   pub record InRange (p q : Place) : Type 0 where
     pub along : Along ws used p q
     pub so_far : in_range_from in_range p.number (gathered item_roles along.items) l ≡ true
 
-  pub in_range_start : (p : Place) → Within ws used p → InRange p p
-  in_range_start p w = record { along = along_start ws used p w; so_far = refl }
+  pub in_range_start : (c : HatchCounts) → InRange (start_of c) (start_of c)
+  in_range_start c = record { along = along_start ws used (start_of c) (start_within c ws used); so_far = refl }
 
   -- the index behind the items so far
   behind : {p q : Place} (a : Along ws used p q) → p.number + length (gathered item_roles a.items) ≡ q.number
@@ -147,8 +152,8 @@ module _ {A : Type 0} (difference : A → A → A) (x₀ y₀ : A) (ws : List �
     pub along : Along ws used p q
     pub so_far : m ≡ moved_from difference x₀ y₀ p.number (gathered item_roles along.items) l
 
-  pub moved_start : (p : Place) → Within ws used p → MovedSoFar p p l
-  moved_start p w = record { along = along_start ws used p w; so_far = sym (take-append-drop p.number l) }
+  pub moved_start : (c : HatchCounts) → MovedSoFar (start_of c) (start_of c) l
+  moved_start c = record { along = along_start ws used (start_of c) (start_within c ws used); so_far = refl }
 
   on : {p q : Place} {m n : List A} (h : MovedSoFar p q m) (rs : List Role) → p.number ≤ length l → n ≡ moved_from difference x₀ y₀ q.number rs m
       → n ≡ moved_from difference x₀ y₀ p.number (gathered item_roles h.along.items ++ rs) l

@@ -5,144 +5,99 @@
 
 ghost use Rattle.std.specs.Prelude.{◌≡◌, ◌&&◌, length};
 ghost use Rattle.hatch_lists.specs.Items.{points_item};
-ghost use Rattle.differences.specs.Difference.{difference};
-ghost use Rattle.differences.specs.Limits.{is_within};
 ghost use Rattle.differences.specs.Upright.{is_upright};
-ghost use Rattle.moved_hatch.specs.Moving.{outcome, MovesOrigin};
-ghost use Rattle.moved_hatch.specs.Doubles.{of_doubles};
-ghost use Rattle.moved_hatch.specs.Parts.{moved_from, in_range_from};
-ghost use Rattle.move_origin.specs.Walked.{start_of, Walks, roles_at};
+ghost use Rattle.moved_hatch.specs.Moving.{moved, all_in_range, arithmetic, outcome, MovesOrigin};
+ghost use Rattle.moved_hatch.specs.Parts.{Movable};
+ghost use Rattle.move_origin.specs.Walked.{Walks, roles_of, may_move};
 
+use differences::{Coordinate, Judgement};
 use hatch_format::Vec3D;
 use hatch_lists::{HatchCounts, Item};
-use moved_hatch::{MoveOutcome, MoveRefusal};
+use moved_hatch::MoveRefusal;
 use whole_lists::Place;
 
-pub mod bits;
-
 // The seed points, as an item.
-pub fn seeds_item(seeds: usize) -> Item
-    ensures { result ≡ points_item seeds }
+fn seeds_item(c: HatchCounts) -> Item
+    ensures { result ≡ points_item c.num_seed_points }
 {
     Item {
         before: 0,
-        points: seeds,
+        points: c.num_seed_points,
         stride: 2,
         fit_points: 0,
         behind: 0,
     }
 }
 
-// Where the walk over a record's lists begins.
-pub fn start_of(c: HatchCounts) -> Place
-    ensures { result ≡ start_of c }
+// Whether each coordinate of whole lists, of which these are the words used, is in range: item by item, and then of the seed points.
+fn are_within<C: Coordinate>(c: HatchCounts, words: &[u32], numbers: &[C]) -> bool
+    requires { Walks c words.now (length numbers.now) }
+    ensures { result ≡ all_in_range C.within (roles_of c words.now) numbers.now }
 {
-    Place {
-        word: 0,
-        number: 0,
-        parts: 0,
-        paths: c.num_paths,
-        lines: c.num_pattern_lines,
-    }
-}
-
-// Whether each coordinate of the items from a place on, and of the seed points behind them, is in range.
-fn are_within(words: &[u32], numbers: &[f64], used: usize, from: Place, seeds: usize) -> bool
-    requires { Walks words.now (length numbers.now) used from seeds }
-    ensures { result ≡ in_range_from is_within from.number (roles_at words.now used from seeds) numbers.now }
-{
-    let mut at = from;
+    let mut at = Place::start(c);
     while !at.is_finished() {
-        match whole_lists::next_item(words, used, at) {
-            Some((i, to)) => {
-                if !point_runs::item_within(numbers, at.number, i) {
-                    return false;
-                }
-                at = to;
-            }
-            None => {
-                return false;
-            }
+        let Some((i, to)) = whole_lists::next_item(words, c.numbers_used, at) else {
+            return false;
+        };
+        if !point_runs::item_within(numbers, at.number, i) {
+            return false;
         }
+        at = to;
     }
-    point_runs::item_within(numbers, at.number, seeds_item(seeds))
+    point_runs::item_within(numbers, at.number, seeds_item(c))
 }
 
-// Each coordinate of the items from a place on, and of the seed points behind them, less the origin's.
-fn move_all(
-    words: &[u32],
-    numbers: &mut [f64],
-    used: usize,
-    from: Place,
-    seeds: usize,
-    x: f64,
-    y: f64,
-)
-    requires { Walks words.now (length numbers.old) used from seeds }
-    ensures { numbers.new ≡ moved_from difference x y from.number (roles_at words.now used from seeds) numbers.old }
+// Each of them less the origin's.
+fn move_all<C: Coordinate>(c: HatchCounts, words: &[u32], numbers: &mut [C], x: C, y: C)
+    requires { Walks c words.now (length numbers.old) × Movable C.can_minus x y 0 (roles_of c words.now) numbers.old }
+    ensures { numbers.new ≡ moved C.minus x y (roles_of c words.now) numbers.old }
 {
-    let mut at = from;
+    let mut at = Place::start(c);
     while !at.is_finished() {
-        match whole_lists::next_item(words, used, at) {
-            Some((i, to)) => {
-                point_runs::move_item(numbers, at.number, i, x, y);
-                at = to;
-            }
-            None => {
-                return;
-            }
-        }
+        let Some((i, to)) = whole_lists::next_item(words, c.numbers_used, at) else {
+            return;
+        };
+        point_runs::move_item(numbers, at.number, i, x, y);
+        at = to;
     }
-    point_runs::move_item(numbers, at.number, seeds_item(seeds), x, y);
+    point_runs::move_item(numbers, at.number, seeds_item(c), x, y);
 }
 
-// Whether both coordinates of an origin are in range.
-fn is_origin(x: f64, y: f64) -> bool
-    ensures { result ≡ is_within x && is_within y }
+// Whether a hatch may be moved by its plane, and then by the origin.
+fn may_move<C: Coordinate>(extrusion: Vec3D<C>, x: C, y: C) -> Result<(), MoveRefusal>
+    ensures { result ≡ may_move (is_upright (C.value extrusion.x) (C.value extrusion.y) (C.value extrusion.z)) (C.within x && C.within y) }
 {
-    if !differences::is_within(x) {
-        return false;
+    if !differences::is_upright(extrusion.x, extrusion.y, extrusion.z) {
+        return Err(MoveRefusal::OtherPlane);
     }
-    differences::is_within(y)
+    if !x.within().and(y.within()).holds() {
+        return Err(MoveRefusal::CoordinateOutOfRange);
+    }
+    Ok(())
 }
 
 // The points of a hatch relative to the origin (x, y), in place: its record's counts and extrusion, its words, and its numbers.
-pub fn move_origin(
+pub fn move_origin<C: Coordinate>(
     c: HatchCounts,
-    extrusion: Vec3D,
+    extrusion: Vec3D<C>,
     words: &[u32],
-    numbers: &mut [f64],
-    x: f64,
-    y: f64,
-) -> MoveOutcome
-    ensures { MovesOrigin of_doubles
-        (outcome of_doubles c (is_upright extrusion.x extrusion.y extrusion.z) words.now numbers.old x y)
+    numbers: &mut [C],
+    x: C,
+    y: C,
+) -> Result<(), MoveRefusal>
+    ensures { MovesOrigin (arithmetic C.pattern C.minus C.within)
+        (outcome (arithmetic C.pattern C.minus C.within) c
+        (is_upright (C.value extrusion.x) (C.value extrusion.y) (C.value extrusion.z)) words.now numbers.old x y)
         x y result numbers.old numbers.new }
 {
     if !whole_lists::is_whole(c, words, numbers.len()) {
-        return MoveOutcome::Refused(MoveRefusal::ListsNotWhole);
+        return Err(MoveRefusal::ListsNotWhole);
     }
-    let upright = differences::is_upright(extrusion.x, extrusion.y, extrusion.z);
-    let origin = is_origin(x, y);
-    if !upright {
-        return MoveOutcome::Refused(MoveRefusal::OtherPlane);
+    may_move(extrusion, x, y)?;
+    let used = &words[..c.words_used];
+    if !are_within(c, used, numbers) {
+        return Err(MoveRefusal::CoordinateOutOfRange);
     }
-    if !origin {
-        return MoveOutcome::Refused(MoveRefusal::CoordinateOutOfRange);
-    }
-    let used = c.numbers_used;
-    let seeds = c.num_seed_points;
-    if !are_within(&words[..c.words_used], numbers, used, start_of(c), seeds) {
-        return MoveOutcome::Refused(MoveRefusal::CoordinateOutOfRange);
-    }
-    move_all(
-        &words[..c.words_used],
-        numbers,
-        used,
-        start_of(c),
-        seeds,
-        x,
-        y,
-    );
-    MoveOutcome::Moved
+    move_all(c, used, numbers, x, y);
+    Ok(())
 }

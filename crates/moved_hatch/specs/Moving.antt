@@ -1,11 +1,9 @@
 -- A hatch's points relative to an origin: what a call answers, and every entry of the list of numbers afterwards. One definition for doubles and
 -- for their 64 bits: `A` is what an entry is. Assumes nothing.
-use Rattle.std.specs.Prelude.{◌≡◌, Bool, true, false, ◌&&◌, List, [], ◌∷◌, ℕ}
+use Rattle.std.specs.Prelude.{◌≡◌, Bool, true, false, ◌&&◌, List, [], ◌∷◌, ℕ, Result, Ok, Err}
 use Rattle.hatch_lists.specs.declared.HatchCounts.{HatchCounts}
 use Rattle.hatch_lists.specs.Whole.{Held, whole, not_whole, held}
 use Rattle.hatch_lists.specs.Coordinates.{Role, x, y, other, held_roles}
-use Rattle.moved_hatch.specs.declared.MoveOutcome.{MoveOutcome}
-use Rattle.moved_hatch.specs.declared.MoveOutcome.TheVariants.{Moved, Refused}
 use Rattle.moved_hatch.specs.declared.MoveRefusal.{MoveRefusal}
 use Rattle.moved_hatch.specs.declared.MoveRefusal.TheVariants.{ListsNotWhole, OtherPlane, CoordinateOutOfRange}
 
@@ -46,11 +44,14 @@ pub data Outcome : Type 0 where
   moves : List Role → Outcome
   refuses : MoveRefusal → Outcome
 
--- an entry's 64 bits, its difference to the origin's, and whether it is in range
+-- an entry's 64 bits, its difference to the origin's, and whether it is in range: of a trait Coordinate's members in crate differences
 pub record Arithmetic (A : Type 0) : Type 0 where
   pub pattern : A → ℕ
   pub difference : A → A → A
   pub in_range : A → Bool
+
+abbrev pub arithmetic : {A : Type 0} → (A → ℕ) → (A → A → A) → (A → Bool) → Arithmetic A
+arithmetic pattern minus within = record { pattern = pattern; difference = minus; in_range = within }
 
 abbrev pub patterns : {A : Type 0} → (A → ℕ) → List A → List ℕ
 patterns f [] = []
@@ -78,9 +79,9 @@ module _ {A : Type 0} (m : Arithmetic A) where
   after (refuses k) x₀ y₀ ns = ns
 
 -- ---- what a call ensures: its answer, and every entry of the list of numbers before and after it
-abbrev pub answer_of : Outcome → MoveOutcome
-answer_of (moves rs) = Moved
-answer_of (refuses k) = Refused k
+abbrev pub answer_of : Outcome → Result (Unit {0}) MoveRefusal
+answer_of (moves rs) = Ok tt
+answer_of (refuses k) = Err k
 
-abbrev pub MovesOrigin : {A : Type 0} → Arithmetic A → Outcome → A → A → MoveOutcome → (numbers numbers' : List A) → Type 0
+abbrev pub MovesOrigin : {A : Type 0} → Arithmetic A → Outcome → A → A → Result (Unit {0}) MoveRefusal → (numbers numbers' : List A) → Type 0
 MovesOrigin m o x₀ y₀ r numbers numbers' = (r ≡ answer_of o) × (numbers' ≡ after m o x₀ y₀ numbers)

@@ -3,17 +3,28 @@
 // specs/ have the order of refusals and every entry afterwards; they prove that a moved hatch is whole, and proofs/ how near each difference is.
 #![tactic(auto)]
 
+use std::error::Error;
+use std::fmt;
+
 // Why points are not moved: record and lists are not whole, the extrusion is not (0, 0, 1), or the origin or a coordinate is beyond ±2^40.
-#[derive(Clone, Copy)]
+#[derive(Clone, Copy, Debug, PartialEq, Eq)]
 pub enum MoveRefusal {
     ListsNotWhole,
     OtherPlane,
     CoordinateOutOfRange,
 }
 
-// What a call answers; the moved numbers stand in the list.
-#[derive(Clone, Copy)]
-pub enum MoveOutcome {
-    Moved,
-    Refused(MoveRefusal),
+impl fmt::Display for MoveRefusal {
+    fn fmt<W: fmt::Write>(&self, f: &mut fmt::Formatter<W>) -> fmt::Result {
+        match self {
+            MoveRefusal::ListsNotWhole => write!(f, "record and lists are not whole"),
+            MoveRefusal::OtherPlane => write!(f, "the extrusion is not (0, 0, 1)"),
+            MoveRefusal::CoordinateOutOfRange => write!(
+                f,
+                "the origin or a coordinate is beyond 2^40"
+            ),
+        }
+    }
 }
+
+impl Error for MoveRefusal {}

@@ -1,6 +1,6 @@
 -- The coordinates of an item are those of its points and of its fit points; the numbers before and behind them are none. Assumes nothing.
 use mathlib.Core.Path.{◌≡◌, sym, ap, ap₂, subst, ◌∙◌}
-use mathlib.Core.Bool.{Bool, true, false, ◌&&◌, and-true, and-eq-true_iff}
+use mathlib.Core.Bool.{Bool, true, ◌&&◌, and-true, and-eq-true_iff}
 use mathlib.Core.List.{List, ◌++◌}
 use Prim.Native.Nat.{ℕ, ◌+◌, ◌*◌, ◌≤◌}
 use native.Mathlib.Omega.{arith}
@@ -11,24 +11,23 @@ use Rattle.hatch_lists.proofs.CoordinateLaws.{run_long}
 use Rattle.moved_hatch.specs.Moving.{all_in_range}
 use Rattle.moved_hatch.specs.Parts.{moved_from, in_range_from, Movable}
 use Rattle.point_runs.proofs.PartLaws.{others_in_range, in_range_behind, others_from, moved_from_length, moved_behind, stays_behind}
-use Rattle.point_runs.proofs.PointLaws.{refused, passed}
 
 module _ (i : Item) (from : ℕ) where
   -- where its points begin, and where its fit points do
   abbrev points_at : ℕ
   points_at = from + i.before
 
-  abbrev fits_at : ℕ
+  abbrev pub fits_at : ℕ
   fits_at = points_at + i.points * i.stride
 
   abbrev points : List Role
   points = point_run i.stride i.points
 
-  abbrev fits : List Role
+  abbrev pub fits : List Role
   fits = point_run 2 i.fit_points
 
   module _ {A : Type 0} (in_range : A → Bool) (two : 2 ≤ i.stride) (l : List A) where
-    item_in_range : in_range_from in_range from (item_roles i) l ≡ in_range_from in_range points_at points l && in_range_from in_range fits_at fits l
+    pub item_in_range : in_range_from in_range from (item_roles i) l ≡ in_range_from in_range points_at points l && in_range_from in_range fits_at fits l
     item_in_range =
         let behind = others i.behind in
         in_range_behind in_range from (others i.before) (points ++ (fits ++ behind)) l
@@ -42,14 +41,6 @@ module _ (i : Item) (from : ℕ) where
         last =
             in_range_behind in_range fits_at fits (others i.behind) l
             ∙ ap (λ b. in_range_from in_range fits_at fits l && b) (others_in_range in_range i.behind _) ∙ and-true (in_range_from in_range fits_at fits l)
-
-    -- the answer for the points, and what it was found to be
-    module _ (b : Bool) (judged : b ≡ in_range_from in_range points_at points l) where
-      pub points_beyond : b ≡ false → in_range_from in_range from (item_roles i) l ≡ false
-      points_beyond t = item_in_range ∙ ap (λ c. c && in_range_from in_range fits_at fits l) (refused b t judged)
-
-      pub fits_decide : b ≡ true → in_range_from in_range from (item_roles i) l ≡ in_range_from in_range fits_at fits l
-      fits_decide t = item_in_range ∙ ap (λ c. c && in_range_from in_range fits_at fits l) (passed b t judged)
 
   module _ {A : Type 0} (difference : A → A → A) (x₀ y₀ : A) (two : 2 ≤ i.stride) (l : List A) (room : fits_at ≤ length l) where
     item_moved : moved_from difference x₀ y₀ from (item_roles i) l

@@ -1,63 +1,39 @@
 -- Points with so many numbers from each to the next: a run is judged by its first points and then by those behind them, and moved point by point.
 -- Assumes nothing.
-use mathlib.Core.Path.{◌≡◌, refl, sym, ap, ap₂, ◌∙◌}
-use mathlib.Core.Bool.{Bool, true, false, ◌&&◌, and-eq-true_iff, and-true}
+use mathlib.Core.Path.{◌≡◌, sym, ap, ap₂, subst, ◌∙◌}
+use mathlib.Core.Bool.{Bool, true, false, ◌&&◌, and-eq-true_iff, and-true, and-false}
 use mathlib.Core.List.{List, [], ◌∷◌, ◌++◌, append_assoc, append-nil}
-use Prim.Native.Nat.{ℕ, zero, suc, ◌+◌, ◌-◌, ◌*◌, ◌^◌, ◌≤◌, ◌<◌}
-use native.Mathlib.Nat.{sub-zero, suc-mul, add-mul, mul-le-mul_right}
+use Prim.Native.Nat.{ℕ, zero, suc, ◌+◌, ◌-◌, ◌*◌, ◌≤◌}
+use native.Mathlib.Nat.{add-mul, mul-le-mul_right}
 use native.Mathlib.Omega.{arith}
-use lib.Bits.{bit_or, or_lt, or_add_and, and_le_l, and_le_r}
-use borrow.Author.Tests.{lt-ltb, le-ltb, ltb-true, ltb-false}
-use lib.ListN.{length, get_or, set, take, drop, take-append-drop, length-set, length-replicate}
-use lib.Seq.{drop-cons, get_or-set_other, sets-eq, drop-set-lt}
-use Rattle.differences.specs.Limits.{below}
-use Rattle.hatch_lists.specs.Coordinates.{Role, x, y, others, point_run}
+use lib.ListN.{length, get_or, set, take, drop}
+use lib.Seq.{drop-cons, sets-eq}
+use Rattle.hatch_lists.specs.Coordinates.{x, y, others, point_run}
 use Rattle.hatch_lists.proofs.CoordinateLaws.{run_long}
 use Rattle.moved_hatch.specs.Moving.{moved, all_in_range}
 use Rattle.moved_hatch.specs.MovedLists.{moved_others}
-use Rattle.moved_hatch.specs.Parts.{moved_from, in_range_from}
-use Rattle.point_runs.proofs.PartLaws.{others_in_range, in_range_behind, moved_behind}
+use Rattle.moved_hatch.specs.Parts.{moved_from, in_range_from, Movable}
+use Rattle.point_runs.proofs.PartLaws.{others_in_range, in_range_behind, moved_behind, moved_from_length, stays_behind}
 
--- ---- what a call answered, from the test of it
-pub refused : (b : Bool) {c : Bool} → b ≡ false → b ≡ c → c ≡ false
-refused b e f = sym f ∙ e
+-- a point's two numbers, read at its index and the next
+pub record Read {A : Type 0} (l : List A) (at : ℕ) (v w : A) : Type 0 where
+  pub there : at + 2 ≤ length l
+  pub is_x : v ≡ get_or l at v
+  pub is_y : w ≡ get_or l (at + 1) w
 
-pub passed : (b : Bool) {c : Bool} → b ≡ true → b ≡ c → c ≡ true
-passed b e f = sym f ∙ e
-
--- ---- the roles of one point, and the index of each
-abbrev a_point : ℕ → List Role
-a_point stride = x ∷ (y ∷ others (stride - 2))
-
-point_long : (stride : ℕ) → 2 ≤ stride → length (a_point stride) ≡ stride
-point_long stride h = simp length-replicate (omega arith)
-
-two_numbers : {A : Type 0} (z : A) (l : List A) (at : ℕ) → at + 2 ≤ length l → drop at l ≡ get_or l at z ∷ (get_or l (at + 1) z ∷ drop (at + 2) l)
-two_numbers z l at h =
+two_numbers : {A : Type 0} {l : List A} {at : ℕ} {v w : A} → Read l at v w → drop at l ≡ v ∷ (w ∷ drop (at + 2) l)
+two_numbers {A} {l} {at} {v} {w} r =
     let e : suc at ≡ at + 1 = omega arith in
     let f : suc (at + 1) ≡ at + 2 = omega arith in
-    drop-cons l at z (omega arith)
-    ∙ ap (λ m. get_or l at z ∷ m) (ap (λ n. drop n l) e ∙ drop-cons l (at + 1) z (omega arith) ∙ ap (λ n. get_or l (at + 1) z ∷ drop n l) f)
+    drop-cons l at v (omega (arith, r.there)) ∙ ap₂ (λ a n. a ∷ drop n l) (sym r.is_x) e
+    ∙ ap (λ m. v ∷ m) (drop-cons l (at + 1) w (omega (arith, r.there)) ∙ ap₂ (λ a n. a ∷ drop n l) (sym r.is_y) f)
 
--- i of n points are passed, and the next begins at an index
-abbrev pub Reached : ℕ → ℕ → ℕ → ℕ → ℕ → Type 0
-Reached stride from n at i = at + (n - i) * stride ≡ from + n * stride
+-- fewer points have room where more have
+pub fewer_there : (stride at : ℕ) {k n : ℕ} → k ≤ n → at + k * stride ≤ at + n * stride
+fewer_there stride at h = let e = mul-le-mul_right stride h in omega (arith, e)
 
-pub reached_first : (stride from n : ℕ) → Reached stride from n from 0
-reached_first stride from n = ap (λ m. from + m * stride) (sub-zero n)
-
-pub reached_next : (stride from n at i : ℕ) → i < n → Reached stride from n at i → Reached stride from n (at + stride) (i + 1)
-reached_next stride from n at i lt h =
-    let e : n - i ≡ suc (n - (i + 1)) = omega arith in
-    let f = ap (λ m. m * stride) e ∙ suc-mul (n - (i + 1)) stride in
-    omega (arith, f)
-
--- the numbers of the next point are there
-pub point_there : (stride from n at i : ℕ) → i < n → Reached stride from n at i → at + stride ≤ from + n * stride
-point_there stride from n at i lt h = let r = reached_next stride from n at i lt h in omega (arith, r)
-
--- ---- judged: runs one behind the other
-run_behind : (stride k m : ℕ) → point_run stride (k + m) ≡ point_run stride k ++ point_run stride m
+-- ---- runs one behind the other
+pub run_behind : (stride k m : ℕ) → point_run stride (k + m) ≡ point_run stride k ++ point_run stride m
 run_behind stride zero m = let e : 0 + m ≡ m = omega arith in ap (point_run stride) e
 run_behind stride (suc k) m =
     let e : suc k + m ≡ suc (k + m) = omega arith in
@@ -67,7 +43,7 @@ run_behind stride (suc k) m =
 
 module _ {A : Type 0} (in_range : A → Bool) (stride : ℕ) (two : 2 ≤ stride) (l : List A) where
   -- whether the coordinates of n points from an index on are in range
-  abbrev in_run : ℕ → ℕ → Bool
+  abbrev pub in_run : ℕ → ℕ → Bool
   in_run at n = in_range_from in_range at (point_run stride n) l
 
   pub run_then : (at k m : ℕ) → in_run at (k + m) ≡ in_run at k && in_run (at + k * stride) m
@@ -75,177 +51,88 @@ module _ {A : Type 0} (in_range : A → Bool) (stride : ℕ) (two : 2 ≤ stride
       ap (λ rs. in_range_from in_range at rs l) (run_behind stride k m) ∙ in_range_behind in_range at (point_run stride k) (point_run stride m) l
       ∙ ap (λ j. in_run at k && in_run (at + j) m) (run_long stride k two)
 
-  module _ (z : A) where
-    -- of the point at an index
-    abbrev in_point : ℕ → Bool
-    in_point at = in_range (get_or l at z) && in_range (get_or l (at + 1) z)
+  pub run_one : {at : ℕ} {v w : A} → Read l at v w → in_run at 1 ≡ in_range v && in_range w
+  run_one {at} {v} {w} r =
+      ap (all_in_range in_range (point_run stride 1)) (two_numbers r)
+      ∙ ap (λ b. in_range v && (in_range w && b))
+      (ap (λ rs. all_in_range in_range rs (drop (at + 2) l)) (append-nil (others (stride - 2))) ∙ others_in_range in_range (stride - 2) (drop (at + 2) l))
+      ∙ ap (λ b. in_range v && b) (and-true (in_range w))
 
-    pub run_one : (at : ℕ) → at + 2 ≤ length l → in_run at 1 ≡ in_point at
-    run_one at h =
-        ap (λ rs. in_range_from in_range at (x ∷ (y ∷ rs)) l) (append-nil (others (stride - 2)))
-        ∙ ap (all_in_range in_range (a_point stride)) (two_numbers z l at h)
-        ∙ ap (λ b. in_range (get_or l at z) && b)
-        (ap (λ b. in_range (get_or l (at + 1) z) && b) (others_in_range in_range (stride - 2) (drop (at + 2) l)) ∙ and-true (in_range (get_or l (at + 1) z)))
+  pub run_two : (at : ℕ) → in_run at 2 ≡ in_run at 1 && in_run (at + stride) 1
+  run_two at = let e : 1 * stride ≡ stride = omega arith in run_then at 1 1 ∙ ap (λ n. in_run at 1 && in_run (at + n) 1) e
 
-    pub run_next : (at m : ℕ) → at + 2 ≤ length l → in_run at (suc m) ≡ in_point at && in_run (at + stride) m
-    run_next at m h =
-        let e : 1 * stride ≡ stride = omega arith in
-        let f : suc m ≡ 1 + m = omega arith in
-        ap (in_run at) f ∙ run_then at 1 m ∙ ap₂ (λ b j. b && in_run (at + j) m) (run_one at h) e
+  -- four points more: where they are not in range, no longer run is
+  pub run_fails : (from k n : ℕ) → k + 4 ≤ n → in_run (from + k * stride) 4 ≡ false → in_run from n ≡ false
+  run_fails from k n h e =
+      let f : n ≡ k + (4 + (n - (k + 4))) = omega arith in
+      let rest = n - (k + 4) in
+      ap (in_run from) f ∙ run_then from k (4 + rest)
+      ∙ ap (λ b. in_run from k && b) (run_then (from + k * stride) 4 rest ∙ ap (λ b. b && in_run (from + k * stride + 4 * stride) rest) e)
+      ∙ and-false (in_run from k)
 
-    pub run_two : (at : ℕ) → at + 2 * stride ≤ length l → in_run at 2 ≡ in_point at && in_point (at + stride)
-    run_two at h = run_next at 1 (omega arith) ∙ ap (λ b. in_point at && b) (run_one (at + stride) (omega arith))
+  -- a run with a first part that is in range
+  pub run_rest : (from k n : ℕ) → k ≤ n → in_run from k ≡ true → in_run from n ≡ in_run (from + k * stride) (n - k)
+  run_rest from k n h e =
+      let f : n ≡ k + (n - k) = omega arith in
+      ap (in_run from) f ∙ run_then from k (n - k) ∙ ap (λ b. b && in_run (from + k * stride) (n - k)) e
 
--- fewer points have room where more have
-pub fewer_there : (stride at : ℕ) {k n : ℕ} → k ≤ n → at + k * stride ≤ at + n * stride
-fewer_there stride at h = let e = mul-le-mul_right stride h in omega (arith, e)
+-- ---- a point moved
+module _ {A : Type 0} (difference : A → A → A) (x₀ y₀ : A) (stride : ℕ) (l : List A) where
+  -- by its two stores
+  pub stored : {at : ℕ} {v w a b : A} → Read l at v w → a ≡ difference v x₀ → b ≡ difference w y₀
+      → set (set l at a) (at + 1) b ≡ moved_from difference x₀ y₀ at (point_run stride 1) l
+  stored {at} {v} {w} {a} {b} r ea eb =
+      let e : suc at ≡ at + 1 = omega arith in
+      let rest = drop (at + 2) l in
+      sym
+      (ap (λ m. take at l ++ moved difference x₀ y₀ (point_run stride 1) m) (two_numbers r)
+      ∙ ap₂ (λ c d. take at l ++ (c ∷ (d ∷ moved difference x₀ y₀ (others (stride - 2) ++ []) rest))) (sym ea) (sym eb)
+      ∙ ap (λ rs. take at l ++ (a ∷ (b ∷ moved difference x₀ y₀ rs rest))) (append-nil (others (stride - 2)))
+      ∙ ap (λ m. take at l ++ (a ∷ (b ∷ m))) (moved_others difference x₀ y₀ (stride - 2) rest)
+      ∙ sym (sets-eq (a ∷ (b ∷ [])) l at (omega (arith, r.there)) ∙ append_assoc (take at l) (a ∷ (b ∷ [])) rest)
+      ∙ ap (λ n. set (set l at a) n b) e)
 
--- the last points of a run: one, two, or two and then one
-module _ {A : Type 0} (in_range : A → Bool) (stride : ℕ) (two : 2 ≤ stride) (l : List A) (z : A) (at n : ℕ) (room : at + n * stride ≤ length l) where
-  pub last_one : n ≡ 1 → {b : Bool} → b ≡ in_point in_range stride two l z at → b ≡ in_run in_range stride two l at n
-  last_one e eb =
-      let one = ap (λ k. k * stride) e in
-      eb ∙ sym (run_one in_range stride two l z at (omega (arith, room, two, one))) ∙ ap (in_run in_range stride two l at) (sym e)
+-- each number of a point that may be moved may be subtracted from, and the origin's subtracted
+pub both_may : {A : Type 0} (may : A → Bool) (stride : ℕ) → 2 ≤ stride → (l : List A) {x₀ y₀ : A} {at : ℕ} {v w : A} → Read l at v w
+    → Movable may x₀ y₀ at (point_run stride 1) l → ((may v ≡ true) × (may x₀ ≡ true)) × ((may w ≡ true) × (may y₀ ≡ true))
+both_may may stride two l {x₀} {y₀} {at} {v} {w} r h =
+    let read = (and-eq-true_iff (may v) (may w)).0 (sym (run_one may stride two l r) ∙ h.coordinates) in
+    let origin = (and-eq-true_iff (may x₀) (may y₀)).0 h.origin in
+    ((read.0, origin.0), (read.1, origin.1))
 
-  pub last_two : n ≡ 2 → {b : Bool} → b ≡ in_run in_range stride two l at 2 → b ≡ in_run in_range stride two l at n
-  last_two e eb = eb ∙ ap (in_run in_range stride two l at) (sym e)
+-- ---- the first i points moved, and then the next
+module _ {A : Type 0} (difference : A → A → A) (x₀ y₀ : A) (stride : ℕ) (two : 2 ≤ stride) (l₀ : List A) (from : ℕ) where
+  abbrev pub moved_run : ℕ → List A
+  moved_run i = moved_from difference x₀ y₀ from (point_run stride i) l₀
 
-  pub last_three : n ≡ 3 → {b c : Bool} → b ≡ in_run in_range stride two l at 2 → c ≡ in_point in_range stride two l z (at + 2 * stride)
-      → b && c ≡ in_run in_range stride two l at n
-  last_three e eb ec =
-      let three = ap (λ k. k * stride) e in
-      ap₂ (λ b c. b && c) eb (ec ∙ sym (run_one in_range stride two l z (at + 2 * stride) (omega (arith, room, two, three))))
-      ∙ sym (run_then in_range stride two l at 2 1) ∙ ap (in_run in_range stride two l at) (sym e)
+  module _ {l : List A} (i : ℕ) (room : from + (i + 1) * stride ≤ length l₀) (so_far : l ≡ moved_run i) where
+    abbrev at : ℕ
+    at = from + i * stride
 
--- so many points are left, and they decide
-pub record Judged {A : Type 0} (in_range : A → Bool) (stride : ℕ) (l : List A) (from n at left : ℕ) : Type 0 where
-  pub reached : at + left * stride ≡ from + n * stride
-  pub same : in_range_from in_range from (point_run stride n) l ≡ in_range_from in_range at (point_run stride left) l
+    pub next_there : at + stride ≤ length l
+    next_there =
+        let long = ap length so_far ∙ moved_from_length difference x₀ y₀ from (point_run stride i) l₀ in
+        let e = add-mul i 1 stride in
+        omega (arith, long, e, room)
 
-module _ {A : Type 0} (in_range : A → Bool) (stride : ℕ) (two : 2 ≤ stride) (l : List A) where
-  pub judged_none : (from n : ℕ) → Judged in_range stride l from n from n
-  judged_none from n = record { reached = refl; same = refl }
+    pub next_moved : moved_from difference x₀ y₀ at (point_run stride 1) l ≡ moved_run (i + 1)
+    next_moved =
+        sym
+        (ap (λ rs. moved_from difference x₀ y₀ from rs l₀) (run_behind stride i 1)
+        ∙ moved_behind difference x₀ y₀ from (point_run stride i) (point_run stride 1) l₀ (omega arith)
+        ∙ ap₂ (λ k m. moved_from difference x₀ y₀ (from + k) (point_run stride 1) m) (run_long stride i two) (sym so_far))
 
-  module _ {from n at left : ℕ} (h : Judged in_range stride l from n at left) (lt : 3 < left) where
-    -- four of them, and the rest
-    four : left ≡ 4 + (left - 4)
-    four = omega (arith, lt)
-
-    four_reached : at + 4 * stride + (left - 4) * stride ≡ from + n * stride
-    four_reached =
-        let e = ap (λ k. k * stride) four in
-        let f = add-mul 4 (left - 4) stride in
-        omega (arith, h.reached, e, f)
-
-    pub four_there : at + 4 * stride ≤ from + n * stride
-    four_there = omega (arith, four_reached)
-
-    four_same : in_range_from in_range from (point_run stride n) l
-        ≡ (in_run in_range stride two l at 2 && in_run in_range stride two l (at + 2 * stride) 2)
-        && in_run in_range stride two l (at + 4 * stride) (left - 4)
-    four_same =
-        h.same ∙ ap (in_run in_range stride two l at) four ∙ run_then in_range stride two l at 4 (left - 4)
-        ∙ ap (λ b. b && in_run in_range stride two l (at + 4 * stride) (left - 4)) (run_then in_range stride two l at 2 2)
-
-    module _ {b c : Bool} (eb : b ≡ in_run in_range stride two l at 2) (ec : c ≡ in_run in_range stride two l (at + 2 * stride) 2) where
-      pub judged_next : b && c ≡ true → Judged in_range stride l from n (at + 4 * stride) (left - 4)
-      judged_next t =
-          record {
-            reached = four_reached;
-            same = four_same ∙ ap (λ d. d && in_run in_range stride two l (at + 4 * stride) (left - 4)) (sym (ap₂ (λ d e. d && e) eb ec) ∙ t);
-          }
-
-      pub judged_beyond : b && c ≡ false → false ≡ in_range_from in_range from (point_run stride n) l
-      judged_beyond t =
-          sym (four_same ∙ ap (λ d. d && in_run in_range stride two l (at + 4 * stride) (left - 4)) (sym (ap₂ (λ d e. d && e) eb ec) ∙ t))
-
--- ---- gathered by `|`: the top bit tells whether one of them has it
-pub gathered : (a b : ℕ) → below (bit_or a b) ≡ below a && below b
-gathered a b = go (below a) (below b) refl refl
-  where
-    go : (s t : Bool) → below a ≡ s → below b ≡ t → below (bit_or a b) ≡ s && t
-    go true true e f = lt-ltb (bit_or a b) (2 ^ 63) (or_lt 63 a b (ltb-true a (2 ^ 63) e) (ltb-true b (2 ^ 63) f))
-    go true false e f = let high = ltb-false b (2 ^ 63) f in le-ltb (bit_or a b) (2 ^ 63) (omega (arith, high, or_add_and a b, and_le_l a b))
-    go false t e f = let high = ltb-false a (2 ^ 63) e in le-ltb (bit_or a b) (2 ^ 63) (omega (arith, high, or_add_and a b, and_le_r a b))
-
--- ---- i of n points are moved: what is left to move of the list is what the whole moves of the first
-pub record Moved {A : Type 0} (difference : A → A → A) (x₀ y₀ : A) (stride : ℕ) (l₀ : List A) (from n : ℕ) (l : List A) (at i : ℕ) : Type 0 where
-  pub reached : Reached stride from n at i
-  pub long : length l ≡ length l₀
-  pub same : moved_from difference x₀ y₀ from (point_run stride n) l₀ ≡ moved_from difference x₀ y₀ at (point_run stride (n - i)) l
-
-module _ {A : Type 0} (difference : A → A → A) (x₀ y₀ : A) (stride : ℕ) where
-  pub moved_none : (l : List A) (from n : ℕ) → Moved difference x₀ y₀ stride l from n l from 0
-  moved_none l from n =
-      record {
-        reached = reached_first stride from n;
-        long = refl;
-        same = ap (λ m. moved_from difference x₀ y₀ from (point_run stride m) l) (sym (sub-zero n));
-      }
-
-  pub moved_all : {l₀ l : List A} {from n at i : ℕ} → Moved difference x₀ y₀ stride l₀ from n l at i → n ≤ i
-      → l ≡ moved_from difference x₀ y₀ from (point_run stride n) l₀
-  moved_all {l₀} {l} {from} {n} {at} {i} h le =
-      let e : n - i ≡ 0 = omega arith in
-      sym (h.same ∙ ap (λ m. moved_from difference x₀ y₀ at (point_run stride m) l) e ∙ take-append-drop at l)
-
-  module _ (z : A) (two : 2 ≤ stride) where
-    -- the two stores of a point, the second into the list that the first left
-    stored : (l : List A) (at : ℕ) (a b : A) → at + stride ≤ length l → a ≡ difference (get_or l at z) x₀ → b ≡ difference (get_or (set l at a) (at + 1) z) y₀
-        → moved_from difference x₀ y₀ at (a_point stride) l ≡ set (set l at a) (at + 1) b
-    stored l at a b h ea eb =
-        let e : suc at ≡ at + 1 = omega arith in
-        let same : get_or (set l at a) (at + 1) z ≡ get_or l (at + 1) z = get_or-set_other l at (at + 1) a z (λ k. omega (arith, k)) in
-        let eb' = eb ∙ ap (λ c. difference c y₀) same in
-        ap (λ m. take at l ++ moved difference x₀ y₀ (a_point stride) m) (two_numbers z l at (omega arith))
-        ∙ ap₂ (λ c d. take at l ++ (c ∷ (d ∷ moved difference x₀ y₀ (others (stride - 2)) (drop (at + 2) l)))) (sym ea) (sym eb')
-        ∙ ap (λ m. take at l ++ (a ∷ (b ∷ m))) (moved_others difference x₀ y₀ (stride - 2) (drop (at + 2) l))
-        ∙ sym (sets-eq (a ∷ (b ∷ [])) l at (omega arith) ∙ append_assoc (take at l) (a ∷ (b ∷ [])) (drop (at + 2) l))
-        ∙ ap (λ n. set (set l at a) n b) e
-
-    pub moved_next : {l₀ l : List A} {from n at i : ℕ} → Moved difference x₀ y₀ stride l₀ from n l at i → from + n * stride ≤ length l₀ → i < n
-        → {a b : A} → a ≡ difference (get_or l at z) x₀ → b ≡ difference (get_or (set l at a) (at + 1) z) y₀
-        → Moved difference x₀ y₀ stride l₀ from n (set (set l at a) (at + 1) b) (at + stride) (i + 1)
-    moved_next {l₀} {l} {from} {n} {at} {i} h room lt {a} {b} ea eb =
-        let e : n - i ≡ suc (n - (i + 1)) = omega arith in
-        let there = point_there stride from n at i lt h.reached in
-        let rest = point_run stride (n - (i + 1)) in
-        record {
-          reached = reached_next stride from n at i lt h.reached;
-          long = simp length-set h.long;
-          same = h.same ∙ ap (λ m. moved_from difference x₀ y₀ at (point_run stride m) l) e
-              ∙ moved_behind difference x₀ y₀ at (a_point stride) rest l (omega (arith, h.long))
-              ∙ ap₂ (λ k m. moved_from difference x₀ y₀ (at + k) rest m) (point_long stride two) (stored l at a b (omega (arith, h.long)) ea eb);
-        }
-
--- ---- the points left to move are in range: the next is, and its stores leave those behind it as they were
-abbrev pub Ahead : {A : Type 0} → (A → Bool) → ℕ → List A → ℕ → ℕ → ℕ → Type 0
-Ahead in_range stride l n at i = in_range_from in_range at (point_run stride (n - i)) l ≡ true
-
-module _ {A : Type 0} (in_range : A → Bool) (stride : ℕ) where
-  pub ahead_first : (l : List A) (from n : ℕ) → in_range_from in_range from (point_run stride n) l ≡ true → Ahead in_range stride l n from 0
-  ahead_first l from n e = ap (λ m. in_range_from in_range from (point_run stride m) l) (sub-zero n) ∙ e
-
-  module _ (z : A) (two : 2 ≤ stride) (l : List A) (n at i : ℕ) (room : at + stride ≤ length l) (lt : i < n) (h : Ahead in_range stride l n at i) where
-    split : (in_range (get_or l at z) && in_range (get_or l (at + 1) z) ≡ true)
-        × (in_range_from in_range (at + stride) (point_run stride (n - (i + 1))) l ≡ true)
-    split =
-        let e : n - i ≡ suc (n - (i + 1)) = omega arith in
-        (and-eq-true_iff (in_range (get_or l at z) && in_range (get_or l (at + 1) z)) (in_range_from in_range (at + stride) (point_run stride (n -
-        (i + 1))) l)).0
-        (sym (ap (λ m. in_range_from in_range at (point_run stride m) l) e ∙ run_next in_range stride two l z at (n - (i + 1)) (omega arith)) ∙ h)
-
-    pub x_ahead : in_range (get_or l at z) ≡ true
-    x_ahead = ((and-eq-true_iff (in_range (get_or l at z)) (in_range (get_or l (at + 1) z))).0 split.0).0
-
-    -- read behind the store of the new x
-    pub y_ahead : (a : A) → in_range (get_or (set l at a) (at + 1) z) ≡ true
-    y_ahead a =
-        ap in_range (get_or-set_other l at (at + 1) a z (λ k. omega (arith, k)))
-        ∙ ((and-eq-true_iff (in_range (get_or l at z)) (in_range (get_or l (at + 1) z))).0 split.0).1
-
-    pub ahead_next : (a b : A) → Ahead in_range stride (set (set l at a) (at + 1) b) n (at + stride) (i + 1)
-    ahead_next a b =
-        ap (all_in_range in_range (point_run stride (n - (i + 1))))
-        (drop-set-lt (at + stride) (set l at a) (at + 1) b (omega arith) ∙ drop-set-lt (at + stride) l at a (omega arith))
-        ∙ split.1
+    -- what may be moved ahead may be so still
+    pub next_movable : {may : A → Bool} {n : ℕ} → i + 1 ≤ n → Movable may x₀ y₀ from (point_run stride n) l₀
+        → Movable may x₀ y₀ at (point_run stride 1) l
+    next_movable {may} {n} h all =
+        let f : n ≡ i + (1 + (n - (i + 1))) = omega arith in
+        let rest = n - (i + 1) in
+        let run = in_run may stride two l₀ in
+        let first = (and-eq-true_iff (run from i) (run at (1 + rest))).0
+        (sym (ap (run from) f ∙ run_then may stride two l₀ from i (1 + rest)) ∙ all.coordinates) in
+        let next = (and-eq-true_iff (run at 1) (run (at + 1 * stride) rest)).0 (sym (run_then may stride two l₀ at 1 rest) ∙ first.1) in
+        let same : drop at l ≡ drop at l₀ = ap (drop at) so_far
+        ∙ subst (λ n. drop (from + n) (moved_run i) ≡ drop (from + n) l₀) (run_long stride i two)
+        (stays_behind difference x₀ y₀ from (point_run stride i) l₀ (omega arith)) in
+        record { origin = all.origin; coordinates = ap (all_in_range may (point_run stride 1)) same ∙ next.0 }

@@ -1,2 +1,3 @@
 pub mod Format
 pub mod Demand3
+pub mod Records

@@ -1,2 +1,3 @@
 pub mod Parts
+pub mod InParts
 pub mod PlainColours

@@ -1,19 +1,16 @@
 -- A colour below 2000 has none of 80, 40 and 20 set in its high byte, so nothing follows it. Assumes nothing.
-use Rattle.std.specs.Prelude.{◌≡◌, Bool, true, false, not, ◌&&◌, List, ℕ, ◌/◌, ◌^◌, ◌<◌}
-use Rattle.std.proofs.Math.Path.{refl}
-use Rattle.std.proofs.Common.{ap, ◌∙◌, arith}
-use Rattle.bitcursor.specs.declared.Read.{Read}
-use Rattle.bitcursor.specs.declared.Read.TheVariants.{Value, Refused}
+use Rattle.std.specs.Prelude.{◌≡◌, Bool, true, false, not, ◌&&◌, List, ℕ, ◌/◌, ◌^◌, ◌<◌, None}
+use Rattle.std.proofs.Common.{refl, sym, ap, ◌∙◌, arith}
 use Rattle.loads.specs.Bits.{odd}
-use Rattle.bitcursor.specs.Code.{raw, give}
+use Rattle.bitcursor.specs.Reading.{Out, got, and_then}
+use Rattle.bitcursor.specs.Code.{give, ◌>>=◌}
 use Rattle.bitcursor.specs.Codes.{BS, BL}
-use Rattle.bitcursor.specs.Held.{held}
-use Rattle.sequence.specs.Sequence.{then_read, value_of}
+use Rattle.bitcursor.specs.Held.{held, marked}
 use Rattle.prefix_format.specs.declared.table.Row.{Row}
 use Rattle.prefix_parts.specs.declared.Colours.{Colours}
 use Rattle.prefix_format.specs.Values.{flag, has_rgb, has_alpha, has_name, has_book_name}
 use Rattle.prefix_format.specs.Prefix.{name}
-use Rattle.prefix_parts.specs.Parts.{colours_of}
+use Rattle.prefix_parts.specs.Parts.{colours}
 
 and_false : (b : Bool) → (b && false) ≡ false
 and_false true = refl
@@ -42,44 +39,22 @@ module _ (row : Row) (c : ℕ) (h : c < 0x2000) where
   no_book_name = ap (λ (b : Bool). row.color_flags && (b && flag 9 c)) no_40 ∙ and_false row.color_flags
 
 module _ (row : Row) (xs : List ℕ) where
-  -- the colours of a colour's short, by which fields behind it are present
-  abbrev with_present : Bool → Bool → Bool → Bool → Read → Colours
-  with_present rgb alpha named book x₁ =
-      let x₂ = then_read ((held rgb BL 0).read xs) x₁ in
-      let x₃ = then_read ((held alpha BL 0).read xs) x₂ in
-      let x₄ = then_read ((held named (name row.wide_names) 0).read xs) x₃ in
-      let x₅ = then_read ((held book (name row.wide_names) 0).read xs) x₄ in
-      record {
-        colour = value_of x₁;
-        has_rgb = rgb;
-        rgb = value_of x₂;
-        has_alpha = alpha;
-        alpha = value_of x₃;
-        named = value_of x₄;
-        last = x₅;
-      }
+  -- what follows a colour's short, by which fields are present
+  abbrev behind_short : Bool → Bool → Bool → Bool → ℕ → ℕ → Out ℕ Colours
+  behind_short rgb alpha named book c q =
+      and_then ((marked rgb BL).read xs q) (λ r q₁.
+      and_then ((marked alpha BL).read xs q₁) (λ a q₂.
+      and_then ((held named (name row.wide_names) tt).read xs q₂) (λ n q₃.
+      and_then ((held book (name row.wide_names) tt).read xs q₃) (λ b q₄.
+      got (record { color_raw = c; color_rgb = r; color_alpha = a }) q₄))))
 
-  -- with none
-  abbrev pub without : Read → Colours
-  without x =
-      record {
-        colour = value_of x;
-        has_rgb = false;
-        rgb = 0;
-        has_alpha = false;
-        alpha = 0;
-        named = 0;
-        last = then_read ((held false (raw 1) 0).read xs) x;
-      }
+  nothing : (c q : ℕ) → behind_short false false false false c q ≡ got (record { color_raw = c; color_rgb = None; color_alpha = None }) q
+  unfolding marked held give
+  nothing c q = refl
 
-  nothing : (x : Read) → with_present false false false false x ≡ without x
-  unfolding held give
-  nothing (Value v p) = refl
-  nothing (Refused r p) = refl
-
-  pub plain_colours : (x : Read) {y : Read} → y ≡ then_read (BS.read xs) x → value_of y < 0x2000
-      → colours_of row xs x ≡ without y
-  unfolding colours_of
-  plain_colours x {y} e h =
-      let k = value_of y in
-      rw (← e, no_rgb row k h, no_alpha row k h, no_name row k h, no_book_name row k h) (nothing y)
+  pub plain_colours : (p : ℕ) {c q : ℕ} → got c q ≡ BS.read xs p → c < 0x2000
+      → (colours row).read xs p ≡ got (record { color_raw = c; color_rgb = None; color_alpha = None }) q
+  unfolding colours ◌>>=◌ give
+  plain_colours p {c} {q} e h =
+      ap (λ (o : Out ℕ ℕ). and_then o (λ c q. behind_short (has_rgb row c) (has_alpha row c) (has_name row c) (has_book_name row c) c q)) (sym e)
+      ∙ rw (no_rgb row c h, no_alpha row c h, no_name row c h, no_book_name row c h) (nothing c q)

@@ -1,47 +1,42 @@
-// The parts of a prefix, each read where the one before ended; a refusal stays, and then the numbers mean nothing: src/common_entity.rs of dwg-rs
-// (`read_common_entity_data`, `read_entity_mode_onwards`); section 20.4.1 of the specification.
-// specs/ has what each part's fields hold and where they end, by prefix_format's definitions, and that what follows a part is read behind it.
+// The parts of a prefix, each with the place after it: src/common_entity.rs of dwg-rs (`read_common_entity_data`, `read_entity_mode_onwards`);
+// section 20.4.1 of the specification.
+// specs/ has what each part is, by prefix_format's definitions of its fields, and that the five in a row read what prefix_format's definition reads.
 #![tactic(auto)]
 
 ghost use Rattle.std.specs.Prelude.{◌≡◌, ◌≤◌, ◌<◌, length};
 ghost use Rattle.loads.specs.Bits.{limit};
+ghost use Rattle.bitcursor.specs.Answers.{outcome};
 ghost use Rattle.prefix_format.specs.Values.{flag};
-ghost use Rattle.prefix_parts.specs.Parts.{head_of, modes_of, colours_of, styles_of, tail_of, present_fields};
+ghost use Rattle.prefix_parts.specs.Parts.{head, modes, colours, styles, tail, present_fields};
 
-use bitcursor::Read;
+use bitcursor::{Reading, within};
 use prefix_format::table::Row;
 
-// Up to the mode: XDATA, graphics and, in release 1, the data end. Each part has its fields' numbers and the last answer.
+// Up to the mode: XDATA, graphics and, in release 1, the data end.
 #[derive(Clone, Copy)]
 pub struct Head {
-    pub xdata: u64,
-    pub had_graphics: u64,
-    pub end: u64,
-    pub last: Read,
+    pub had_extended_data: bool,
+    pub had_graphics: bool,
+    pub data_end_bits: Option<u32>,
 }
 
 // From the mode to the colour.
 #[derive(Clone, Copy)]
 pub struct Modes {
-    pub mode: u64,
-    pub reactors: u64,
-    pub no_dictionary: u64,
-    pub binary: u64,
-    pub by_layer: u64,
-    pub links: u64,
-    pub last: Read,
+    pub raw_mode: u8,
+    pub num_reactors: u32,
+    pub no_xdictionary: bool,
+    pub binary_chain: bool,
+    pub by_layer_ltype: bool,
+    pub nolinks: bool,
 }
 
-// The colour, and the fields behind it that are present.
+// The colour, and the fields behind it that the record keeps.
 #[derive(Clone, Copy)]
 pub struct Colours {
-    pub colour: u64,
-    pub has_rgb: bool,
-    pub rgb: u64,
-    pub has_alpha: bool,
-    pub alpha: u64,
-    pub named: u64,
-    pub last: Read,
+    pub color_raw: u16,
+    pub color_rgb: Option<u32>,
+    pub color_alpha: Option<u32>,
 }
 
 // Which of the fields behind a colour are present.
@@ -53,62 +48,60 @@ pub struct PresentFields {
     pub book_name: bool,
 }
 
-// The linetype scale and the flags behind it.
+// The linetype scale, as its 64 bits, and the flags behind it.
 #[derive(Clone, Copy)]
 pub struct Styles {
-    pub scale: u64,
-    pub linetype: u64,
-    pub plot: u64,
-    pub material: u64,
-    pub shadow: u64,
-    pub last: Read,
+    pub ltype_scale: u64,
+    pub ltype_flags: u8,
+    pub plotstyle_flag: u8,
+    pub material_flag: u8,
+    pub shadow_flags: u8,
 }
 
 // From the visual styles to the end.
 #[derive(Clone, Copy)]
 pub struct Tail {
-    pub full: u64,
-    pub face: u64,
-    pub edge: u64,
-    pub invisible: u64,
-    pub weight: u64,
-    pub last: Read,
+    pub visual_style_flags: [bool; 3],
+    pub invisibility: i16,
+    pub lineweight: u8,
 }
 
-pub fn read_head(s: &[u8], at: usize, row: Row) -> Head
+#[tactic(auto, using(bitcursor::proofs::Steps::reading), unfolding(crate::specs::Parts::head))]
+pub fn read_head(s: &[u8], at: usize, row: Row) -> Reading<Head>
     requires { length s.now ≤ limit }
-    ensures { result ≡ head_of row s.now at }
+    ensures { outcome result ≡ (head row).read s.now at }
 {
-    let xdata = prefix_fields::skip_extended_data(s, at);
-    let graphics = prefix_fields::then_graphics(s, xdata, row.graphics_bll);
-    let end = sequence::then_low(s, graphics, 4, row.data_end, 0);
-    Head {
-        xdata: sequence::value_of(xdata),
-        had_graphics: sequence::value_of(graphics),
-        end: sequence::value_of(end),
-        last: end,
-    }
+    let (had_extended_data, p) = prefix_fields::skip_extended_data(s, at)?;
+    let (had_graphics, q) = prefix_fields::skip_graphics(s, p, row.graphics_bll)?;
+    let (data_end_bits, end) = sequence::marked_rl(s, q, row.data_end)?;
+    let head = Head {
+        had_extended_data,
+        had_graphics,
+        data_end_bits,
+    };
+    Ok((head, end))
 }
 
-pub fn read_modes(s: &[u8], prior: Read, row: Row) -> Modes
+#[tactic(auto, using(bitcursor::proofs::Steps::reading, bitcursor::proofs::Smalls::smalls), unfolding(crate::specs::Parts::modes, bitcursor::specs::Codes::BB))]
+pub fn read_modes(s: &[u8], at: usize, row: Row) -> Reading<Modes>
     requires { length s.now ≤ limit }
-    ensures { result ≡ modes_of row s.now prior }
+    ensures { outcome result ≡ (modes row).read s.now at }
 {
-    let mode = sequence::then_bits(s, prior, 2, true, 0);
-    let reactors = sequence::then_bl(s, mode, true, 0);
-    let no_dictionary = sequence::then_bits(s, reactors, 1, row.no_xdictionary, 1);
-    let binary = sequence::then_bits(s, no_dictionary, 1, row.binary_chain, 0);
-    let by_layer = sequence::then_bits(s, binary, 1, row.by_layer_ltype, 1);
-    let links = sequence::then_bits(s, by_layer, 1, row.nolinks, 1);
-    Modes {
-        mode: sequence::value_of(mode),
-        reactors: sequence::value_of(reactors),
-        no_dictionary: sequence::value_of(no_dictionary),
-        binary: sequence::value_of(binary),
-        by_layer: sequence::value_of(by_layer),
-        links: sequence::value_of(links),
-        last: links,
-    }
+    let (mode, p) = within::read_bits(s, at, 2)?;
+    let (reactors, p) = within::read_bl_u(s, p)?;
+    let (no_xdictionary, p) = sequence::held_flag(s, p, row.no_xdictionary, true)?;
+    let (binary_chain, p) = sequence::held_flag(s, p, row.binary_chain, false)?;
+    let (by_layer_ltype, p) = sequence::held_flag(s, p, row.by_layer_ltype, true)?;
+    let (nolinks, p) = sequence::held_flag(s, p, row.nolinks, true)?;
+    let modes = Modes {
+        raw_mode: mode as u8,
+        num_reactors: reactors as u32,
+        no_xdictionary,
+        binary_chain,
+        by_layer_ltype,
+        nolinks,
+    };
+    Ok((modes, p))
 }
 
 // A bit of the colour's short.
@@ -140,75 +133,69 @@ fn present_fields(row: Row, colour: u64) -> PresentFields
     }
 }
 
-pub fn read_colours(s: &[u8], prior: Read, row: Row) -> Colours
+#[tactic(auto, using(bitcursor::proofs::Steps::reading, bitcursor::proofs::Smalls::smalls), unfolding(crate::specs::Parts::colours))]
+pub fn read_colours(s: &[u8], at: usize, row: Row) -> Reading<Colours>
     requires { length s.now ≤ limit }
-    ensures { result ≡ colours_of row s.now prior }
+    ensures { outcome result ≡ (colours row).read s.now at }
 {
-    let colour = sequence::then_bs(s, prior);
-    let value = sequence::value_of(colour);
-    if value < 0x2000 {
+    let (colour, p) = within::read_bs_u(s, at)?;
+    if colour < 0x2000 {
         // none of 80, 40 and 20 is set, so nothing follows
-        return Colours {
-            colour: value,
-            has_rgb: false,
-            rgb: 0,
-            has_alpha: false,
-            alpha: 0,
-            named: 0,
-            last: sequence::then_bits(s, colour, 1, false, 0),
+        let plain = Colours {
+            color_raw: colour as u16,
+            color_rgb: None,
+            color_alpha: None,
         };
+        return Ok((plain, p));
     }
-    let has = present_fields(row, value);
-    let rgb = sequence::then_bl(s, colour, has.rgb, 0);
-    let alpha = sequence::then_bl(s, rgb, has.alpha, 0);
-    let name = prefix_fields::then_name(s, alpha, has.name, row.wide_names);
-    let book = prefix_fields::then_name(s, name, has.book_name, row.wide_names);
-    Colours {
-        colour: value,
-        has_rgb: has.rgb,
-        rgb: sequence::value_of(rgb),
-        has_alpha: has.alpha,
-        alpha: sequence::value_of(alpha),
-        named: sequence::value_of(name),
-        last: book,
-    }
+    let has = present_fields(row, colour);
+    let (color_rgb, p) = sequence::marked_bl(s, p, has.rgb)?;
+    let (color_alpha, p) = sequence::marked_bl(s, p, has.alpha)?;
+    let p = prefix_fields::skip_name(s, p, has.name, row.wide_names)?;
+    let p = prefix_fields::skip_name(s, p, has.book_name, row.wide_names)?;
+    let colours = Colours {
+        color_raw: colour as u16,
+        color_rgb,
+        color_alpha,
+    };
+    Ok((colours, p))
 }
 
 // An RC is read as eight bits (here and below): that is one comparison less than a byte's reader has.
-pub fn read_styles(s: &[u8], prior: Read, row: Row) -> Styles
+#[tactic(auto, using(bitcursor::proofs::Steps::reading, sequence::specs::OneByte::held_byte), unfolding(crate::specs::Parts::styles, bitcursor::specs::Codes::BB))]
+pub fn read_styles(s: &[u8], at: usize, row: Row) -> Reading<Styles>
     requires { length s.now ≤ limit }
-    ensures { result ≡ styles_of row s.now prior }
+    ensures { outcome result ≡ (styles row).read s.now at }
 {
-    let scale = sequence::then_bd_bits(s, prior);
-    let linetype = sequence::then_bits(s, scale, 2, row.ltype_and_plotstyle, 0);
-    let plot = sequence::then_bits(s, linetype, 2, row.ltype_and_plotstyle, 0);
-    let material = sequence::then_bits(s, plot, 2, row.material_and_shadow, 0);
-    let shadow = sequence::then_bits(s, material, 8, row.material_and_shadow, 0);
-    Styles {
-        scale: sequence::value_of(scale),
-        linetype: sequence::value_of(linetype),
-        plot: sequence::value_of(plot),
-        material: sequence::value_of(material),
-        shadow: sequence::value_of(shadow),
-        last: shadow,
-    }
+    let (ltype_scale, p) = within::read_bd_bits(s, at)?;
+    let (ltype_flags, p) = sequence::held_bits(s, p, 2, row.ltype_and_plotstyle)?;
+    let (plotstyle_flag, p) = sequence::held_bits(s, p, 2, row.ltype_and_plotstyle)?;
+    let (material_flag, p) = sequence::held_bits(s, p, 2, row.material_and_shadow)?;
+    let (shadow_flags, p) = sequence::held_bits(s, p, 8, row.material_and_shadow)?;
+    let styles = Styles {
+        ltype_scale,
+        ltype_flags,
+        plotstyle_flag,
+        material_flag,
+        shadow_flags,
+    };
+    Ok((styles, p))
 }
 
-pub fn read_tail(s: &[u8], prior: Read, row: Row) -> Tail
+#[tactic(auto, using(bitcursor::proofs::Steps::reading, bitcursor::proofs::Smalls::smalls, sequence::specs::OneByte::held_byte), unfolding(crate::specs::Parts::tail, bitcursor::specs::Codes::signed_BS))]
+pub fn read_tail(s: &[u8], at: usize, row: Row) -> Reading<Tail>
     requires { length s.now ≤ limit }
-    ensures { result ≡ tail_of row s.now prior }
+    ensures { outcome result ≡ (tail row).read s.now at }
 {
-    let full = sequence::then_bits(s, prior, 1, row.visual_styles, 0);
-    let face = sequence::then_bits(s, full, 1, row.visual_styles, 0);
-    let edge = sequence::then_bits(s, face, 1, row.visual_styles, 0);
-    let invisible = sequence::then_bs(s, edge);
-    let weight = sequence::then_bits(s, invisible, 8, row.lineweight, 0);
-    Tail {
-        full: sequence::value_of(full),
-        face: sequence::value_of(face),
-        edge: sequence::value_of(edge),
-        invisible: sequence::value_of(invisible),
-        weight: sequence::value_of(weight),
-        last: weight,
-    }
+    let (full, p) = sequence::held_flag(s, at, row.visual_styles, false)?;
+    let (face, p) = sequence::held_flag(s, p, row.visual_styles, false)?;
+    let (edge, p) = sequence::held_flag(s, p, row.visual_styles, false)?;
+    let (invisible, p) = within::read_bs_u(s, p)?;
+    let (lineweight, p) = sequence::held_bits(s, p, 8, row.lineweight)?;
+    let tail = Tail {
+        visual_style_flags: [full, face, edge],
+        invisibility: bitcursor::values::short_of(invisible),
+        lineweight,
+    };
+    Ok((tail, p))
 }

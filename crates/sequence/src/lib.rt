@@ -12,14 +12,14 @@ ghost use Rattle.loads.specs.Bits.{limit};
 
 use bitcursor::{Reading, within};
 
-// n bits (BB, RC), if the release has them.
+// n bits (BB, RC), if the release has them; else 0.
 #[tactic(auto, using(bitcursor::proofs::Steps::reading), unfolding(bitcursor::specs::Held::held))]
-pub fn held_bits(s: &[u8], at: usize, n: usize, has: bool, absent: u8) -> Reading<u8>
+pub fn held_bits(s: &[u8], at: usize, n: usize, has: bool) -> Reading<u8>
     requires { (length s.now ≤ limit) × ((1 ≤ n) × (n ≤ 8)) }
-    ensures { outcome result ≡ (held has (raw n) absent).read s.now at }
+    ensures { outcome result ≡ (held has (raw n) 0).read s.now at }
 {
     if !has {
-        return Ok((absent, at));
+        return Ok((0, at));
     }
     let (v, p) = within::read_bits(s, at, n)?;
     Ok((v as u8, p))

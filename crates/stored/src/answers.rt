@@ -50,6 +50,13 @@ impl Answer {
         }
     }
 
+    // Puts these values behind the others.
+    pub fn extend<T: Copy + Into<u64>>(&mut self, values: &[T]) {
+        for value in values {
+            self.push(*value);
+        }
+    }
+
     // Whether no value more is kept.
     pub fn is_full(&self) -> bool {
         self.count == ROOM

@@ -1,6 +1,6 @@
 -- Where a string reader starts (document 02, L4), for every start bit and every payload: of the reader that holds its payload, and of a text by value, which is
 -- told where its reader stands and seeks nothing. Assumes nothing.
-use Rattle.std.specs.Prelude.{◌≡◌, refl, Bool, true, false, List, ℕ, ◌*◌, ◌≤◌, ◌<◌, leb, length}
+use Rattle.std.specs.Prelude.{◌≡◌, refl, Bool, true, false, List, ℕ, ◌*◌, ◌≤◌, leb, length}
 use Rattle.std.proofs.Math.Path.{sym, ap, ap₂}
 use Rattle.std.proofs.Common.{◌∙◌}
 use Rattle.bitcursor.specs.declared.Refusal.TheVariants.{TooFewBits, PayloadTooLong}

@@ -3,28 +3,39 @@
 ghost use Rattle.std.specs.Prelude.{◌≡◌};
 ghost use Rattle.string_reader.specs.Readers.{next_text};
 
-use crate::{AnswerStart, AnswerText, StringReader};
+use crate::StringReader;
+use bitcursor::Refusal;
+use text::Text;
 
 // Whether the reader was made, its text, and what it says afterwards.
-#[derive(Clone, Copy)]
+#[derive(Clone, Copy, Debug, PartialEq, Eq)]
 pub struct NextText {
-    pub start: AnswerStart,
-    pub text: AnswerText,
+    pub start: Result<(), Refusal>,
+    pub text: Result<Text, Refusal>,
     pub exhausted: bool,
     pub position: usize,
     pub remaining: usize,
 }
 
-// Makes a reader, reads a text by it, and asks it.
+// Makes a reader, reads a text by it, and asks it. Where no reader is made, one stands at the refusal's place.
 pub fn next_text(payload: &[u8], start_bit: usize, end_bit: usize) -> NextText
     ensures { result ≡ next_text payload.now start_bit end_bit }
 {
-    let opening = StringReader::new(payload, start_bit, end_bit);
-    let mut reader = opening.reader;
+    let (start, mut reader) = match StringReader::new(payload, start_bit, end_bit) {
+        Ok(reader) => (Ok(()), reader),
+        Err(refused) => (
+            Err(refused.refusal),
+            StringReader {
+                payload,
+                place: refused.place,
+                end_bit,
+            },
+        ),
+    };
     let text = reader.read_tv();
     NextText {
-        start: opening.answer,
-        text: text,
+        start,
+        text,
         exhausted: reader.is_exhausted(),
         position: reader.position_bits(),
         remaining: reader.remaining_bits(),

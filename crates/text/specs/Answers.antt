@@ -52,6 +52,13 @@ abbrev pub payloads : List ℕ → List ℕ → Bool → ℕ → Payloads
 payloads xs ys reader end = record { main = xs; string = ys; reader = reader; end = end }
 
 -- a string reader is lent if its end bit is said
+abbrev pub is_lent : Option ℕ → Bool
+is_lent (Some end) = true
+is_lent None = false
+
+abbrev pub end_bit : Option ℕ → ℕ
+end_bit (Some end) = end
+end_bit None = 0
+
 abbrev pub payloads_to : List ℕ → List ℕ → Option ℕ → Payloads
-payloads_to xs ys (Some end) = payloads xs ys true end
-payloads_to xs ys None = payloads xs ys false 0
+payloads_to xs ys reader = payloads xs ys (is_lent reader) (end_bit reader)

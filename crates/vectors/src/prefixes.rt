@@ -34,9 +34,7 @@ fn put_flags(answer: &mut Answer, b: &CommonEntityData<u64>) {
 fn put_styles(answer: &mut Answer, b: &CommonEntityData<u64>) {
     answer.push(b.ltype_scale);
     answer.push(b.ltype_flags);
-    for style in b.visual_style_flags {
-        answer.push(style);
-    }
+    answer.extend(&b.visual_style_flags);
 }
 
 fn put_tail(answer: &mut Answer, b: &CommonEntityData<u64>) {

@@ -1,28 +1,43 @@
--- The gradient, then the plane and the name; either refuses for the whole.
-use lib.Dec.{leb}
-use Rattle.text.specs.Answers.{payloads, places_of}
-use Rattle.text.specs.Releases.{release_number}
-use Rattle.hatch_format.specs.Gradients.{gradient}
-use Rattle.hatch_front.proofs.FrontJoins.{gradient_got, gradient_none, front_none, front_is}
+-- What was passed over field by field is what the front reads, and its colours stand where it says.
+use Rattle.std.proofs.Common.{rules, sym, subst}
+use Rattle.std.specs.Prelude.{◌≡◌, leb}
+use Rattle.bitcursor.specs.Reading.{Out, got}
+use Rattle.bitcursor.specs.Inputs.{Places}
+use Rattle.bitcursor.specs.Format.{◌>>=◌, pure}
+use Rattle.bitcursor.specs.Answers.{outcome}
+use Rattle.bitcursor.specs.Fields.{part_in}
+use Rattle.text.specs.Answers.{payloads_to}
+use Rattle.hatch_front.specs.declared.Front.{Front}
+use Rattle.hatch_front.specs.Fronts.{front}
+use Rattle.hatch_front.specs.Answers.{Handed, front_of}
+use Rattle.hatch_front.specs.Passed.{front_passed}
+use Rattle.hatch_front.proofs.Handed.{front_handed}
 use Rattle.hatch_front.proofs.read_front.Goals as goal
 
-pub returns-in-Done : goal.returns-in-Done
-returns-in-Done c =
-    let at-read-named = c.read_named in
-    let at-decode-gradient = c.decode_gradient in
+pub returns : goal.returns
+unfolding front_passed ◌>>=◌ pure part_in
+returns c =
     let a = c.args in
-    let xs = a.main.now in
-    let γ = payloads xs a.string.now a.reader a.end in
-    let p = places_of a.at in
-    let read = (gradient a.caps.colors a.v (leb 3 (release_number a.v))).read γ p in
-    let g = gradient_got xs read at-decode-gradient.ensures c.in-Done.is in
-    front_is xs a.caps a.v γ p g.2 g.3 g.4 at-read-named.ensures
+    let γ = payloads_to a.main.now a.string.now a.reader in
+    subst (Handed front_of (λ b. b.gradient.colors) a.main.now ((front a.caps a.v).read γ a.at)) (search rules) (front_handed a.caps c.requires.1.1 a.v γ a.at)
 
-pub returns-in-Refused : goal.returns-in-Refused
-returns-in-Refused c = let at-decode-gradient = c.decode_gradient in
+pub returns-in_err-gradient : goal.returns-in_err-gradient
+unfolding front_passed ◌>>=◌ pure part_in
+returns-in_err-gradient c =
     let a = c.args in
-    let xs = a.main.now in
-    let γ = payloads xs a.string.now a.reader a.end in
-    let p = places_of a.at in
-    let read = (gradient a.caps.colors a.v (leb 3 (release_number a.v))).read γ p in
-    front_none xs a.caps a.v γ p (gradient_none xs read at-decode-gradient.ensures c.in-Refused.is)
+    let γ = payloads_to a.main.now a.string.now a.reader in
+    subst (Handed front_of (λ b. b.gradient.colors) a.main.now ((front a.caps a.v).read γ a.at)) (search rules) (front_handed a.caps c.requires.1.1 a.v γ a.at)
+
+pub returns-in_err-plane : goal.returns-in_err-plane
+unfolding front_passed ◌>>=◌ pure part_in
+returns-in_err-plane c =
+    let a = c.args in
+    let γ = payloads_to a.main.now a.string.now a.reader in
+    subst (Handed front_of (λ b. b.gradient.colors) a.main.now ((front a.caps a.v).read γ a.at)) (search rules) (front_handed a.caps c.requires.1.1 a.v γ a.at)
+
+pub returns-in_err-name : goal.returns-in_err-name
+unfolding front_passed ◌>>=◌ pure part_in
+returns-in_err-name c =
+    let a = c.args in
+    let γ = payloads_to a.main.now a.string.now a.reader in
+    subst (Handed front_of (λ b. b.gradient.colors) a.main.now ((front a.caps a.v).read γ a.at)) (search rules) (front_handed a.caps c.requires.1.1 a.v γ a.at)

@@ -1,11 +1,12 @@
+-- The coordinates so far are in range, item by item; at the end of the walk only the seed points are left.
 use Prim.Native.Nat.{◌-◌}
 use lib.ListN.{length}
-use Rattle.differences.specs.Limits.{is_within}
+use Rattle.whole_lists.specs.Ended.{start_of}
 use Rattle.move_origin.proofs.Walking.{InRange}
 use Rattle.move_origin.proofs.are_within.Given as goal
 
 abbrev pub invariant-loop-i : goal.invariant-loop-i
-invariant-loop-i l = InRange is_within l.words l.used l.numbers l.initial.at l.at
+invariant-loop-i g l = InRange g.C.Coordinate.within l.words l.c.numbers_used l.numbers (start_of l.c) l.at
 
 abbrev pub decreases-loop-i : goal.decreases-loop-i
-decreases-loop-i l = length l.words - l.at.word
+decreases-loop-i g l = length l.words - l.at.word

@@ -1,11 +1,12 @@
+-- The coordinates so far are moved, item by item; at the end of the walk only the seed points are left, and they are moved last.
 use Prim.Native.Nat.{◌-◌}
 use lib.ListN.{length}
-use Rattle.differences.specs.Difference.{difference}
+use Rattle.whole_lists.specs.Ended.{start_of}
 use Rattle.move_origin.proofs.Walking.{MovedSoFar}
 use Rattle.move_origin.proofs.move_all.Given as goal
 
 abbrev pub invariant-loop-i : goal.invariant-loop-i
-invariant-loop-i l = MovedSoFar difference l.x l.y l.words l.used l.initial.numbers l.initial.at l.at l.numbers
+invariant-loop-i g l = MovedSoFar g.C.Coordinate.minus l.x l.y l.words l.c.numbers_used l.initial.numbers (start_of l.c) l.at l.numbers
 
 abbrev pub decreases-loop-i : goal.decreases-loop-i
-decreases-loop-i l = length l.words - l.at.word
+decreases-loop-i g l = length l.words - l.at.word

@@ -1,18 +1,18 @@
 -- An item's coordinates are in range where those of its points are, and those of its fit points.
-use mathlib.Core.Path.{sym, ◌∙◌}
-use Rattle.differences.specs.Limits.{is_within}
-use Rattle.point_runs.proofs.ItemLaws.{points_beyond, fits_decide}
+use mathlib.Core.Path.{sym, ap, ap₂, ◌∙◌}
+use mathlib.Core.Bool.{◌&&◌}
+use Rattle.moved_hatch.specs.Parts.{in_range_from}
+use Rattle.point_runs.proofs.ItemLaws.{fits_at, fits, item_in_range}
 use Rattle.point_runs.proofs.item_within.Goals as goal
 
-pub returns-then-not-points_within : goal.returns-then-not-points_within
-returns-then-not-points_within c =
+pub returns-then-points_within : goal.returns-then-points_within
+returns-then-points_within g c =
     let a = c.args in
-    let first = c.points_within in
-    sym (points_beyond a.i a.from is_within c.requires.0.from_two a.numbers.now first.result first.ensures c.if-not-points_within.true)
+    sym (item_in_range a.i a.from g.C.Coordinate.within c.requires.0.from_two a.numbers.now
+    ∙ ap₂ (λ b d. b && d) (sym c.points_within.ensures ∙ c.if-points_within.true) (sym c.points_within-then-points_within.ensures))
 
-pub returns : goal.returns
-returns c =
+pub returns-else-points_within : goal.returns-else-points_within
+returns-else-points_within g c =
     let a = c.args in
-    let first = c.points_within in
-    c.points_within-2.ensures
-    ∙ sym (fits_decide a.i a.from is_within c.requires.0.from_two a.numbers.now first.result first.ensures c.if-not-points_within.false)
+    sym (item_in_range a.i a.from g.C.Coordinate.within c.requires.0.from_two a.numbers.now
+    ∙ ap (λ b. b && in_range_from g.C.Coordinate.within (fits_at a.i a.from) (fits a.i a.from) a.numbers.now) (sym c.points_within.ensures ∙ c.if-points_within.false) ∙ sym c.if-points_within.false)

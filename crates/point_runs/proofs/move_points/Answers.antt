@@ -1,73 +1,29 @@
--- What is left to move of the list is what the whole moves of the first; each turn moves one point more.
+-- The first points are moved, one more with each turn; those ahead are as they were, and may be subtracted from.
+use mathlib.Core.Path.{◌∙◌}
+use Prim.Native.Nat.{◌+◌, ◌*◌, ◌≤◌}
 use native.Mathlib.Omega.{arith}
-use lib.ListN.{length-set}
-use lib.Ieee.{nan}
-use Rattle.differences.specs.Difference.{difference}
-use Rattle.point_runs.proofs.PointLaws.{point_there, moved_none, moved_all, moved_next}
+use lib.ListN.{length}
+use Rattle.point_runs.proofs.PointLaws.{fewer_there, next_there, next_moved, next_movable}
 use Rattle.point_runs.proofs.move_points.Goals as goal
 
-pub loop-i-init : goal.loop-i-init
-loop-i-init c = let a = c.args in moved_none difference a.x a.y a.stride a.numbers.now a.from a.n
-
-pub bounds-numbers-at : goal.bounds-numbers-at
-bounds-numbers-at c =
+pub move_point-requires : goal.move_point-requires
+move_point-requires g c =
     let a = c.args in
     let l = c.loop-i in
-    let there = point_there a.stride a.from a.n l.at l.i c.loop-i-test.true l.invariant.reached in
-    omega (arith, there, l.invariant.long)
-
-pub bounds-numbers-at-in-loop-i : goal.bounds-numbers-at-in-loop-i
-bounds-numbers-at-in-loop-i c =
-    let a = c.args in
-    let l = c.loop-i in
-    let there = point_there a.stride a.from a.n l.at l.i c.loop-i-test.true l.invariant.reached in
-    omega (arith, there, l.invariant.long)
-
-pub overflow_add-at : goal.overflow_add-at
-overflow_add-at c =
-    let a = c.args in
-    let l = c.loop-i in
-    let there = point_there a.stride a.from a.n l.at l.i c.loop-i-test.true l.invariant.reached in
-    omega (arith, there)
-
-pub bounds-numbers-at-in-loop-i-2 : goal.bounds-numbers-at-in-loop-i-2
-bounds-numbers-at-in-loop-i-2 c =
-    let a = c.args in
-    let l = c.loop-i in
-    let there = point_there a.stride a.from a.n l.at l.i c.loop-i-test.true l.invariant.reached in
-    simp length-set (omega (arith, there, l.invariant.long))
-
-pub overflow_add-numbers : goal.overflow_add-numbers
-overflow_add-numbers c =
-    let a = c.args in
-    let l = c.loop-i in
-    let there = point_there a.stride a.from a.n l.at l.i c.loop-i-test.true l.invariant.reached in
-    omega (arith, there)
-
-pub bounds-numbers-at-in-loop-i-3 : goal.bounds-numbers-at-in-loop-i-3
-bounds-numbers-at-in-loop-i-3 c =
-    let a = c.args in
-    let l = c.loop-i in
-    let there = point_there a.stride a.from a.n l.at l.i c.loop-i-test.true l.invariant.reached in
-    simp length-set (omega (arith, there, l.invariant.long))
-
-pub overflow_add-at-in-loop-i : goal.overflow_add-at-in-loop-i
-overflow_add-at-in-loop-i c =
-    let a = c.args in
-    let l = c.loop-i in
-    let there = point_there a.stride a.from a.n l.at l.i c.loop-i-test.true l.invariant.reached in
-    omega (arith, there)
+    let minus = g.C.Coordinate.minus in
+    let more : l.i + 1 ≤ a.n = omega arith in
+    let there = fewer_there a.stride a.from more in
+    let room : a.from + (l.i + 1) * a.stride ≤ length a.numbers.now = omega (arith, there, c.requires.0) in (
+      next_there minus a.x a.y a.stride c.requires.1 a.numbers.now a.from l.i room l.invariant,
+      c.requires.1,
+      next_movable minus a.x a.y a.stride c.requires.1 a.numbers.now a.from l.i room l.invariant more c.requires.2,
+    )
 
 pub loop-i-preserved : goal.loop-i-preserved
-loop-i-preserved c =
+loop-i-preserved g c =
     let a = c.args in
-    moved_next difference a.x a.y a.stride nan c.requires.1 c.loop-i.invariant c.requires.0 c.loop-i-test.true
-    c.difference.ensures c.difference-in-loop-i.ensures
-
-pub shape_of-numbers : goal.shape_of-numbers
-shape_of-numbers c = c.loop-i.invariant.long
-
-pub returns : goal.returns
-returns c =
-    let a = c.args in
-    moved_all difference a.x a.y a.stride c.loop-i.invariant c.loop-i-test.false
+    let l = c.loop-i in
+    let more : l.i + 1 ≤ a.n = omega arith in
+    let there = fewer_there a.stride a.from more in
+    let room : a.from + (l.i + 1) * a.stride ≤ length a.numbers.now = omega (arith, there, c.requires.0) in
+    c.move_point.ensures ∙ next_moved g.C.Coordinate.minus a.x a.y a.stride c.requires.1 a.numbers.now a.from l.i room l.invariant

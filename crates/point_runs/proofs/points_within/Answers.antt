@@ -1,70 +1,44 @@
--- The points left decide; each turn takes four of them, or finds one out of range.
-use mathlib.Core.Path.{refl, sym, ◌∙◌}
-use mathlib.Core.Bool.{◌&&◌}
+-- The points so far are in range, four more with each turn; the last decide.
+use mathlib.Core.Path.{◌≡◌, sym, ap, ap₂, ◌∙◌}
+use mathlib.Core.Bool.{Bool, ◌&&◌}
+use Prim.Native.Nat.{◌+◌, ◌-◌, ◌*◌, ◌%◌, ◌≤◌}
+use native.Mathlib.Nat.{add-mul}
 use native.Mathlib.Omega.{arith}
-use Rattle.differences.specs.Limits.{is_within}
-use Rattle.point_runs.proofs.PointLaws.{refused, passed, judged_none, judged_next, judged_beyond, four_there}
+use Rattle.point_runs.proofs.PointLaws.{in_run, fewer_there, run_then, run_fails, run_rest}
 use Rattle.point_runs.proofs.points_within.Goals as goal
 
-pub loop-left-init : goal.loop-left-init
-loop-left-init c =
+pub four_within-requires : goal.four_within-requires
+four_within-requires g c =
     let a = c.args in
-    judged_none is_within a.stride c.requires.1 a.numbers.now a.from a.n
+    let k = 4 * c.loop-turn.turn in
+    let more : k + 4 ≤ a.n = omega arith in
+    let there = fewer_there a.stride a.from more in
+    let e = add-mul k 4 a.stride in
+    (omega (arith, there, e), c.requires.1)
 
-pub pair_within-first-requires : goal.pair_within-first-requires
-pair_within-first-requires c =
+pub returns-then-not-holds : goal.returns-then-not-holds
+returns-then-not-holds g c =
     let a = c.args in
-    let there = four_there is_within a.stride c.requires.1 a.numbers.now c.loop-left.invariant c.loop-left-test.true in
-    (omega (arith, there, c.requires.0, c.requires.1), c.requires.1)
+    let k = 4 * c.loop-turn.turn in
+    sym (run_fails g.C.Coordinate.within a.stride c.requires.1 a.numbers.now a.from k a.n (omega arith)
+    (sym c.four_within.ensures ∙ sym c.holds.ensures ∙ c.if-not-holds.true))
 
-pub overflow_mul-stride : goal.overflow_mul-stride
-overflow_mul-stride c =
+pub loop-turn-preserved : goal.loop-turn-preserved
+loop-turn-preserved g c =
     let a = c.args in
-    let there = four_there is_within a.stride c.requires.1 a.numbers.now c.loop-left.invariant c.loop-left-test.true in
-    omega (arith, there, c.requires.0, c.requires.1)
-
-pub overflow_add-at : goal.overflow_add-at
-overflow_add-at c =
-    let a = c.args in
-    let there = four_there is_within a.stride c.requires.1 a.numbers.now c.loop-left.invariant c.loop-left-test.true in
-    omega (arith, there, c.requires.0, c.requires.1)
-
-pub pair_within-second-requires : goal.pair_within-second-requires
-pair_within-second-requires c =
-    let a = c.args in
-    let there = four_there is_within a.stride c.requires.1 a.numbers.now c.loop-left.invariant c.loop-left-test.true in
-    (omega (arith, there, c.requires.0, c.requires.1), c.requires.1)
-
-pub returns-then-not-first-second : goal.returns-then-not-first-second
-returns-then-not-first-second c =
-    let a = c.args in
-    judged_beyond is_within a.stride c.requires.1 a.numbers.now c.loop-left.invariant c.loop-left-test.true
-    c.pair_within-first.ensures c.pair_within-second.ensures (refused
-    (c.pair_within-first.result && c.pair_within-second.result) c.if-not-first-second.true refl)
-
-pub overflow_mul-at : goal.overflow_mul-at
-overflow_mul-at c =
-    let a = c.args in
-    let there = four_there is_within a.stride c.requires.1 a.numbers.now c.loop-left.invariant c.loop-left-test.true in
-    omega (arith, there, c.requires.0, c.requires.1)
-
-pub overflow_add-at-in-loop-left : goal.overflow_add-at-in-loop-left
-overflow_add-at-in-loop-left c =
-    let a = c.args in
-    let there = four_there is_within a.stride c.requires.1 a.numbers.now c.loop-left.invariant c.loop-left-test.true in
-    omega (arith, there, c.requires.0, c.requires.1)
-
-pub loop-left-preserved : goal.loop-left-preserved
-loop-left-preserved c =
-    let a = c.args in
-    judged_next is_within a.stride c.requires.1 a.numbers.now c.loop-left.invariant c.loop-left-test.true
-    c.pair_within-first.ensures c.pair_within-second.ensures (passed
-    (c.pair_within-first.result && c.pair_within-second.result) c.if-not-first-second.false refl)
-
-pub last_within-requires : goal.last_within-requires
-last_within-requires c =
-    (omega (arith, c.loop-left.invariant.reached, c.requires.0), c.requires.1, omega (arith, c.loop-left-test.false))
+    let k = 4 * c.loop-turn.turn in
+    let next : 4 * (c.loop-turn.turn + 1) ≡ k + 4 = omega arith in
+    let within = g.C.Coordinate.within in
+    ap (in_run within a.stride c.requires.1 a.numbers.now a.from) next ∙ run_then within a.stride c.requires.1 a.numbers.now a.from k 4
+    ∙ ap₂ (λ (b d : Bool). b && d) c.loop-turn.invariant (sym c.four_within.ensures ∙ sym c.holds.ensures ∙ c.if-not-holds.false)
 
 pub returns : goal.returns
-returns c =
-    c.last_within.ensures ∙ sym c.loop-left.invariant.same
+returns g c =
+    let a = c.args in
+    let k = 4 * c.loop-turn.turn in
+    let first : k ≡ a.n - a.n % 4 = omega arith in
+    let last : a.n - k ≡ a.n % 4 = omega arith in
+    let within = g.C.Coordinate.within in
+    c.holds-2.ensures ∙ c.last_within.ensures
+    ∙ sym (run_rest within a.stride c.requires.1 a.numbers.now a.from k a.n (omega arith) c.loop-turn.invariant
+    ∙ ap₂ (λ m n. in_run within a.stride c.requires.1 a.numbers.now (a.from + m * a.stride) n) first last)

@@ -1,9 +1,10 @@
-use Rattle.differences.specs.Limits.{is_within}
-use Rattle.point_runs.proofs.PointLaws.{Judged}
+-- The points so far are in range, four more with each turn; the last decide.
+use mathlib.Core.Path.{◌≡◌}
+use mathlib.Core.Bool.{true}
+use Prim.Native.Nat.{◌*◌}
+use Rattle.hatch_lists.specs.Coordinates.{point_run}
+use Rattle.moved_hatch.specs.Parts.{in_range_from}
 use Rattle.point_runs.proofs.points_within.Given as goal
 
-abbrev pub invariant-loop-left : goal.invariant-loop-left
-invariant-loop-left l = Judged is_within l.stride l.numbers l.from l.n l.at l.left
-
-abbrev pub decreases-loop-left : goal.decreases-loop-left
-decreases-loop-left l = l.left
+abbrev pub invariant-loop-turn : goal.invariant-loop-turn
+invariant-loop-turn g l = in_range_from g.C.Coordinate.within l.from (point_run l.stride (4 * l.turn)) l.numbers ≡ true

@@ -1,10 +1,6 @@
-use mathlib.Core.Path.{◌≡◌}
-use Prim.Native.Nat.{◌-◌, ◌≤◌}
+use Rattle.std.specs.Prelude.{◌≡◌, map}
 use Rattle.hatch_front.proofs.ColorLaws.{ReadTo, filled}
 use Rattle.hatch_front.proofs.colors.read_colors.Given as goal
 
 abbrev pub invariant-loop-i : goal.invariant-loop-i
-invariant-loop-i l = (l.i ≤ l.n) × ((h : ReadTo l.s l.at l.i l.p) × (l.colors ≡ filled h))
-
-abbrev pub decreases-loop-i : goal.decreases-loop-i
-decreases-loop-i l = l.n - l.i
+invariant-loop-i g l = (h : ReadTo l.s l.at l.i l.p) × (l.colors ≡ map g.C.Color.of_bits (filled h))

@@ -1,6 +1,0 @@
--- The entries that are left fall.
-use Rattle.std.proofs.Common.{◌-◌, length}
-use Rattle.hatch_vectors.proofs.entries.old_are_words.Given as goal
-
-abbrev pub decreases-loop-k : goal.decreases-loop-k
-decreases-loop-k l = length l.words - l.k
