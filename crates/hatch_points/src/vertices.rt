@@ -87,6 +87,7 @@ pub fn decode_vertices<N: Number>(
 }
 
 // n points, with a double behind each or without: without one they are a run of RD.
+#[tactic(auto, unfolding(crate::specs::Walks::vertices_walk))]
 pub fn decode_points<N: Number>(
     s: &[u8],
     at: usize,
