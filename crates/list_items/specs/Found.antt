@@ -1,5 +1,5 @@
 -- What is found at an index: the definition's step from there on, and the index behind it. Assumes nothing.
-use Rattle.std.specs.Prelude.{◌≡◌, Bool, List, ℕ, ◌+◌, ◌≤◌, ◌<◌, ◌^◌, Option, Some, None, length, drop}
+use Rattle.std.specs.Prelude.{◌≡◌, Bool, ◌&&◌, leb, List, ℕ, ◌+◌, ◌≤◌, ◌<◌, ◌^◌, Option, Some, None, length, drop}
 use Rattle.hatch_lists.specs.declared.Head.{Head}
 use Rattle.hatch_lists.specs.declared.Item.{Item}
 use Rattle.hatch_lists.specs.Steps.{Step, next, broken}
@@ -40,3 +40,7 @@ pub record Small (i : Item) : Type 0 where
 -- and a head's parts too
 abbrev pub SmallHead : Head → Type 0
 SmallHead h = Small h.item × (h.parts ≤ 100_001)
+
+-- the words of a polyline behind its flags are those of a hatch
+abbrev pub polyline_words : ℕ → ℕ → ℕ → ℕ → Bool
+polyline_words bulge closed vertices handles = leb bulge 1 && (leb closed 1 && (leb vertices 100_000 && leb handles 1_024))

@@ -8,7 +8,7 @@ ghost use Rattle.hatch_format.specs.Caps.{document_caps};
 ghost use Rattle.hatch_lists.specs.Items.{stride_of, tangent_numbers};
 ghost use Rattle.hatch_lists.specs.Steps.{a_word, a_switch, a_count, turned_step, spline_step, edge_step, handles_step};
 ghost use Rattle.hatch_lists.specs.Steps.{polyline_step, edges_step, head_step, line_step};
-ghost use Rattle.list_items.specs.Found.{Finds, Reads, IsWord, IsSwitch, IsCount, Small, SmallHead};
+ghost use Rattle.list_items.specs.Found.{Finds, Reads, IsWord, IsSwitch, IsCount, Small, SmallHead, polyline_words};
 
 use hatch_lists::{Head, Item};
 
@@ -160,7 +160,15 @@ pub fn line_item(words: &[u32], at: usize) -> Option<(Item, usize)>
     Some((item, at + 1))
 }
 
-// Behind a polyline's flags: all its words, the handle count too, which one test finds there.
+// A polyline's two switches are 0 or 1, its two counts within document 01's caps.
+fn is_polyline(bulge: usize, closed: usize, vertices: usize, handles: usize) -> bool
+    ensures { result ≡ polyline_words bulge closed vertices handles }
+{
+    bulge <= 1 && closed <= 1 && vertices <= 100_000 && handles <= 1_024
+}
+
+// Behind a polyline's flags: all its words, the handle count too, which one test finds there. They are judged together, since a test
+// of each in its turn takes twice as long.
 #[tactic(auto, using(crate::proofs::Short::polyline_short))]
 fn polyline_head(words: &[u32], at: usize) -> Option<(Head, usize)>
     requires { at ≤ length words.now }
@@ -169,13 +177,16 @@ fn polyline_head(words: &[u32], at: usize) -> Option<(Head, usize)>
     if words.len() - at < 4 {
         return None;
     }
-    let bulge = switch(words, at)?;
-    let _closed = switch(words, at + 1)?;
-    let vertices = count(words, at + 2, 100_000)?;
-    let _handles = count(words, at + 3, 1_024)?;
+    let bulge = word(words, at);
+    let closed = word(words, at + 1);
+    let vertices = word(words, at + 2);
+    let handles = word(words, at + 3);
+    if !is_polyline(bulge, closed, vertices, handles) {
+        return None;
+    }
     let item = Item {
         points: vertices,
-        stride: stride_of(bulge),
+        stride: 2 + bulge,
         ..NO_ITEM
     };
     Some((Head { item, parts: 0 }, at + 4))
