@@ -1,8 +1,7 @@
 -- Without colours nothing is read again, and the sixteen are zero.
-use Rattle.std.specs.Prelude.{◌≡◌, ℕ}
+use Rattle.std.specs.Prelude.{◌≡◌}
 use Rattle.std.proofs.Common.{◌∙◌, sym, arith}
 use Rattle.hatch_format.specs.Record.{double, color_as_doubles}
-use Rattle.hatch_record.specs.Records.{num_colors}
 use Rattle.hatch_record.proofs.RecordLaws.{plain_is, small_in}
 use Rattle.hatch_record.proofs.doubles.doubles_answer.Goals as goal
 
