@@ -3,7 +3,7 @@ ghost use Rattle.std.specs.Prelude.{◌≡◌};
 ghost use Rattle.code_page.specs.Conversion.{conversion_refusal_number};
 ghost use Rattle.boundary.specs.ConversionBoundary.{conversion_answer};
 
-use code_page::{ConversionOutcome, ConversionRefusal};
+use code_page::ConversionRefusal;
 
 // The refusal's number or 0, and how many entries were written or 0. No DWG bits are read, so the places are 0.
 #[repr(C)]
@@ -15,31 +15,28 @@ pub struct ConversionAnswer {
     pub count: usize,
 }
 
-fn number(k: ConversionRefusal) -> u64
-    ensures { result ≡ conversion_refusal_number k }
+fn number(refusal: ConversionRefusal) -> u64
+    ensures { result ≡ conversion_refusal_number refusal }
 {
-    match k {
+    match refusal {
         ConversionRefusal::UndefinedCharacter => 14,
         ConversionRefusal::OutputTooShort => 11,
     }
 }
 
-fn of_numbers(refusal: u64, count: usize) -> ConversionAnswer
-    ensures { result ≡ record { refusal = refusal; place = 0; string_place = 0; count = count } }
-{
-    ConversionAnswer {
-        refusal: refusal,
-        place: 0,
-        string_place: 0,
-        count: count,
-    }
-}
+impl From<Result<usize, ConversionRefusal>> for ConversionAnswer {
+    ghost from_gives = { λ outcome answer. answer ≡ conversion_answer outcome };
 
-pub fn of_outcome(outcome: ConversionOutcome) -> ConversionAnswer
-    ensures { result ≡ conversion_answer outcome }
-{
-    match outcome {
-        ConversionOutcome::Written(count) => of_numbers(0, count),
-        ConversionOutcome::Refused(k) => of_numbers(number(k), 0),
+    fn from(outcome: Result<usize, ConversionRefusal>) -> ConversionAnswer {
+        let (refusal, count) = match outcome {
+            Ok(count) => (0, count),
+            Err(refusal) => (number(refusal), 0),
+        };
+        ConversionAnswer {
+            refusal,
+            place: 0,
+            string_place: 0,
+            count,
+        }
     }
 }

@@ -3,7 +3,6 @@
 ghost use Rattle.code_page.specs.Mapping.{unit_of, byte_of};
 ghost use Rattle.dwg_hatch.specs.ConversionCalls.{ConvertsAcross};
 
-use boundary::conversions;
 use boundary::conversions::ConversionAnswer;
 
 // The 16-bit units of 8-bit text, one for each byte.
@@ -11,7 +10,7 @@ use boundary::conversions::ConversionAnswer;
 pub extern "C" fn dwg_cp1252_to_units(bytes: &[u8], units: &mut [u16]) -> ConversionAnswer
     ensures { ConvertsAcross unit_of bytes.now result units.old units.new }
 {
-    conversions::of_outcome(code_page::to_units(bytes, units))
+    code_page::to_units(bytes, units).into()
 }
 
 // The way back: the bytes of 16-bit units.
@@ -19,5 +18,5 @@ pub extern "C" fn dwg_cp1252_to_units(bytes: &[u8], units: &mut [u16]) -> Conver
 pub extern "C" fn dwg_cp1252_to_bytes(units: &[u16], bytes: &mut [u8]) -> ConversionAnswer
     ensures { ConvertsAcross byte_of units.now result bytes.old bytes.new }
 {
-    conversions::of_outcome(code_page::to_bytes(units, bytes))
+    code_page::to_bytes(units, bytes).into()
 }
