@@ -1,19 +1,17 @@
 -- What crosses the C boundary when a hatch's points are moved: a record as a caller gives it, and the answer as numbers. Assumes nothing.
-use Rattle.std.specs.Prelude.{◌≡◌, refl, ℕ}
+use Rattle.std.specs.Prelude.{◌≡◌, refl, ℕ, Result, Ok, Err}
 use Rattle.loads.specs.Bits.{bit}
 use Rattle.hatch_format.specs.declared.Hatch.{Hatch}
-use Rattle.hatch_format.specs.declared.HatchBits.{HatchBits}
 use Rattle.hatch_lists.specs.declared.HatchCounts.{HatchCounts}
-use Rattle.hatch_lists.specs.Whole.{counts_of, counts_of_bits}
-use Rattle.moved_hatch.specs.declared.MoveOutcome.{MoveOutcome}
-use Rattle.moved_hatch.specs.declared.MoveOutcome.TheVariants.{Moved, Refused}
+use Rattle.hatch_lists.specs.Whole.{counts_of}
+use Rattle.moved_hatch.specs.declared.MoveRefusal.{MoveRefusal}
 use Rattle.moved_hatch.specs.Moving.{move_refusal_number}
 use Rattle.boundary.specs.declared.bodies.BodyFields.{BodyFields}
 use Rattle.boundary.specs.declared.bodies.TextFields.{TextFields}
 use Rattle.boundary.specs.declared.given.TextGiven.{TextGiven}
 use Rattle.boundary.specs.declared.given.FieldsGiven.{FieldsGiven}
 use Rattle.boundary.specs.declared.moves.MoveAnswer.{MoveAnswer}
-use Rattle.boundary.specs.HatchBoundary.{body_fields, body_bits_fields}
+use Rattle.boundary.specs.HatchBoundary.{body_fields}
 
 -- what the record says of its lists; the colours' count stands in its gradient
 abbrev pub given_counts : FieldsGiven → ℕ → HatchCounts
@@ -31,9 +29,9 @@ given_counts a colors =
     }
 
 -- 0, or the refusal's number; the places are 0
-abbrev pub move_answer : MoveOutcome → MoveAnswer
-move_answer Moved = record { refusal = 0; place = 0; string_place = 0 }
-move_answer (Refused k) = record { refusal = move_refusal_number k; place = 0; string_place = 0 }
+abbrev pub move_answer : Result (Unit {0}) MoveRefusal → MoveAnswer
+move_answer (Ok done) = record { refusal = 0; place = 0; string_place = 0 }
+move_answer (Err refusal) = record { refusal = move_refusal_number refusal; place = 0; string_place = 0 }
 
 -- ---- a record goes in as it came out: a switch's byte is 0 or 1
 abbrev pub text_given : TextFields → TextGiven
@@ -55,8 +53,5 @@ as_given a =
       numbers_used = a.numbers_used;
     }
 
-pub given_back_bits : (h : HatchBits) → given_counts (as_given (body_bits_fields h)) h.gradient.num_colors ≡ counts_of_bits h
-given_back_bits h = refl
-
-pub given_back : (h : Hatch) → given_counts (as_given (body_fields h)) h.gradient.num_colors ≡ counts_of h
+pub given_back : {N C : Type 0} (h : Hatch N C) → given_counts (as_given (body_fields h)) h.gradient.num_colors ≡ counts_of h
 given_back h = refl

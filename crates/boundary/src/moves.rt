@@ -3,7 +3,7 @@ ghost use Rattle.std.specs.Prelude.{◌≡◌};
 ghost use Rattle.moved_hatch.specs.Moving.{move_refusal_number};
 ghost use Rattle.boundary.specs.MoveBoundary.{move_answer};
 
-use moved_hatch::{MoveOutcome, MoveRefusal};
+use moved_hatch::MoveRefusal;
 
 // The refusal's number or 0. No DWG bits are read, so the places are 0.
 #[repr(C)]
@@ -14,31 +14,28 @@ pub struct MoveAnswer {
     pub string_place: usize,
 }
 
-fn number(k: MoveRefusal) -> u64
-    ensures { result ≡ move_refusal_number k }
+fn number(refusal: MoveRefusal) -> u64
+    ensures { result ≡ move_refusal_number refusal }
 {
-    match k {
+    match refusal {
         MoveRefusal::ListsNotWhole => 11,
         MoveRefusal::OtherPlane => 12,
         MoveRefusal::CoordinateOutOfRange => 13,
     }
 }
 
-fn of_number(refusal: u64) -> MoveAnswer
-    ensures { result ≡ record { refusal = refusal; place = 0; string_place = 0 } }
-{
-    MoveAnswer {
-        refusal: refusal,
-        place: 0,
-        string_place: 0,
-    }
-}
+impl From<Result<(), MoveRefusal>> for MoveAnswer {
+    ghost from_gives = { λ outcome answer. answer ≡ move_answer outcome };
 
-pub fn of_outcome(outcome: MoveOutcome) -> MoveAnswer
-    ensures { result ≡ move_answer outcome }
-{
-    match outcome {
-        MoveOutcome::Moved => of_number(0),
-        MoveOutcome::Refused(k) => of_number(number(k)),
+    fn from(outcome: Result<(), MoveRefusal>) -> MoveAnswer {
+        let refusal = match outcome {
+            Ok(()) => 0,
+            Err(refusal) => number(refusal),
+        };
+        MoveAnswer {
+            refusal,
+            place: 0,
+            string_place: 0,
+        }
     }
 }
