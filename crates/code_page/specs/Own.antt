@@ -1,8 +1,10 @@
 -- Entries that are mapped to themselves, either way: below 80 and from A0 to FF (hexadecimal). That they are, by the table, is proved in
 -- proofs/OwnEntries.antt. Assumes nothing.
-use Rattle.std.specs.Prelude.{◌≡◌, refl, Bool, true, false, ◌&&◌, ◌||◌, ℕ, ◌<◌, ◌≤◌, ltb, leb}
+use Rattle.std.specs.Prelude.{◌≡◌, refl, Bool, true, false, ◌&&◌, ◌||◌, Option, Some, List, [], ◌∷◌, ℕ, ◌<◌, ◌≤◌, ltb, leb}
 use Rattle.std.proofs.Common.{sym, ◌∙◌, arith, ltb-true, ltb-false, leb-false, lt-ltb}
 use Rattle.std.proofs.Math.Bool.{or-true}
+use Rattle.std.specs.List.{list_all}
+use Rattle.code_page.specs.Conversion.{mapped_all}
 use Rattle.code_page.specs.Everywhere.{unlike}
 
 abbrev pub is_own : ℕ → Bool
@@ -11,6 +13,13 @@ is_own x = ltb x 0x80 || (leb 0xA0 x && ltb x 0x100)
 pub both : (a b : Bool) → a && b ≡ true → (a ≡ true) × (b ≡ true)
 both true b e = (refl, e)
 both false b e = absurd (unlike (sym e))
+
+-- a list of such entries is mapped to itself
+pub own_mapped : (f : ℕ → Option ℕ) → ((x : ℕ) → is_own x ≡ true → f x ≡ Some x) → (xs : List ℕ) → list_all is_own xs ≡ true → mapped_all f xs ≡ Some xs
+own_mapped f own [] e = refl
+own_mapped f own (x ∷ xs) e =
+    let parts = both (is_own x) (list_all is_own xs) e in
+    rw (own x parts.0, own_mapped f own xs parts.1)
 
 pub own_small : (x : ℕ) → is_own x ≡ true → x < 0x100
 own_small x e = go (ltb x 0x80) refl

@@ -2,10 +2,10 @@
 // specs/MoveCalls promises that each answer is the call's as numbers; the list is what the call leaves there.
 ghost use Rattle.dwg_hatch.specs.MoveCalls.{MovesDoubles, MovesBits};
 
+use boundary::given;
 use boundary::given::{BodyBitsGiven, BodyGiven};
 use boundary::moves::MoveAnswer;
-use boundary::{given, moves};
-use hatch_format::{Vec3D, Vec3DBits};
+use hatch_format::Vec3D;
 
 // Each coordinate of the first numbers used, less the origin's, in place: the record as a call gave it, its words and its numbers.
 #[unsafe(no_mangle)]
@@ -26,7 +26,7 @@ pub extern "C" fn dwg_hatch_move_origin(
         y: hatch.extrusion_y,
         z: hatch.extrusion_z,
     };
-    moves::of_outcome(move_origin::move_origin(counts, extrusion, words, numbers, x, y))
+    move_origin::move_origin(counts, extrusion, words, numbers, x, y).into()
 }
 
 // The same with each double as its 64 bits.
@@ -43,10 +43,10 @@ pub extern "C" fn dwg_hatch_move_origin_bits(
     let gradient = hatch.gradient;
     let fields = hatch.fields;
     let counts = given::counts_of(fields, gradient.num_colors);
-    let extrusion = Vec3DBits {
+    let extrusion = Vec3D {
         x: hatch.extrusion_x,
         y: hatch.extrusion_y,
         z: hatch.extrusion_z,
     };
-    moves::of_outcome(move_origin::bits::move_origin_bits(counts, extrusion, words, bits, x, y))
+    move_origin::move_origin(counts, extrusion, words, bits, x, y).into()
 }

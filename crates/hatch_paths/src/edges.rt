@@ -1,4 +1,6 @@
 // The edges of a path: walks that store what they read.
+#![tactic(auto, using(hatch_points::proofs::Rows::places, bitcursor::proofs::Smalls::smalls))]
+
 ghost use Rattle.std.specs.Prelude.{◌≡◌, [], ◌∷◌, ◌+◌, ◌*◌, ◌^◌, ◌≤◌, ◌<◌, length};
 ghost use Rattle.std.proofs.lemmas.List.Edits.{sets};
 ghost use Rattle.loads.specs.Bits.{bit, limit};
@@ -140,6 +142,7 @@ fn put_spline_head(words: &mut [u32], at: usize, head: SplineHead)
 }
 
 // A spline, behind its kind.
+#[tactic(auto, using(crate::proofs::SplineHeads::head_end))]
 fn decode_spline_edge<N: Number>(
     s: &[u8],
     at: usize,
@@ -159,6 +162,7 @@ fn decode_spline_edge<N: Number>(
 
 // What follows an edge's kind. The kinds are document 01's numbers: an enum of them would be made here and matched here, and its refusal
 // would still need the place.
+#[tactic(auto, using(crate::proofs::EdgeLaws::other_kind), unfolding(crate::specs::PathWalks::edge_of_walk))]
 fn decode_edge_of<N: Number>(
     s: &[u8],
     at: usize,

@@ -1,4 +1,6 @@
 // The boundary paths: polylines and lists of edges, each with the count of its boundary handles.
+#![tactic(auto, using(hatch_points::proofs::Rows::places, bitcursor::proofs::Smalls::smalls))]
+
 ghost use Rattle.std.specs.Prelude.{◌≡◌, [], ◌∷◌, ◌+◌, ◌/◌, ◌^◌, ◌≤◌, ◌<◌};
 ghost use Rattle.std.proofs.lemmas.List.Edits.{sets};
 ghost use Rattle.loads.specs.Bits.{bit, odd};
@@ -60,6 +62,7 @@ fn decode_edge_path<N: Number>(
     edges::decode_edges(s, p, n as usize, rules, numbers, words, z.with_words(1))
 }
 
+#[tactic(auto, unfolding(crate::specs::PathWalks::segments_walk))]
 fn decode_segments<N: Number>(
     s: &[u8],
     at: usize,

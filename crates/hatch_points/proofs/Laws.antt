@@ -16,7 +16,7 @@ use Rattle.bitcursor.specs.declared.Refused.{Refused}
 use Rattle.loads.specs.Bits.{odd}
 use Rattle.bitcursor.specs.Answers.{value_as}
 use Rattle.bitcursor.specs.Reading.{Out, got, refused, and_then, never}
-use Rattle.bitcursor.specs.Format.{Format, pure, ◌>>=◌}
+use Rattle.bitcursor.specs.Format.{Format, pure, ◌>>=◌, then_got, then_refused}
 use Rattle.bitcursor.specs.Inputs.{one}
 use Rattle.hatch_format.specs.Takes.{Takes, moved}
 use Rattle.hatch_points.specs.declared.lists.Sizes.{Sizes}
@@ -85,6 +85,15 @@ one_word z w = λ i. record { numbers = sym (add-zero z.numbers) i; words = z.wo
 
 pub more_numbers : (z : Sizes) (ns : List ℕ) → with_numbers z (length ns) ≡ grow z (numbers ns)
 more_numbers z ns = λ i. record { numbers = z.numbers + length ns; words = sym (add-zero z.words) i; derived = sym (or_false z.derived) i }
+
+-- so many numbers, and then these
+pub numbers_again : (z : Sizes) (m : ℕ) (ns : List ℕ) {n : ℕ} → n ≡ m + length ns → with_numbers z n ≡ grow (with_numbers z m) (numbers ns)
+numbers_again z m ns e =
+    ap (with_numbers z) e ∙ (λ i. record { numbers = sym (add_assoc z.numbers m (length ns)) i; words = z.words; derived = z.derived })
+    ∙ more_numbers (with_numbers z m) ns
+
+pub no_numbers : (z : Sizes) → with_numbers z 0 ≡ z
+no_numbers z = λ i. record { numbers = add-zero z.numbers i; words = z.words; derived = z.derived }
 
 -- a front is kept where stores come behind it, and by one who keeps a longer front
 take_sets : {A : Type 0} (n : ℕ) (l : List A) (i : ℕ) (vs : List A) → n ≤ i → take n (sets l i vs) ≡ take n l
@@ -293,6 +302,14 @@ module _ {N : Type 0} {of : ℕ → N} where
   pub words_still : {o : Out ℕ Entries} {l l' : Lists N} {z y : Sizes} {p : ℕ} (t : Finished of o l z l' p y) → Wordless o → y.words ≡ z.words
   words_still {z = z} t w =
       ap (λ (x : Sizes). x.words) t.step.sizes ∙ ap (λ (ws : List ℕ). z.words + length ws) (w t.entries _ t.read) ∙ add-zero z.words
+
+-- ---- the first of a row, as a `?` gives it
+module _ {A B : Type 0} (f : Format one A) (g : A → Format one B) (xs : List ℕ) {p : ℕ} where
+  pub then_read : {a : A} {q : ℕ} → got a q ≡ f.read xs p → (f >>= g).read xs p ≡ (g a).read xs q
+  then_read e = then_got f g xs (sym e)
+
+  pub then_none : {e : Refused ℕ} → refused e.refusal e.place ≡ f.read xs p → (f >>= g).read xs p ≡ refused e.refusal e.place
+  then_none e = then_refused f g xs (sym e)
 
 -- ---- where a reading ends, and that a walk can go on there
 module _ {A : Type 0} (f : Format one A) (n : ℕ) (t : Takes n f) (xs : List ℕ) (p : ℕ) {a : A} {q : ℕ} (e : got a q ≡ f.read xs p) where

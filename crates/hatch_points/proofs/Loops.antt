@@ -14,9 +14,9 @@ use Rattle.bitcursor.specs.Inputs.{one}
 use Rattle.hatch_points.specs.declared.lists.Sizes.{Sizes}
 use Rattle.hatch_points.specs.Gathered.{Entries, none, numbers, plus, repeated}
 use Rattle.hatch_points.specs.Walks.{single_walk}
-use Rattle.hatch_points.specs.Lists.{Lists, lists, store, grow, Kept, Ready, Walks, Passes}
+use Rattle.hatch_points.specs.Lists.{Lists, lists, with_numbers, store, grow, Kept, Ready, Walks, Passes}
 use Rattle.hatch_points.proofs.Laws.{Step, no_step, ◌⊕◌, plus_none, plus_again, kept_step, kept_then, walk_finished, walk_refused, walk_kept}
-use Rattle.hatch_points.proofs.Laws.{walks_as, walks_unstored, refuses, ends, behind, sets_out}
+use Rattle.hatch_points.proofs.Laws.{walks_as, walks_unstored, refuses, ends, behind, sets_out, no_numbers}
 
 -- the entries a, and then what the rest has
 abbrev pub onto : Entries → Out ℕ Entries → Out ℕ Entries
@@ -142,6 +142,9 @@ module _ {N : Type 0} {of : ℕ → N} {d : Format one Entries} {xs : List ℕ} 
         ready = h;
       }
 
+  pub start_numbers : {n p : ℕ} {l : Lists N} {z : Sizes} → Ready xs p z → Along of d xs n p l z 0 p l (with_numbers z 0)
+  start_numbers {n} {p} {l} {z} h = subst (Along of d xs n p l z 0 p l) (sym (no_numbers z)) (start h)
+
   module _ {n p₀ : ℕ} {l₀ : Lists N} {z₀ : Sizes} {i p : ℕ} {l : Lists N} {z : Sizes} (h : Along of d xs n p₀ l₀ z₀ i p l z) where
     turn : i < n → left d xs n p₀ ≡ onto h.gathered (and_then (d.read xs p) (λ e q. onto e (left d xs (n - (i + 1)) q)))
     turn lt =
@@ -180,6 +183,9 @@ module _ {N : Type 0} {of : ℕ → N} {d : Format one Entries} {xs : List ℕ} 
     pub loop_ends : n ≤ i → Walks of xs ((repeated n d).read xs p₀) l₀ z₀ l (Ok (z, p))
     unfolding left
     loop_ends le = ends h.gathered (finish le) h.step (subst (Ready xs p) h.step.sizes h.ready)
+
+    pub loop_ends_as : {y : Sizes} → y ≡ z → n ≤ i → Walks of xs ((repeated n d).read xs p₀) l₀ z₀ l (Ok (y, p))
+    loop_ends_as e le = subst (λ (y : Sizes). Walks of xs ((repeated n d).read xs p₀) l₀ z₀ l (Ok (y, p))) (sym e) (loop_ends le)
 
     -- a turn that is a walk by itself
     module _ {l' : Lists N} (lt : i < n) where

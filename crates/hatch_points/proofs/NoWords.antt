@@ -1,15 +1,11 @@
--- Which walks gather no words, and which no numbers; and the range of what becomes a word. Assumes nothing.
+-- Which walks gather no words, and which no numbers; and that a flag takes a bit. Assumes nothing.
 use mathlib.Core.Path.{◌≡◌, refl, sym, ap, ◌∙◌}
 use mathlib.Core.Bool.{Bool}
 use mathlib.Core.List.{List, []}
-use Prim.Native.Nat.{ℕ, zero, suc, ◌≤◌, ◌<◌}
+use Prim.Native.Nat.{ℕ, ◌≤◌}
 use native.Mathlib.Omega.{arith}
-use lib.Dec.{eqb}
-use Rattle.loads.specs.Bits.{bit}
 use Rattle.bitcursor.specs.Reading.{Out, got, refused, never}
 use lib.ListN.{length}
-use Rattle.loads.specs.BitLaws.{length_digits}
-use Rattle.bitcursor.specs.Code.{raw}
 use Rattle.bitcursor.specs.Code.{tabled}
 use Rattle.bitcursor.specs.Codes.{B, B_codes, B_of, RD}
 use Rattle.hatch_format.specs.Takes.{Takes, takes_code}
@@ -46,17 +42,7 @@ vertices_wordless more n xs p e q i =
     wordless (all (vertex_entries xs more)) (λ vs. ap (λ (x : Entries). x.words) (all_numbers (vertex_numbers more) vs))
     ((times n (vertex more)).read xs p) e q (vertices_gather xs more n p ∙ i)
 
--- a bit as a number is its own word
-pub bit_of : (v : ℕ) → v < 2 → bit (eqb 1 v) ≡ v
-bit_of zero h = refl
-bit_of (suc zero) h = refl
-bit_of (suc (suc v)) h = absurd (omega arith)
-
--- n raw bits take n bits
-pub takes_raw : (n : ℕ) → Takes n (coded (raw n))
-unfolding raw
-takes_raw n = takes_code n (raw n) (λ v cs l. omega (arith, ap length l.1, length_digits n v))
-
+-- a flag takes a bit
 pub takes_flag : Takes 1 (coded B)
 unfolding B tabled
 takes_flag = takes_code 1 B go

@@ -115,6 +115,11 @@ module _ (xs : List ℕ) (p n m i : ℕ) where
       ∙ ap (sets l i) (sym (ap (map of) (split (omega arith)) ∙ map-append of (raw_at xs p m) (raw_at xs (p + 64 * m) (n - m)))))
       (le_or_lt n (length l - i))
 
+-- and where there is room for none, nothing changes
+pub none_enough : {N : Type 0} (of : ℕ → N) (xs : List ℕ) (p n i : ℕ) (l : List N) → min n (length l - i) ≡ 0 → sets l i (map of (raw_at xs p n)) ≡ l
+unfolding raw_at
+none_enough of xs p n i l h = sym (enough xs p n 0 i of l (sym h))
+
 -- none are there everywhere
 pub raw_zero : (xs : List ℕ) (n p : ℕ) → n ≡ 0 → (raw_run n).read xs p ≡ got (numbers []) p
 unfolding raw_at

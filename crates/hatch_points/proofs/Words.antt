@@ -7,10 +7,10 @@ use Rattle.std.specs.Prelude.{Result}
 use Rattle.bitcursor.specs.declared.Refused.{Refused}
 use Rattle.hatch_points.specs.declared.lists.Sizes.{Sizes}
 use Rattle.hatch_points.specs.Gathered.{word}
-use Rattle.hatch_points.specs.Walks.{raw_run, double_run}
+use Rattle.hatch_points.specs.Walks.{double_run}
 use Rattle.hatch_points.specs.Lists.{lists, with_words, Walks}
 use Rattle.hatch_points.proofs.Laws.{Step, one_word, words_kept}
-use Rattle.hatch_points.proofs.NoWords.{raw_wordless, double_wordless}
+use Rattle.hatch_points.proofs.NoWords.{double_wordless}
 
 module _ {N : Type 0} {of : ℕ → N} where
   -- runs store no words
@@ -18,10 +18,6 @@ module _ {N : Type 0} {of : ℕ → N} where
     pub double_words : Walks of xs ((double_run n).read xs p) (lists a []) z (lists a' []) r
         → Walks of xs ((double_run n).read xs p) (lists a ws) z (lists a' ws) r
     double_words = words_kept _ ws (double_wordless n xs p)
-
-    pub raw_words : Walks of xs ((raw_run n).read xs p) (lists a []) z (lists a' []) r
-        → Walks of xs ((raw_run n).read xs p) (lists a ws) z (lists a' ws) r
-    raw_words = words_kept _ ws (raw_wordless n xs p)
 
   -- a word is put
   pub word_step : {a : List N} {ws ws' : List ℕ} (z : Sizes) (w : ℕ) → ws' ≡ set ws z.words w

@@ -22,6 +22,7 @@ pub fn stores(n: usize, from: usize, room: usize) -> usize
 }
 
 // Stores the n RD at `at`, which are all there, in a list that has room for them: no turn tests the list's length.
+#[tactic(auto, using(crate::proofs::RawRuns::one_more), unfolding(crate::specs::Stores::raw_at))]
 fn put_run<N: Number>(s: &[u8], at: usize, n: usize, numbers: &mut [N], from: usize)
     requires { (length s.now ≤ limit) × ((at + 64 * n ≤ 8 * length s.now) × (from + n ≤ length numbers.old)) }
     ensures { numbers.new ≡ sets numbers.old from (map N.of_bits (raw_at s.now at n)) }
@@ -32,6 +33,7 @@ fn put_run<N: Number>(s: &[u8], at: usize, n: usize, numbers: &mut [N], from: us
 }
 
 // Stores the n RD at `at`, which are all there, so far as the list has room.
+#[tactic(auto, using(crate::proofs::RawRuns::enough, crate::proofs::RawRuns::none_enough))]
 fn put_raw<N: Number>(s: &[u8], at: usize, n: usize, numbers: &mut [N], from: usize)
     requires { (length s.now ≤ limit) × (at + 64 * n ≤ 8 * length s.now) }
     ensures { numbers.new ≡ sets numbers.old from (map N.of_bits (raw_at s.now at n)) }
@@ -88,14 +90,12 @@ fn put_doubles<N: Number>(
         (lists numbers.old []) z (lists numbers.new []) result }
 {
     let mut p = at;
-    let mut y = z;
-    for _ in 0..n {
+    for i in 0..n {
         let (v, q) = read_knot(s, p)?;
-        lists::put_number(numbers, y.numbers, v);
+        lists::put_number(numbers, z.numbers + i, v);
         p = q;
-        y = y.with_numbers(1);
     }
-    Ok((y, p))
+    Ok((z.with_numbers(n), p))
 }
 
 // n BD that no list has room for: their places alone are wanted.
@@ -104,13 +104,11 @@ fn pass_doubles(s: &[u8], at: usize, n: usize, z: Sizes) -> Reading<Sizes>
     ensures { Passes s.now ((repeated n single_walk).read s.now at) z result }
 {
     let mut p = at;
-    let mut y = z;
     for _ in 0..n {
         let (_, q) = read_knot(s, p)?;
         p = q;
-        y = y.with_numbers(1);
     }
-    Ok((y, p))
+    Ok((z.with_numbers(n), p))
 }
 
 // n BD: stored so far as there is room, and passed from there on.

@@ -48,14 +48,12 @@ fn put_vertices<N: Number>(
         (lists numbers.old []) z (lists numbers.new []) result }
 {
     let mut p = at;
-    let mut y = z;
-    for _ in 0..n {
+    for i in 0..n {
         let (extra, q) = read_extra(s, p)?;
-        put_vertex(s, p, extra, numbers, y.numbers);
+        put_vertex(s, p, extra, numbers, z.numbers + 3 * i);
         p = q;
-        y = y.with_numbers(3);
     }
-    Ok((y, p))
+    Ok((z.with_numbers(3 * n), p))
 }
 
 // n of them that no list has room for: their places alone are wanted.
@@ -64,13 +62,11 @@ fn pass_vertices(s: &[u8], at: usize, n: usize, z: Sizes) -> Reading<Sizes>
     ensures { Passes s.now ((repeated n vertex_walk).read s.now at) z result }
 {
     let mut p = at;
-    let mut y = z;
     for _ in 0..n {
         let (_, q) = read_extra(s, p)?;
         p = q;
-        y = y.with_numbers(3);
     }
-    Ok((y, p))
+    Ok((z.with_numbers(3 * n), p))
 }
 
 // n of them: stored so far as there is room, and passed from there on.
@@ -91,6 +87,7 @@ pub fn decode_vertices<N: Number>(
 }
 
 // n points, with a double behind each or without: without one they are a run of RD.
+#[tactic(auto, unfolding(crate::specs::Walks::vertices_walk))]
 pub fn decode_points<N: Number>(
     s: &[u8],
     at: usize,

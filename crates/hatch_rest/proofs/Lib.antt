@@ -1,3 +1,1 @@
-pub mod TailLaws
-pub mod TailEnds
-pub mod RestLaws
+pub mod Given

@@ -1,3 +1,4 @@
 pub mod LineGathers
+pub mod Heads
 pub mod Tails
 pub mod Rests

@@ -1,22 +1,24 @@
 // What follows the paths: the pattern with its lines, and the last fields.
 ghost use Rattle.std.specs.Prelude.{◌≡◌, false, [], ◌≤◌, length};
-ghost use Rattle.bitcursor.specs.Answers.{as_read};
+ghost use Rattle.bitcursor.specs.Answers.{outcome};
 ghost use Rattle.loads.specs.Bits.{limit};
 ghost use Rattle.bitcursor.specs.Doubles.{BD};
 ghost use Rattle.bitcursor.specs.Held.{held};
 ghost use Rattle.hatch_format.specs.Patterns.{pattern, ending, tail};
 ghost use Rattle.hatch_points.specs.Gathered.{repeated};
-ghost use Rattle.hatch_rest.specs.LineGathers.{line_walk};
 ghost use Rattle.hatch_points.specs.Lists.{lists, Ready, Walks};
-ghost use Rattle.hatch_rest.specs.Tails.{Gives, pattern_entries, pattern_walk, ending_entries, ending_walk, tail_entries, tail_walk};
+ghost use Rattle.hatch_rest.specs.Heads.{pattern_head};
+ghost use Rattle.hatch_rest.specs.LineGathers.{line_walk};
+ghost use Rattle.hatch_rest.specs.Tails.{Gives, pattern_of, pattern_entries, ending_of, ending_entries, tail_of, tail_entries};
 
-use bitcursor::{Read, Refusal, within};
+use bitcursor::values::Number;
+use bitcursor::{Reading, within};
 use hatch_format::Caps;
-use hatch_points::lists::{Sizes, Walk};
-use hatch_points::{counts, lists, runs};
+use hatch_points::lists::Sizes;
+use hatch_points::{counts, flags, lists, runs};
 
 // What a hatch has that is not solid, with the count of its lines; zero where it is.
-#[derive(Clone, Copy)]
+#[derive(Clone, Copy, Debug, PartialEq, Eq)]
 pub struct Pattern {
     pub angle: u64,
     pub scale: u64,
@@ -24,27 +26,15 @@ pub struct Pattern {
     pub lines: usize,
 }
 
-#[derive(Clone, Copy)]
-pub enum PatternWalk {
-    Done(Pattern, usize, Sizes),
-    Refused(Refusal, usize),
-}
-
 // The last fields, with the count of seed points.
-#[derive(Clone, Copy)]
+#[derive(Clone, Copy, Debug, PartialEq, Eq)]
 pub struct Ending {
     pub pixel_size: u64,
     pub seed_points: usize,
 }
 
-#[derive(Clone, Copy)]
-pub enum EndingWalk {
-    Done(Ending, usize, Sizes),
-    Refused(Refusal, usize),
-}
-
 // What follows the paths.
-#[derive(Clone, Copy)]
+#[derive(Clone, Copy, Debug, PartialEq, Eq)]
 pub struct Tail {
     pub style: u64,
     pub kind: u64,
@@ -52,218 +42,168 @@ pub struct Tail {
     pub ending: Ending,
 }
 
-#[derive(Clone, Copy)]
-pub enum TailWalk {
-    Done(Tail, usize, Sizes),
-    Refused(Refusal, usize),
-}
-
 // A pattern line: angle, origin and offset, the count of dashes as a word, and the dashes.
-fn decode_pattern_line(
+fn decode_pattern_line<N: Number>(
     s: &[u8],
     at: usize,
     cap: usize,
-    numbers: &mut [f64],
-    bits: &mut [u64],
+    numbers: &mut [N],
     words: &mut [u32],
     z: Sizes,
-) -> Walk
+) -> Reading<Sizes>
     requires { Ready s.now at z }
-    ensures { Walks s.now ((line_walk cap).read s.now at)
-        (lists numbers.old bits.old words.old) z (lists numbers.new bits.new words.new) result }
+    ensures { Walks N.of_bits s.now ((line_walk cap).read s.now at)
+        (lists numbers.old words.old) z (lists numbers.new words.new) result }
 {
-    match runs::double_run(s, at, 5, numbers, bits, z) {
-        Walk::Done(p, y) => match counts::read_short_count(s, p, cap) {
-            Read::Value(n, q) => {
-                lists::put_word(words, y.words, n);
-                let x = Sizes {
-                    numbers: y.numbers,
-                    words: y.words + 1,
-                    derived: y.derived,
-                };
-                runs::double_run(s, q, n as usize, numbers, bits, x)
-            }
-            Read::Refused(k, q) => Walk::Refused(k, q),
-        },
-        Walk::Refused(k, p) => Walk::Refused(k, p),
-    }
+    let (y, p) = runs::double_run(s, at, 5, numbers, z)?;
+    let (n, q) = counts::read_short_count(s, p, cap)?;
+    lists::put_word(words, y.words, n);
+    runs::double_run(s, q, n as usize, numbers, y.with_words(1))
 }
 
-fn decode_pattern_lines(
+fn decode_pattern_lines<N: Number>(
     s: &[u8],
     at: usize,
     n: usize,
     cap: usize,
-    numbers: &mut [f64],
-    bits: &mut [u64],
+    numbers: &mut [N],
     words: &mut [u32],
     z: Sizes,
-) -> Walk
+) -> Reading<Sizes>
     requires { Ready s.now at z }
-    ensures { Walks s.now ((repeated n (line_walk cap)).read s.now at)
-        (lists numbers.old bits.old words.old) z (lists numbers.new bits.new words.new) result }
+    ensures { Walks N.of_bits s.now ((repeated n (line_walk cap)).read s.now at)
+        (lists numbers.old words.old) z (lists numbers.new words.new) result }
 {
     let mut p = at;
     let mut y = z;
-    let mut i: usize = 0;
-    while i < n {
-        match decode_pattern_line(s, p, cap, numbers, bits, words, y) {
-            Walk::Done(q, x) => {
-                p = q;
-                y = x;
-            }
-            Walk::Refused(k, q) => {
-                return Walk::Refused(k, q);
-            }
-        }
-        i += 1;
+    for _ in 0..n {
+        (y, p) = decode_pattern_line(s, p, cap, numbers, words, y)?;
     }
-    Walk::Done(p, y)
+    Ok((y, p))
+}
+
+// The fields of a pattern in front of its lines, with their count.
+#[tactic(auto, using(bitcursor::proofs::FormatSteps::fields), unfolding(crate::specs::Heads::pattern_head))]
+fn read_pattern_head(s: &[u8], at: usize, cap: usize) -> Reading<Pattern>
+    requires { length s.now ≤ limit }
+    ensures { outcome result ≡ (pattern_head cap).read s.now at }
+{
+    let (angle, p) = within::read_bd_bits(s, at)?;
+    let (scale, p) = within::read_bd_bits(s, p)?;
+    let (double, p) = flags::read_flag(s, p)?;
+    let (n, p) = counts::read_short_count(s, p, cap)?;
+    let pattern = Pattern {
+        angle,
+        scale,
+        double,
+        lines: n as usize,
+    };
+    Ok((pattern, p))
 }
 
 // The pattern of a hatch that is not solid.
-fn decode_open_pattern(
+fn decode_open_pattern<N: Number>(
     s: &[u8],
     at: usize,
     caps: Caps,
-    numbers: &mut [f64],
-    bits: &mut [u64],
+    numbers: &mut [N],
     words: &mut [u32],
     z: Sizes,
-) -> PatternWalk
+) -> Reading<(Pattern, Sizes)>
     requires { Ready s.now at z }
-    ensures { (result ≡ pattern_walk z ((pattern caps false).read s.now at))
-        × Gives s.now pattern_entries ((pattern caps false).read s.now at)
-        (lists numbers.old bits.old words.old) z (lists numbers.new bits.new words.new) }
+    ensures { Gives N.of_bits s.now pattern_of pattern_entries ((pattern caps false).read s.now at)
+        (lists numbers.old words.old) z (lists numbers.new words.new) result }
 {
-    let angle = sequence::then_bd_bits(s, Read::Value(0, at));
-    let scale = sequence::then_bd_bits(s, angle);
-    let double = sequence::then_bits(s, scale, 1, true, 0);
-    match counts::then_short_count(s, double, caps.pattern_lines) {
-        Read::Value(n, p) => {
-            match decode_pattern_lines(s, p, n as usize, caps.dashes, numbers, bits, words, z) {
-                Walk::Done(q, y) => {
-                    let a = Pattern {
-                        angle: sequence::value_of(angle),
-                        scale: sequence::value_of(scale),
-                        double: 1 == sequence::value_of(double),
-                        lines: n as usize,
-                    };
-                    PatternWalk::Done(a, q, y)
-                }
-                Walk::Refused(k, q) => PatternWalk::Refused(k, q),
-            }
-        }
-        Read::Refused(k, p) => PatternWalk::Refused(k, p),
-    }
+    let (pattern, p) = read_pattern_head(s, at, caps.pattern_lines)?;
+    let (y, q) = decode_pattern_lines(s, p, pattern.lines, caps.dashes, numbers, words, z)?;
+    Ok(((pattern, y), q))
 }
 
 // A solid hatch has no pattern, and nothing is read.
-fn decode_pattern(
+fn decode_pattern<N: Number>(
     s: &[u8],
     at: usize,
     solid: bool,
     caps: Caps,
-    numbers: &mut [f64],
-    bits: &mut [u64],
+    numbers: &mut [N],
     words: &mut [u32],
     z: Sizes,
-) -> PatternWalk
+) -> Reading<(Pattern, Sizes)>
     requires { Ready s.now at z }
-    ensures { (result ≡ pattern_walk z ((pattern caps solid).read s.now at))
-        × Gives s.now pattern_entries ((pattern caps solid).read s.now at)
-        (lists numbers.old bits.old words.old) z (lists numbers.new bits.new words.new) }
+    ensures { Gives N.of_bits s.now pattern_of pattern_entries ((pattern caps solid).read s.now at)
+        (lists numbers.old words.old) z (lists numbers.new words.new) result }
 {
     if solid {
-        let a = Pattern {
+        let pattern = Pattern {
             angle: 0,
             scale: 0,
             double: false,
             lines: 0,
         };
-        return PatternWalk::Done(a, at, z);
+        return Ok(((pattern, z), at));
     }
-    decode_open_pattern(s, at, caps, numbers, bits, words, z)
+    decode_open_pattern(s, at, caps, numbers, words, z)
 }
 
 // The pixel size is there if a path came from a boundary object.
-fn read_pixel_size(s: &[u8], at: usize, has: bool) -> Read
+#[tactic(auto, using(bitcursor::proofs::Steps::reading), unfolding(bitcursor::specs::Held::held))]
+fn read_pixel_size(s: &[u8], at: usize, has: bool) -> Reading<u64>
     requires { length s.now ≤ limit }
-    ensures { result ≡ as_read ((held has BD 0).read s.now at) }
+    ensures { outcome result ≡ (held has BD 0).read s.now at }
 {
     if has {
         return within::read_bd_bits(s, at);
     }
-    Read::Value(0, at)
+    Ok((0, at))
 }
 
-fn decode_ending(
+fn decode_ending<N: Number>(
     s: &[u8],
     at: usize,
     has: bool,
     caps: Caps,
-    numbers: &mut [f64],
-    bits: &mut [u64],
+    numbers: &mut [N],
     z: Sizes,
-) -> EndingWalk
+) -> Reading<(Ending, Sizes)>
     requires { Ready s.now at z }
-    ensures { (result ≡ ending_walk z ((ending caps has).read s.now at))
-        × Gives s.now ending_entries ((ending caps has).read s.now at)
-        (lists numbers.old bits.old []) z (lists numbers.new bits.new []) }
+    ensures { Gives N.of_bits s.now ending_of ending_entries ((ending caps has).read s.now at)
+        (lists numbers.old []) z (lists numbers.new []) result }
 {
-    let pixel = read_pixel_size(s, at, has);
-    match counts::then_count(s, pixel, caps.seed_points) {
-        Read::Value(n, p) => {
-            match runs::raw_run(s, p, 2 * (n as usize), numbers, bits, z) {
-                Walk::Done(q, y) => {
-                    let a = Ending {
-                        pixel_size: sequence::value_of(pixel),
-                        seed_points: n as usize,
-                    };
-                    EndingWalk::Done(a, q, y)
-                }
-                Walk::Refused(k, q) => EndingWalk::Refused(k, q),
-            }
-        }
-        Read::Refused(k, p) => EndingWalk::Refused(k, p),
-    }
+    let (pixel_size, p) = read_pixel_size(s, at, has)?;
+    let (n, p) = counts::read_count(s, p, caps.seed_points)?;
+    let seed_points = n as usize;
+    let (y, q) = runs::raw_run(s, p, 2 * seed_points, numbers, z)?;
+    let ending = Ending {
+        pixel_size,
+        seed_points,
+    };
+    Ok(((ending, y), q))
 }
 
 // What follows the paths: style, type, the pattern and the last fields.
-pub fn decode_tail(
+pub fn decode_tail<N: Number>(
     s: &[u8],
     at: usize,
     solid: bool,
     has: bool,
     caps: Caps,
-    numbers: &mut [f64],
-    bits: &mut [u64],
+    numbers: &mut [N],
     words: &mut [u32],
     z: Sizes,
-) -> TailWalk
+) -> Reading<(Tail, Sizes)>
     requires { Ready s.now at z }
-    ensures { (result ≡ tail_walk z ((tail caps solid has).read s.now at))
-        × Gives s.now tail_entries ((tail caps solid has).read s.now at)
-        (lists numbers.old bits.old words.old) z (lists numbers.new bits.new words.new) }
+    ensures { Gives N.of_bits s.now tail_of tail_entries ((tail caps solid has).read s.now at)
+        (lists numbers.old words.old) z (lists numbers.new words.new) result }
 {
-    let style = within::read_bs_u(s, at);
-    match sequence::then_bs(s, style) {
-        Read::Value(kind, p) => match decode_pattern(s, p, solid, caps, numbers, bits, words, z) {
-            PatternWalk::Done(a, q, y) => match decode_ending(s, q, has, caps, numbers, bits, y) {
-                EndingWalk::Done(e, t, x) => {
-                    let first = sequence::value_of(style);
-                    let v = Tail {
-                        style: first,
-                        kind: kind,
-                        pattern: a,
-                        ending: e,
-                    };
-                    TailWalk::Done(v, t, x)
-                }
-                EndingWalk::Refused(k, t) => TailWalk::Refused(k, t),
-            },
-            PatternWalk::Refused(k, q) => TailWalk::Refused(k, q),
-        },
-        Read::Refused(k, p) => TailWalk::Refused(k, p),
-    }
+    let (style, p) = within::read_bs_u(s, at)?;
+    let (kind, p) = within::read_bs_u(s, p)?;
+    let ((pattern, y), p) = decode_pattern(s, p, solid, caps, numbers, words, z)?;
+    let ((ending, x), q) = decode_ending(s, p, has, caps, numbers, y)?;
+    let tail = Tail {
+        style,
+        kind,
+        pattern,
+        ending,
+    };
+    Ok(((tail, x), q))
 }

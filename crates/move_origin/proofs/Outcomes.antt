@@ -1,6 +1,6 @@
 -- From what the tests say to the definition's outcome: whole lists hold a hatch, whose roles the walk finds; then extrusion, origin and coordinates decide.
 -- Assumes nothing.
-use Rattle.std.specs.Prelude.{Ok, Err}
+use Rattle.std.specs.Prelude.{Result, Ok, Err}
 use mathlib.Core.Path.{◌≡◌, refl, sym, ap, ap₂, subst, ◌∙◌}
 use mathlib.Core.Bool.{Bool, true, false, ◌&&◌, and_assoc}
 use mathlib.Core.List.{List, [], ◌++◌}
@@ -20,10 +20,11 @@ use Rattle.hatch_lists.specs.FollowsWhole.{items_held}
 use Rattle.whole_lists.specs.Ended.{is_held, Judges}
 use Rattle.whole_lists.proofs.Judged.{items_walk}
 use Rattle.moved_hatch.specs.declared.MoveRefusal.{MoveRefusal}
-use Rattle.moved_hatch.specs.declared.MoveRefusal.TheVariants.{ListsNotWhole, OtherPlane, CoordinateOutOfRange}
+use Rattle.moved_hatch.specs.declared.MoveRefusal.TheVariants.{ListsNotWhole, CoordinateOutOfRange}
 use Rattle.moved_hatch.specs.Moving.{Arithmetic, patterns, Outcome, refuses, judged, outcome_of, outcome, all_in_range, moved, after, answer_of, MovesOrigin}
 use Rattle.moved_hatch.specs.MovedLists.{patterns_length}
-use Rattle.move_origin.specs.Walked.{Walks, roles_in, roles_of}
+use Rattle.moved_hatch.specs.Parts.{Movable}
+use Rattle.move_origin.specs.Walked.{Walks, roles_in, roles_of, may_move}
 
 module _ {A : Type 0} (m : Arithmetic A) (c : HatchCounts) (ws : List ℕ) (ns : List A) where
   abbrev here : Held
@@ -104,31 +105,44 @@ module _ {A : Type 0} (m : Arithmetic A) (c : HatchCounts) (ws : List ℕ) (ns :
       unfolding outcome
       outcome_is = ap (λ (k : Held). outcome_of m k upright ns x₀ y₀) h.is_held_here
 
-      pub refused_12 : upright ≡ false → MovesOrigin m here_outcome x₀ y₀ (Err OtherPlane) ns ns
-      refused_12 e = refuses_so (outcome_is ∙ ap (λ (b : Bool). judged (held_roles h.hatch) b range) e)
+      -- by the plane, or the origin
+      pub refused_before : {r : Result (Unit {0}) MoveRefusal} {k : MoveRefusal} → r ≡ may_move upright (m.in_range x₀ && m.in_range y₀) → r ≡ Err k
+          → MovesOrigin m here_outcome x₀ y₀ (Err k) ns ns
+      refused_before {r} {k} e f = refuses_so (outcome_is ∙ by (m.in_range x₀) (m.in_range y₀) upright (all_in_range m.in_range (held_roles h.hatch) ns) (sym e ∙ f))
+        where
+          by : (x y u a : Bool) → may_move u (x && y) ≡ Err k → judged (held_roles h.hatch) u (x && (y && a)) ≡ refuses k
+          by x y false a g = cc
+          by true true true a g = let z : ◌≡◌ {A = ℕ} 0 1 = cc in absurd (omega arith)
+          by true false true a g = cc
+          by false y true a g = cc
 
-      module _ (is_upright : upright ≡ true) where
-        judged_is : {b : Bool} → range ≡ b → here_outcome ≡ judged (held_roles h.hatch) true b
-        judged_is {b} f = outcome_is ∙ ap₂ (λ (t r : Bool). judged (held_roles h.hatch) t r) is_upright f
+      module _ {r : Result (Unit {0}) MoveRefusal} (may : r ≡ may_move upright (m.in_range x₀ && m.in_range y₀)) (yes : r ≡ Ok tt) where
+        both : (upright ≡ true) × (m.in_range x₀ && m.in_range y₀ ≡ true)
+        both = by upright (m.in_range x₀ && m.in_range y₀) (sym may ∙ yes)
+          where
+            by : (u o : Bool) → may_move u o ≡ Ok tt → (u ≡ true) × (o ≡ true)
+            by true true e = (refl, refl)
+            by true false e = let z : ◌≡◌ {A = ℕ} 0 1 = cc in absurd (omega arith)
+            by false o e = let z : ◌≡◌ {A = ℕ} 0 1 = cc in absurd (omega arith)
 
-        -- all three of the range
-        range_is : {o a : Bool} → m.in_range x₀ && m.in_range y₀ ≡ o → all_in_range m.in_range (roles_of c used_of) ns ≡ a → range ≡ o && a
-        range_is {o} {a} e f =
-            ap (λ (rs : List Role). m.in_range x₀ && (m.in_range y₀ && all_in_range m.in_range rs ns)) (sym h.roles)
-            ∙ ap (λ (b : Bool). m.in_range x₀ && (m.in_range y₀ && b)) f ∙ sym (and_assoc (m.in_range x₀) (m.in_range y₀) a) ∙ ap (λ (b : Bool). b && a) e
+        judged_is : {a : Bool} → all_in_range m.in_range (roles_of c used_of) ns ≡ a → here_outcome ≡ judged (held_roles h.hatch) true a
+        judged_is {a} f =
+            outcome_is ∙ ap₂ (λ (t b : Bool). judged (held_roles h.hatch) t b) both.0
+            (ap (λ (rs : List Role). m.in_range x₀ && (m.in_range y₀ && all_in_range m.in_range rs ns)) (sym h.roles)
+            ∙ ap (λ (b : Bool). m.in_range x₀ && (m.in_range y₀ && b)) f ∙ sym (and_assoc (m.in_range x₀) (m.in_range y₀) a)
+            ∙ ap (λ (b : Bool). b && a) both.1)
 
-        pub refused_origin : m.in_range x₀ && m.in_range y₀ ≡ false → MovesOrigin m here_outcome x₀ y₀ (Err CoordinateOutOfRange) ns ns
-        refused_origin f = refuses_so (judged_is (range_is f refl))
+        pub refused_13 : all_in_range m.in_range (roles_of c used_of) ns ≡ false → MovesOrigin m here_outcome x₀ y₀ (Err CoordinateOutOfRange) ns ns
+        refused_13 f = refuses_so (judged_is f)
 
-        module _ (origin : m.in_range x₀ && m.in_range y₀ ≡ true) where
-          pub refused_13 : all_in_range m.in_range (roles_of c used_of) ns ≡ false → MovesOrigin m here_outcome x₀ y₀ (Err CoordinateOutOfRange) ns ns
-          refused_13 g = refuses_so (judged_is (range_is origin g))
+        pub movable : all_in_range m.in_range (roles_of c used_of) ns ≡ true → Movable m.in_range x₀ y₀ 0 (roles_of c used_of) ns
+        movable f = record { origin = both.1; coordinates = f }
 
-          -- the list afterwards, by the roles that the walk finds
-          pub moves_all : {l : List A} → all_in_range m.in_range (roles_of c used_of) ns ≡ true → l ≡ moved m.difference x₀ y₀ (roles_of c used_of) ns
-              → MovesOrigin m here_outcome x₀ y₀ (Ok tt) ns l
-          moves_all {l} g f =
-              let e = judged_is (range_is origin g) in (
-                sym (ap answer_of e),
-                f ∙ ap (λ (rs : List Role). moved m.difference x₀ y₀ rs ns) h.roles ∙ sym (ap (λ (k : Outcome). after m k x₀ y₀ ns) e),
-              )
+        -- the list afterwards, by the roles that the walk finds
+        pub moves_all : {l : List A} → all_in_range m.in_range (roles_of c used_of) ns ≡ true → l ≡ moved m.difference x₀ y₀ (roles_of c used_of) ns
+            → MovesOrigin m here_outcome x₀ y₀ (Ok tt) ns l
+        moves_all {l} f g =
+            let e = judged_is f in (
+              sym (ap answer_of e),
+              g ∙ ap (λ (rs : List Role). moved m.difference x₀ y₀ rs ns) h.roles ∙ sym (ap (λ (k : Outcome). after m k x₀ y₀ ns) e),
+            )

@@ -8,7 +8,7 @@ ghost use Rattle.hatch_lists.specs.Items.{points_item};
 ghost use Rattle.differences.specs.Upright.{is_upright};
 ghost use Rattle.moved_hatch.specs.Moving.{moved, all_in_range, arithmetic, outcome, MovesOrigin};
 ghost use Rattle.moved_hatch.specs.Parts.{Movable};
-ghost use Rattle.move_origin.specs.Walked.{Walks, roles_of};
+ghost use Rattle.move_origin.specs.Walked.{Walks, roles_of, may_move};
 
 use differences::{Coordinate, Judgement};
 use hatch_format::Vec3D;
@@ -63,11 +63,17 @@ fn move_all<C: Coordinate>(c: HatchCounts, words: &[u32], numbers: &mut [C], x: 
     point_runs::move_item(numbers, at.number, seeds_item(c), x, y);
 }
 
-// Whether both coordinates of an origin are in range.
-fn is_origin<C: Coordinate>(x: C, y: C) -> bool
-    ensures { result ≡ C.within x && C.within y }
+// Whether a hatch may be moved by its plane, and then by the origin.
+fn may_move<C: Coordinate>(extrusion: Vec3D<C>, x: C, y: C) -> Result<(), MoveRefusal>
+    ensures { result ≡ may_move (is_upright (C.value extrusion.x) (C.value extrusion.y) (C.value extrusion.z)) (C.within x && C.within y) }
 {
-    x.within().and(y.within()).holds()
+    if !differences::is_upright(extrusion.x, extrusion.y, extrusion.z) {
+        return Err(MoveRefusal::OtherPlane);
+    }
+    if !x.within().and(y.within()).holds() {
+        return Err(MoveRefusal::CoordinateOutOfRange);
+    }
+    Ok(())
 }
 
 // The points of a hatch relative to the origin (x, y), in place: its record's counts and extrusion, its words, and its numbers.
@@ -87,12 +93,7 @@ pub fn move_origin<C: Coordinate>(
     if !whole_lists::is_whole(c, words, numbers.len()) {
         return Err(MoveRefusal::ListsNotWhole);
     }
-    if !differences::is_upright(extrusion.x, extrusion.y, extrusion.z) {
-        return Err(MoveRefusal::OtherPlane);
-    }
-    if !is_origin(x, y) {
-        return Err(MoveRefusal::CoordinateOutOfRange);
-    }
+    may_move(extrusion, x, y)?;
     let used = &words[..c.words_used];
     if !are_within(c, used, numbers) {
         return Err(MoveRefusal::CoordinateOutOfRange);

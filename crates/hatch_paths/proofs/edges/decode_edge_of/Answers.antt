@@ -16,24 +16,6 @@ returns-in-1 g c =
     walks_as (words_kept _ a.words.now (raw_wordless 4 s a.at) c.raw_run.ensures)
     (ap (λ (k : ℕ). (edge_of_walk a.rules.caps a.rules.fits k).read s a.at) (sym c.in-1.is))
 
-pub returns-in-2 : goal.returns-in-2
-unfolding edge_of_walk
-returns-in-2 g c =
-    let a = c.args in
-    walks_as c.decode_curve.ensures (ap (λ (k : ℕ). (edge_of_walk a.rules.caps a.rules.fits k).read a.s.now a.at) (sym c.in-2.is))
-
-pub returns-in-3 : goal.returns-in-3
-unfolding edge_of_walk
-returns-in-3 g c =
-    let a = c.args in
-    walks_as c.decode_curve-in-3.ensures (ap (λ (k : ℕ). (edge_of_walk a.rules.caps a.rules.fits k).read a.s.now a.at) (sym c.in-3.is))
-
-pub returns-in-4 : goal.returns-in-4
-unfolding edge_of_walk
-returns-in-4 g c =
-    let a = c.args in
-    walks_as c.decode_spline_edge.ensures (ap (λ (k : ℕ). (edge_of_walk a.rules.caps a.rules.fits k).read a.s.now a.at) (sym c.in-4.is))
-
 pub returns-in_default : goal.returns-in_default
 returns-in_default g c =
     let a = c.args in

@@ -11,9 +11,6 @@ use Rattle.hatch_points.proofs.Laws.{plus_again, onward, kept_then, kept_numbers
 use Rattle.hatch_points.proofs.NoWords.{double_wordless, vertices_wordless}
 use Rattle.hatch_paths.proofs.edges.decode_spline_lists.Goals as goal
 
-pub decode_points-requires : goal.decode_points-requires
-decode_points-requires g c = (c.in_ok-y.ensures.ready, c.requires.1.1.0)
-
 pub decode_fits-requires : goal.decode_fits-requires
 decode_fits-requires g c =
     let a = c.args in

@@ -1,15 +1,11 @@
 -- Segments, and behind them the handle count.
 use mathlib.Core.Path.{refl, sym}
-use native.Mathlib.Omega.{arith}
 use Rattle.bitcursor.specs.Format.{then_got, then_refused}
 use Rattle.hatch_points.specs.Gathered.{plus}
 use Rattle.hatch_paths.specs.PathWalks.{segments_walk, handles_walk, after_flags_walk}
 use Rattle.hatch_points.proofs.Laws.{walk_finished, walk_refused, walks_as, refuses, leaves, behind, numbers_kept, walk_kept}
 use Rattle.hatch_paths.proofs.EdgeLaws.{handles_numberless}
 use Rattle.hatch_paths.proofs.paths.decode_after_flags.Goals as goal
-
-pub put_handle_count-requires : goal.put_handle_count-requires
-put_handle_count-requires g c = let m = c.requires.1 in (c.in_ok-y.ensures.ready, omega (arith, m.boundary_handles))
 
 pub returns : goal.returns
 unfolding after_flags_walk

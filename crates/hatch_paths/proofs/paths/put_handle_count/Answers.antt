@@ -1,20 +1,15 @@
 -- The count is read, tested and stored.
-use mathlib.Core.Path.{sym, ◌∙◌}
+use mathlib.Core.Path.{◌∙◌}
 use mathlib.Core.List.{[]}
 use native.Mathlib.Omega.{arith}
 use Rattle.bitcursor.specs.Codes.{BL}
 use Rattle.hatch_format.specs.Takes.{takes_BL}
 use Rattle.hatch_format.specs.Counts.{bounded, takes_bounded}
-use Rattle.hatch_points.specs.Heads.{count_capped}
 use Rattle.hatch_points.specs.Gathered.{word}
 use Rattle.hatch_points.specs.Lists.{lists}
 use Rattle.hatch_points.proofs.Laws.{one_word, refuses, leaves, ends, onward, kept_same}
 use Rattle.hatch_paths.proofs.EdgeLaws.{handles_read, handles_refused}
 use Rattle.hatch_paths.proofs.paths.put_handle_count.Goals as goal
-
-pub put_word-requires : goal.put_word-requires
-put_word-requires c =
-    let h = count_capped c.args.cap BL c.args.s.now c.args.at (sym c.in_ok-n.ensures) in omega (arith, h, c.requires.1)
 
 pub returns : goal.returns
 returns c =

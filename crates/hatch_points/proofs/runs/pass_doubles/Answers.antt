@@ -1,16 +1,17 @@
 -- What is left to read, behind the numbers that were passed, is what the whole reads; no list is lent.
-use mathlib.Core.Path.{refl, ◌∙◌}
+use mathlib.Core.Path.{refl, ap, ◌∙◌}
 use mathlib.Core.List.{[], ◌∷◌}
 use native.Mathlib.Omega.{arith}
 use Rattle.bitcursor.specs.Doubles.{BD}
 use Rattle.bitcursor.specs.Fields.{coded}
 use Rattle.hatch_format.specs.Takes.{takes_BD}
-use Rattle.hatch_points.proofs.Laws.{more_numbers, kept_same, leaves, onward}
-use Rattle.hatch_points.proofs.Loops.{start, next, loop_refuses, loop_ends, single_read, single_refused}
+use Rattle.hatch_points.specs.Lists.{with_numbers}
+use Rattle.hatch_points.proofs.Laws.{numbers_again, kept_same, leaves, onward}
+use Rattle.hatch_points.proofs.Loops.{start_numbers, next, loop_refuses, loop_ends_as, single_read, single_refused}
 use Rattle.hatch_points.proofs.runs.pass_doubles.Goals as goal
 
 pub loop-init : goal.loop-init
-loop-init c = start c.requires
+loop-init c = start_numbers c.requires
 
 pub loop-preserved : goal.loop-preserved
 loop-preserved c =
@@ -19,7 +20,7 @@ loop-preserved c =
     let h = l.invariant.ready in
     let on = onward (coded BD) 2 takes_BD s l.p c.in_ok-q.ensures h.1.0 in
     next l.invariant _ c.loop-test.true (single_read s l.p c.in_ok-q.ensures)
-    (record { lists = refl; sizes = c.with_numbers-y.ensures ∙ more_numbers l.y (c.in_ok-q.field-0-0 ∷ []) })
+    (record { lists = refl; sizes = numbers_again c.args.z l.counter (c.in_ok-q.field-0-0 ∷ []) (omega arith) })
     (h.0, (on.1, (omega (arith, on.0, h.1.1.0), omega (arith, on.0, h.1.1.1))))
 
 pub returns-in_err-q : goal.returns-in_err-q
@@ -29,4 +30,4 @@ returns-in_err-q c =
     (loop_refuses l.invariant c.loop-test.true (single_refused c.args.s.now l.p c.in_err-q.ensures) kept_same)
 
 pub returns : goal.returns
-returns c = loop_ends c.loop.invariant c.loop-test.false
+returns c = loop_ends_as c.loop.invariant (c.with_numbers.ensures ∙ ap (with_numbers c.args.z) (omega arith)) c.loop-test.false

@@ -1,8 +1,9 @@
 use mathlib.Core.List.{[]}
 use Rattle.hatch_points.specs.Walks.{single_walk}
-use Rattle.hatch_points.specs.Lists.{lists}
+use Rattle.hatch_points.specs.Lists.{lists, with_numbers}
 use Rattle.hatch_points.proofs.Loops.{Along}
 use Rattle.hatch_points.proofs.runs.pass_doubles.Given as goal
 
 abbrev pub invariant-loop : goal.invariant-loop
-invariant-loop l = Along (λ n. n) single_walk l.s l.n l.at (lists [] []) l.initial.y l.counter l.p (lists [] []) l.y
+invariant-loop l =
+    Along (λ n. n) single_walk l.s l.n l.at (lists [] []) l.z l.counter l.p (lists [] []) (with_numbers l.z l.counter)

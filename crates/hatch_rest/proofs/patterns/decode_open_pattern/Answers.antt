@@ -1,37 +1,59 @@
--- The fields in a row, the count of the lines, and the lines.
-use Rattle.hatch_rest.proofs.TailLaws.{pattern_ready, pattern_fields_refused, pattern_lines_refused, pattern_done}
+-- The fields in front of the lines, and so many lines.
+use mathlib.Core.Path.{sym, ◌∙◌}
+use Rattle.bitcursor.specs.Format.{pure, then_got, then_refused}
+use Rattle.hatch_format.specs.Counts.{times}
+use Rattle.hatch_format.specs.Patterns.{pattern_line}
+use Rattle.hatch_format.specs.Takes.{takes_none}
+use Rattle.hatch_points.specs.Gathered.{all}
+use Rattle.hatch_points.specs.Runs.{times_length, times_gather}
+use Rattle.hatch_points.proofs.Laws.{walks_as, walk_kept, ready_on, kept_same}
+use Rattle.hatch_rest.specs.Heads.{pattern_head, pattern_after_head, pattern_reads}
+use Rattle.hatch_rest.specs.LineGathers.{line_entries, line_walk, line_gathers}
+use Rattle.hatch_rest.proofs.Given.{read_on, read_not, gives_refused, gives_ends, gives_leaves, value_read, value_refused}
 use Rattle.hatch_rest.proofs.patterns.decode_open_pattern.Goals as goal
 
 pub decode_pattern_lines-requires : goal.decode_pattern_lines-requires
-decode_pattern_lines-requires c =
-    let args = c.args in
-    pattern_ready args.s.now args.caps args.at c.then_bd_bits-angle.result c.then_bd_bits-scale.result
-    c.then_bits-double.result c.then_short_count.result c.then_bd_bits-angle.ensures
-    c.then_bd_bits-scale.ensures c.then_bits-double.ensures c.then_short_count.ensures args.z
-    c.in-Value.is c.requires
+decode_pattern_lines-requires g c =
+    let a = c.args in
+    let head = pattern_head a.caps.pattern_lines in
+    ready_on head 0 (takes_none head) a.s.now a.at c.in_ok-pattern.ensures a.z c.requires
 
-pub returns-in-Done : goal.returns-in-Done
-returns-in-Done c =
-    let args = c.args in
-    pattern_done args.s.now args.caps args.at c.then_bd_bits-angle.result c.then_bd_bits-scale.result
-    c.then_bits-double.result c.then_short_count.result c.then_bd_bits-angle.ensures
-    c.then_bd_bits-scale.ensures c.then_bits-double.ensures c.then_short_count.ensures
-    c.in-Value.is c.decode_pattern_lines.ensures c.in-Done.is c.value_of.ensures
-    c.value_of-in-Done.ensures c.value_of-in-Done-2.ensures
+pub returns : goal.returns
+unfolding pure
+returns g c =
+    let a = c.args in
+    let s = a.s.now in
+    let line = pattern_line a.caps.dashes in
+    let h = c.in_ok-pattern.pattern in
+    let p = c.in_ok-pattern.p in
+    let walk = c.in_ok-y.ensures in
+    let t = value_read (all line_entries) ((times h.lines line).read s p)
+    (walks_as walk (sym (times_gather line s line_entries (line_walk a.caps.dashes) (line_gathers s a.caps.dashes) h.lines p))) in
+    let m = times_length line s h.lines p t.read in
+    gives_ends (record { angle = h.angle; scale = h.scale; double = h.double; lines = t.value })
+    (pattern_reads s a.caps a.at ∙ read_on (pattern_head a.caps.pattern_lines) (pattern_after_head a.caps) s c.in_ok-pattern.ensures
+    ∙ then_got (times h.lines line) _ s t.read)
+    (λ i. record { angle = h.angle; scale = h.scale; double = h.double; lines = sym m i }) t.step walk.ready
 
-pub returns-in-Refused-decode_pattern_lines : goal.returns-in-Refused-decode_pattern_lines
-returns-in-Refused-decode_pattern_lines c =
-    let args = c.args in
-    pattern_lines_refused args.s.now args.caps args.at c.then_bd_bits-angle.result
-    c.then_bd_bits-scale.result c.then_bits-double.result c.then_short_count.result
-    c.then_bd_bits-angle.ensures c.then_bd_bits-scale.ensures c.then_bits-double.ensures
-    c.then_short_count.ensures c.in-Value.is c.decode_pattern_lines.ensures
-    c.in-Refused-decode_pattern_lines.is
+pub returns-in_err-y : goal.returns-in_err-y
+returns-in_err-y g c =
+    let a = c.args in
+    let s = a.s.now in
+    let line = pattern_line a.caps.dashes in
+    let h = c.in_ok-pattern.pattern in
+    let p = c.in_ok-pattern.p in
+    let walk = c.in_err-y.ensures in
+    let no = value_refused (all line_entries) ((times h.lines line).read s p)
+    (walks_as walk (sym (times_gather line s line_entries (line_walk a.caps.dashes) (line_gathers s a.caps.dashes) h.lines p))) in
+    gives_leaves _ c.from_residual-in_err-y.ensures
+    (gives_refused
+    (pattern_reads s a.caps a.at ∙ read_on (pattern_head a.caps.pattern_lines) (pattern_after_head a.caps) s c.in_ok-pattern.ensures
+    ∙ then_refused (times h.lines line) _ s no) (walk_kept walk))
 
-pub returns-in-Refused : goal.returns-in-Refused
-returns-in-Refused c =
-    let args = c.args in
-    pattern_fields_refused args.s.now args.caps args.at c.then_bd_bits-angle.result
-    c.then_bd_bits-scale.result c.then_bits-double.result c.then_short_count.result
-    c.then_bd_bits-angle.ensures c.then_bd_bits-scale.ensures c.then_bits-double.ensures
-    c.then_short_count.ensures c.in-Refused.is
+pub returns-in_err-pattern : goal.returns-in_err-pattern
+returns-in_err-pattern g c =
+    let a = c.args in
+    let s = a.s.now in
+    gives_leaves _ c.from_residual.ensures
+    (gives_refused
+    (pattern_reads s a.caps a.at ∙ read_not (pattern_head a.caps.pattern_lines) (pattern_after_head a.caps) s c.in_err-pattern.ensures) kept_same)

@@ -3,78 +3,54 @@ use mathlib.Core.Path.{sym, ◌∙◌}
 use native.Mathlib.Omega.{arith}
 use Rattle.bitcursor.specs.Codes.{BS}
 use Rattle.bitcursor.specs.Ranges.{BS_below}
-use Rattle.bitcursor.specs.Format.{◌>>=◌, pure, then_got, then_refused}
-use Rattle.bitcursor.proofs.Steps.{read_value, read_refused}
+use Rattle.bitcursor.specs.Format.{then_got, then_refused}
 use Rattle.hatch_format.specs.Takes.{takes_BS}
 use Rattle.hatch_format.specs.Counts.{bounded, takes_bounded, bounded_below}
 use Rattle.hatch_points.specs.Gathered.{word, plus}
 use Rattle.hatch_points.specs.Walks.{double_run}
+use Rattle.hatch_points.proofs.Laws.{◌⊕◌, plus_again, walk_finished, walk_refused, walk_kept, walks_as, refuses, leaves, behind, ready_words}
+use Rattle.hatch_points.proofs.Laws.{kept_step, kept_numbers}
+use Rattle.hatch_points.proofs.Words.{double_words, word_step}
 use Rattle.hatch_rest.specs.LineGathers.{line_walk}
-use Rattle.hatch_points.proofs.Laws.{◌⊕◌, plus_again, walk_finished, walk_ready, walk_refused, walks_as, refuses, behind, kept_step, kept_numbers, walk_kept}
-use Rattle.hatch_points.proofs.Words.{double_words, word_step, ready_word}
+use Rattle.hatch_rest.proofs.Given.{read_on, read_not}
 use Rattle.hatch_rest.proofs.patterns.decode_pattern_line.Goals as goal
 
 pub put_word-requires : goal.put_word-requires
-put_word-requires c =
-    let args = c.args in
-    let o = read_value ((bounded args.cap BS).read args.s.now c.in-Done.p) c.read_short_count.ensures
-    c.in-Value.is in
-    let b = bounded_below args.cap BS BS_below args.s.now c.in-Done.p o in
-    omega (arith, b)
+put_word-requires g c =
+    let cap = c.args.cap in
+    let b = bounded_below cap BS BS_below c.args.s.now _ (sym c.in_ok-n.ensures) in omega (arith, b)
 
-pub overflow_add-x : goal.overflow_add-x
-overflow_add-x c =
-    let h = walk_ready c.double_run.ensures c.in-Done.is in
-    omega (arith, h.0, h.1.0, h.1.1.1)
+pub double_run-requires-2 : goal.double_run-requires-2
+double_run-requires-2 g c =
+    let cap = c.args.cap in
+    rw c.with_words.ensures
+    (ready_words (bounded cap BS) 2 (takes_bounded cap BS 2 takes_BS) c.args.s.now _ c.in_ok-n.ensures 1 (omega arith) c.in_ok-y.y c.in_ok-y.ensures.ready)
 
-pub double_run-requires-in-Value : goal.double_run-requires-in-Value
-double_run-requires-in-Value c =
-    let args = c.args in
-    let o = read_value ((bounded args.cap BS).read args.s.now c.in-Done.p) c.read_short_count.ensures
-    c.in-Value.is in
-    ready_word (bounded args.cap BS) 2 (takes_bounded args.cap BS 2 takes_BS) (omega arith) args.s.now c.in-Done.p
-    c.in-Done.y o (walk_ready c.double_run.ensures c.in-Done.is)
-
-pub returns-in-Value : goal.returns-in-Value
+pub returns : goal.returns
 unfolding line_walk
-returns-in-Value c =
-    let args = c.args in
-    let s = args.s.now in
-    let cap = args.cap in
-    let y = c.in-Done.y in
-    let n = c.in-Value.n in
-    let t = walk_finished (double_words 5 args.at args.words.now c.double_run.ensures) c.in-Done.is in
-    let o = read_value ((bounded cap BS).read s c.in-Done.p) c.read_short_count.ensures c.in-Value.is
-    in
-    let w = word_step y n c.put_word.ensures in
-    walks_as
-    (behind (double_run n) (λ e. plus t.entries (plus (word n) e)) (t.step ⊕ w) (plus_again t.entries (word n))
-    (double_words n c.in-Value.q _ c.double_run-in-Value.ensures))
-    (sym
-    (then_got (double_run 5) (λ a. bounded cap BS >>= λ m. double_run m >>= λ b. pure (plus a (plus (word m) b))) s t.read
-    ∙ then_got (bounded cap BS) (λ m. double_run m >>= λ b. pure (plus t.entries (plus (word m) b))) s o))
-
-pub returns-in-Refused-read_short_count : goal.returns-in-Refused-read_short_count
-unfolding line_walk
-returns-in-Refused-read_short_count c =
-    let args = c.args in
-    let s = args.s.now in
-    let cap = args.cap in
-    let t = walk_finished (double_words 5 args.at args.words.now c.double_run.ensures) c.in-Done.is in
-    let o = read_refused ((bounded cap BS).read s c.in-Done.p) c.read_short_count.ensures
-    c.in-Refused-read_short_count.is in
-    refuses
-    (then_got (double_run 5) (λ a. bounded cap BS >>= λ m. double_run m >>= λ b. pure (plus a (plus (word m) b))) s t.read
-    ∙ then_refused (bounded cap BS) (λ m. double_run m >>= λ b. pure (plus t.entries (plus (word m) b))) s o)
-    (kept_step t.step)
-
-pub returns-in-Refused : goal.returns-in-Refused
-unfolding line_walk
-returns-in-Refused c =
+returns g c =
     let a = c.args in
     let s = a.s.now in
-    let walk = c.double_run.ensures in
-    let stop = c.in-Refused.is in
-    refuses (then_refused (double_run 5) (λ b. bounded a.cap BS >>= λ m. double_run m >>= λ d. pure (plus b (plus (word m) d))) s
-    (walk_refused walk stop))
-    (kept_numbers a.words.now (walk_kept walk stop))
+    let n = c.in_ok-n.n in
+    let t = walk_finished (double_words 5 a.at a.words.now c.in_ok-y.ensures) in
+    walks_as
+    (behind (double_run n) (λ e. plus t.entries (plus (word n) e)) (t.step ⊕ word_step _ n c.put_word.ensures) (plus_again t.entries (word n))
+    (double_words n _ _ (rw (← c.with_words.ensures) c.double_run-2.ensures)))
+    (sym (then_got (double_run 5) _ s t.read ∙ read_on (bounded a.cap BS) _ s c.in_ok-n.ensures))
+
+pub returns-in_err-n : goal.returns-in_err-n
+unfolding line_walk
+returns-in_err-n g c =
+    let a = c.args in
+    let s = a.s.now in
+    let t = walk_finished (double_words 5 a.at a.words.now c.in_ok-y.ensures) in
+    leaves _ c.from_residual-in_err-n.ensures
+    (refuses (then_got (double_run 5) _ s t.read ∙ read_not (bounded a.cap BS) _ s c.in_err-n.ensures) (kept_step t.step))
+
+pub returns-in_err-y : goal.returns-in_err-y
+unfolding line_walk
+returns-in_err-y g c =
+    let a = c.args in
+    let walk = c.in_err-y.ensures in
+    leaves _ c.from_residual.ensures
+    (refuses (then_refused (double_run 5) _ a.s.now (walk_refused walk)) (kept_numbers a.words.now (walk_kept walk)))

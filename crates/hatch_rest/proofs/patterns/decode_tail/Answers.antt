@@ -1,46 +1,68 @@
 -- Style and type in a row, then the pattern, then the last fields.
-use mathlib.Core.Path.{refl}
-use Rattle.hatch_rest.proofs.TailLaws.{}
-use Rattle.hatch_rest.proofs.TailEnds.{tail_ready, tail_fields_refused, tail_pattern_refused, ending_asks, tail_ending_refused, tail_done}
+use mathlib.Core.Path.{◌∙◌}
+use Rattle.bitcursor.specs.Codes.{BS}
+use Rattle.bitcursor.specs.Fields.{coded}
+use Rattle.bitcursor.specs.Format.{pure, relay, then_got, then_refused}
+use Rattle.hatch_format.specs.Takes.{takes_none}
+use Rattle.hatch_format.specs.Patterns.{pattern, ending, tail_read, tail}
+use Rattle.hatch_points.proofs.Laws.{◌⊕◌, ready_on, kept_then, kept_same}
+use Rattle.hatch_rest.proofs.Given.{read_on, read_not, gives_refused, gives_ends, gives_leaves, given, not_given, given_kept, ending_words}
 use Rattle.hatch_rest.proofs.patterns.decode_tail.Goals as goal
 
 pub decode_pattern-requires : goal.decode_pattern-requires
-decode_pattern-requires c =
-    let args = c.args in
-    tail_ready args.s.now args.caps args.solid args.has args.at c.read_bs_u-style.result c.then_bs.result
-    c.read_bs_u-style.ensures c.then_bs.ensures args.z c.in-Value.is c.requires
+decode_pattern-requires g c =
+    let a = c.args in
+    let s = a.s.now in
+    let n = takes_none (coded BS) in
+    ready_on (coded BS) 0 n s _ c.in_ok-kind.ensures a.z (ready_on (coded BS) 0 n s a.at c.in_ok-style.ensures a.z c.requires)
 
-pub decode_ending-requires : goal.decode_ending-requires
-decode_ending-requires c =
-    let args = c.args in
-    ending_asks args.s.now args.caps args.solid args.has args.at c.read_bs_u-style.result
-    c.then_bs.result c.read_bs_u-style.ensures c.then_bs.ensures c.in-Value.is
-    c.decode_pattern.ensures c.in-Done.is
+pub returns : goal.returns
+unfolding tail tail_read relay pure
+returns g c =
+    let a = c.args in
+    let s = a.s.now in
+    let t = given ((pattern a.caps a.solid).read s _) c.in_ok-pattern.ensures in
+    let u = given ((ending a.caps a.has).read s _) (ending_words _ c.decode_pattern.new.words c.in_ok-ending.ensures) in
+    gives_ends
+    (record { pattern_style = c.in_ok-style.style; pattern_type = c.in_ok-kind.kind; pattern = t.0.value; ending = u.0.value })
+    (read_on (coded BS) _ s c.in_ok-style.ensures ∙ read_on (coded BS) _ s c.in_ok-kind.ensures ∙ then_got (pattern a.caps a.solid) _ s t.0.read
+    ∙ then_got (ending a.caps a.has) _ s u.0.read)
+    (λ i. record { style = c.in_ok-style.style; kind = c.in_ok-kind.kind; pattern = t.1 i; ending = u.1 i }) (t.0.step ⊕ u.0.step)
+    c.in_ok-ending.ensures.ready
 
-pub returns-in-Done-decode_ending : goal.returns-in-Done-decode_ending
-returns-in-Done-decode_ending c =
-    let args = c.args in
-    tail_done args.s.now args.caps args.solid args.has args.at c.read_bs_u-style.result c.then_bs.result
-    c.read_bs_u-style.ensures c.then_bs.ensures c.in-Value.is
-    c.decode_pattern.ensures c.in-Done.is refl c.decode_ending.ensures c.in-Done-decode_ending.is
-    c.value_of-first.ensures
+pub returns-in_err-ending : goal.returns-in_err-ending
+unfolding tail tail_read relay
+returns-in_err-ending g c =
+    let a = c.args in
+    let s = a.s.now in
+    let t = given ((pattern a.caps a.solid).read s _) c.in_ok-pattern.ensures in
+    let o = (ending a.caps a.has).read s _ in
+    let no = ending_words o c.decode_pattern.new.words c.in_err-ending.ensures in
+    gives_leaves _ c.from_residual-in_err-ending.ensures
+    (gives_refused
+    (read_on (coded BS) _ s c.in_ok-style.ensures ∙ read_on (coded BS) _ s c.in_ok-kind.ensures ∙ then_got (pattern a.caps a.solid) _ s t.0.read
+    ∙ then_refused (ending a.caps a.has) _ s (not_given o no)) (kept_then t.0.step (given_kept o no)))
 
-pub returns-in-Refused-decode_ending : goal.returns-in-Refused-decode_ending
-returns-in-Refused-decode_ending c =
-    let args = c.args in
-    tail_ending_refused args.s.now args.caps args.solid args.has args.at c.read_bs_u-style.result
-    c.then_bs.result c.read_bs_u-style.ensures c.then_bs.ensures c.in-Value.is
-    c.decode_pattern.ensures c.in-Done.is refl c.decode_ending.ensures c.in-Refused-decode_ending.is
+pub returns-in_err-pattern : goal.returns-in_err-pattern
+unfolding tail tail_read relay
+returns-in_err-pattern g c =
+    let a = c.args in
+    let s = a.s.now in
+    let o = (pattern a.caps a.solid).read s _ in
+    let no = c.in_err-pattern.ensures in
+    gives_leaves _ c.from_residual-in_err-pattern.ensures
+    (gives_refused
+    (read_on (coded BS) _ s c.in_ok-style.ensures ∙ read_on (coded BS) _ s c.in_ok-kind.ensures
+    ∙ then_refused (pattern a.caps a.solid) _ s (not_given o no)) (given_kept o no))
 
-pub returns-in-Refused-decode_pattern : goal.returns-in-Refused-decode_pattern
-returns-in-Refused-decode_pattern c =
-    let args = c.args in
-    tail_pattern_refused args.s.now args.caps args.solid args.has args.at c.read_bs_u-style.result
-    c.then_bs.result c.read_bs_u-style.ensures c.then_bs.ensures c.in-Value.is
-    c.decode_pattern.ensures c.in-Refused-decode_pattern.is
+pub returns-in_err-kind : goal.returns-in_err-kind
+unfolding tail tail_read relay
+returns-in_err-kind g c =
+    let s = c.args.s.now in
+    gives_leaves _ c.from_residual-in_err-kind.ensures
+    (gives_refused (read_on (coded BS) _ s c.in_ok-style.ensures ∙ read_not (coded BS) _ s c.in_err-kind.ensures) kept_same)
 
-pub returns-in-Refused : goal.returns-in-Refused
-returns-in-Refused c =
-    let args = c.args in
-    tail_fields_refused args.s.now args.caps args.solid args.has args.at c.read_bs_u-style.result
-    c.then_bs.result c.read_bs_u-style.ensures c.then_bs.ensures c.in-Refused.is
+pub returns-in_err-style : goal.returns-in_err-style
+unfolding tail tail_read relay
+returns-in_err-style g c =
+    gives_leaves _ c.from_residual.ensures (gives_refused (read_not (coded BS) _ c.args.s.now c.in_err-style.ensures) kept_same)

@@ -1,67 +1,146 @@
 -- Two switches and a count, the paths, and what follows them, one behind the other.
-use mathlib.Core.Path.{◌∙◌}
-use lib.Dec.{eqb}
-use Rattle.hatch_rest.specs.declared.rests.RestWalk.TheVariants.{Done}
-use Rattle.hatch_points.proofs.Laws.{walk_ready}
-use Rattle.hatch_rest.proofs.TailLaws.{}
-use Rattle.hatch_rest.proofs.RestLaws.{tail_by, rest_ready, rest_fields_refused, rest_paths_refused, rest_tail_refused, rest_done}
+use mathlib.Core.Path.{◌≡◌, sym, ap, ◌∙◌}
+use mathlib.Core.Bool.{Bool}
+use mathlib.Core.List.{List}
+use Prim.Native.Nat.{ℕ}
+use native.Mathlib.Omega.{arith}
+use lib.Dec.{leb}
+use Rattle.std.specs.Prelude.{Result}
+use Rattle.bitcursor.specs.declared.Refused.{Refused}
+use Rattle.bitcursor.specs.Reading.{Out, and_then}
+use Rattle.bitcursor.specs.Codes.{B, BL}
+use Rattle.bitcursor.specs.Fields.{coded}
+use Rattle.bitcursor.specs.Format.{Format, pure, ◌>>=◌, then_got, then_refused}
+use Rattle.bitcursor.specs.Inputs.{one}
+use Rattle.text.specs.declared.version.Version.{Version}
+use Rattle.text.specs.Releases.{release_number}
+use Rattle.hatch_format.specs.declared.Caps.{Caps}
+use Rattle.hatch_format.specs.Values.{Path, derived}
+use Rattle.hatch_format.specs.HandleRule.{in_payload}
+use Rattle.hatch_format.specs.Takes.{takes_none}
+use Rattle.hatch_format.specs.Counts.{times, bounded}
+use Rattle.hatch_format.specs.Paths.{path, takes_path, paths, paths_in_payload}
+use Rattle.hatch_format.specs.Patterns.{tail, rest_read, rest}
+use Rattle.hatch_points.specs.declared.lists.Sizes.{Sizes}
+use Rattle.hatch_points.specs.Gathered.{Entries, all, gathered, repeated}
+use Rattle.hatch_points.specs.Lists.{Lists, Walks}
+use Rattle.hatch_points.specs.Runs.{times_length}
+use Rattle.hatch_points.proofs.Laws.{◌⊕◌, walks_as, walk_kept, ready_on, kept_then, kept_same}
+use Rattle.hatch_points.proofs.Rows.{listed_row}
+use Rattle.hatch_paths.specs.PathWalks.{path_walk}
+use Rattle.hatch_paths.specs.PathGathers.{path_entries, all_paths, paths_gather}
+use Rattle.hatch_rest.specs.Rests.{no_sizes}
+use Rattle.hatch_rest.proofs.Given.{read_on, read_not, gives_refused, gives_ends, gives_leaves, ValueRead, value_read, value_refused}
+use Rattle.hatch_rest.proofs.Given.{given, not_given, given_kept}
 use Rattle.hatch_rest.proofs.rests.decode_rest.Goals as goal
 
+-- the count of paths, the paths, and what follows them; in the payload no path looks at the sum of the handle counts
+paths_row : {A : Type 0} (xs : List ℕ) (caps : Caps) (v : Version) (g : List Path → Format one A) (p : ℕ)
+    → (paths caps in_payload v >>= g).read xs p ≡ (bounded caps.paths BL >>= λ n. times n (path caps in_payload v 0) >>= g).read xs p
+unfolding ◌>>=◌
+paths_row xs caps v g p =
+    ap (λ (o : Out ℕ (List Path)). and_then o (λ a r. (g a).read xs r)) (paths_in_payload caps v xs p)
+    ∙ listed_row xs caps.paths BL (path caps in_payload v 0) (takes_path caps in_payload v 0) g p
+
+-- the walk over the paths gathers what they hold
+paths_walk : {N : Type 0} {of : ℕ → N} (xs : List ℕ) (caps : Caps) (v : Version) (n p : ℕ) {fits : Bool} {l l' : Lists N} {z : Sizes}
+    {r : Result (Sizes × ℕ) (Refused ℕ)} → fits ≡ leb 5 (release_number v) → Walks of xs ((repeated n (path_walk caps fits)).read xs p) l z l' r
+    → Walks of xs (gathered (all path_entries) ((times n (path caps in_payload v 0)).read xs p)) l z l' r
+paths_walk xs caps v n p e h = walks_as h (ap (λ (b : Bool). (repeated n (path_walk caps b)).read xs p) e ∙ sym (paths_gather xs caps v n p))
+
+-- and says whether one came from a boundary object
+has : {N : Type 0} {of : ℕ → N} {o : Out ℕ (List Path)} {l l' : Lists N} {q : ℕ} {y : Sizes}
+    (t : ValueRead of (all path_entries) o l no_sizes l' q y) → y.derived ≡ derived t.value
+has t = ap (λ (z : Sizes). z.derived) t.step.sizes ∙ ap (λ (e : Entries). e.derived) (all_paths t.value)
+
 pub decode_paths-requires : goal.decode_paths-requires
-decode_paths-requires c =
-    let args = c.args in (
-      rest_ready args.s.now args.caps args.v args.at c.read_bits-solid.ensures c.then_bits-associative.ensures
-          c.then_count-count.ensures c.in-Value.is c.requires.0 c.requires.1.0,
-      c.requires.1.1,
-    )
+decode_paths-requires g c =
+    let a = c.args in
+    let s = a.s.now in
+    let h = c.requires in
+    let flag = takes_none (coded B) in
+    let count = bounded a.caps.paths BL in
+    let r = ready_on (coded B) 0 flag s a.at c.in_ok-solid.ensures no_sizes (h.0, (h.1.0, (omega arith, omega arith))) in
+    let t = ready_on (coded B) 0 flag s _ c.in_ok-associative.ensures no_sizes r in
+    (ready_on count 0 (takes_none count) s _ c.in_ok-n.ensures no_sizes t, h.1.1)
 
-pub decode_tail-requires : goal.decode_tail-requires
-decode_tail-requires c =
-    walk_ready c.decode_paths.ensures c.in-Done.is
+pub returns : goal.returns
+unfolding rest rest_read pure
+returns g c =
+    let a = c.args in
+    let s = a.s.now in
+    let n = c.in_ok-n.n in
+    let p = c.in_ok-n.p in
+    let item = path a.caps in_payload a.v 0 in
+    let t = value_read (all path_entries) ((times n item).read s p) (paths_walk s a.caps a.v n p c.is_from-fits.ensures c.in_ok-y.ensures) in
+    let o = (tail a.caps c.in_ok-solid.solid c.in_ok-y.y.derived).read s c.in_ok-y.p in
+    let u = given o c.in_ok-tail.ensures in
+    let m = times_length item s n p t.read in
+    gives_ends
+    (record { solid = c.in_ok-solid.solid; associative = c.in_ok-associative.associative; paths = t.value; tail = u.0.value })
+    (read_on (coded B) _ s c.in_ok-solid.ensures ∙ read_on (coded B) _ s c.in_ok-associative.ensures ∙ paths_row s a.caps a.v _ _
+    ∙ read_on (bounded a.caps.paths BL) _ s c.in_ok-n.ensures ∙ then_got (times n item) _ s t.read
+    ∙ then_got (tail a.caps c.in_ok-solid.solid (derived t.value)) _ s
+    (ap (λ (b : Bool). (tail a.caps c.in_ok-solid.solid b).read s c.in_ok-y.p) (sym (has t)) ∙ u.0.read))
+    (λ i. record {
+      solid = c.in_ok-solid.solid;
+      associative = c.in_ok-associative.associative;
+      paths = sym m i;
+      tail = u.1 i;
+    }) (t.step ⊕ u.0.step) c.in_ok-tail.ensures.ready
 
-pub shape_of-numbers-in-Done-decode_tail : goal.shape_of-numbers-in-Done-decode_tail
-shape_of-numbers-in-Done-decode_tail c =
-    c.decode_tail.auto.numbers ∙ c.decode_paths.auto.numbers
+pub returns-in_err-tail : goal.returns-in_err-tail
+unfolding rest rest_read
+returns-in_err-tail g c =
+    let a = c.args in
+    let s = a.s.now in
+    let n = c.in_ok-n.n in
+    let p = c.in_ok-n.p in
+    let item = path a.caps in_payload a.v 0 in
+    let t = value_read (all path_entries) ((times n item).read s p) (paths_walk s a.caps a.v n p c.is_from-fits.ensures c.in_ok-y.ensures) in
+    let o = (tail a.caps c.in_ok-solid.solid c.in_ok-y.y.derived).read s c.in_ok-y.p in
+    let no = c.in_err-tail.ensures in
+    gives_leaves _ c.from_residual-in_err-tail.ensures
+    (gives_refused
+    (read_on (coded B) _ s c.in_ok-solid.ensures ∙ read_on (coded B) _ s c.in_ok-associative.ensures ∙ paths_row s a.caps a.v _ _
+    ∙ read_on (bounded a.caps.paths BL) _ s c.in_ok-n.ensures ∙ then_got (times n item) _ s t.read
+    ∙ then_refused (tail a.caps c.in_ok-solid.solid (derived t.value)) _ s
+    (ap (λ (b : Bool). (tail a.caps c.in_ok-solid.solid b).read s c.in_ok-y.p) (sym (has t)) ∙ not_given o no))
+    (kept_then t.step (given_kept o no)))
 
-pub shape_of-bits-in-Done-decode_tail : goal.shape_of-bits-in-Done-decode_tail
-shape_of-bits-in-Done-decode_tail c =
-    c.decode_tail.auto.bits ∙ c.decode_paths.auto.bits
+pub returns-in_err-y : goal.returns-in_err-y
+unfolding rest rest_read
+returns-in_err-y g c =
+    let a = c.args in
+    let s = a.s.now in
+    let n = c.in_ok-n.n in
+    let p = c.in_ok-n.p in
+    let item = path a.caps in_payload a.v 0 in
+    let walk = paths_walk s a.caps a.v n p c.is_from-fits.ensures c.in_err-y.ensures in
+    gives_leaves _ c.from_residual-in_err-y.ensures
+    (gives_refused
+    (read_on (coded B) _ s c.in_ok-solid.ensures ∙ read_on (coded B) _ s c.in_ok-associative.ensures ∙ paths_row s a.caps a.v _ _
+    ∙ read_on (bounded a.caps.paths BL) _ s c.in_ok-n.ensures
+    ∙ then_refused (times n item) _ s (value_refused (all path_entries) ((times n item).read s p) walk)) (walk_kept walk))
 
-pub returns-in-Done-decode_tail : goal.returns-in-Done-decode_tail
-returns-in-Done-decode_tail c =
-    let args = c.args in
-    let t = rest_done args.s.now args.caps args.v args.at c.read_bits-solid.ensures c.then_bits-associative.ensures
-    c.then_count-count.ensures c.in-Value.is c.is_r2010_plus-fits.ensures
-    c.decode_paths.ensures c.in-Done.is (tail_by args.s.now args.caps c.in-Done.y.derived
-    c.in-Done.q c.value_of-is_solid.ensures c.decode_tail.ensures) c.in-Done-decode_tail.is in (
-      (λ i. Done (record {
-        solid = eqb 1 (c.value_of-is_solid.ensures i);
-        associative = eqb 1
-            (c.value_of.ensures i);
-        paths = c.in-Value.n;
-        tail = c.in-Done-decode_tail.t;
-      }) c.in-Done-decode_tail.e
-          c.in-Done-decode_tail.x) ∙ t.0,
-      t.1,
-    )
+pub returns-in_err-n : goal.returns-in_err-n
+unfolding rest rest_read
+returns-in_err-n g c =
+    let a = c.args in
+    let s = a.s.now in
+    gives_leaves _ c.from_residual-in_err-n.ensures
+    (gives_refused
+    (read_on (coded B) _ s c.in_ok-solid.ensures ∙ read_on (coded B) _ s c.in_ok-associative.ensures ∙ paths_row s a.caps a.v _ _
+    ∙ read_not (bounded a.caps.paths BL) _ s c.in_err-n.ensures) kept_same)
 
-pub returns-in-Refused-decode_tail : goal.returns-in-Refused-decode_tail
-returns-in-Refused-decode_tail c =
-    let args = c.args in
-    rest_tail_refused args.s.now args.caps args.v args.at c.read_bits-solid.ensures c.then_bits-associative.ensures
-    c.then_count-count.ensures c.in-Value.is c.is_r2010_plus-fits.ensures
-    c.decode_paths.ensures c.in-Done.is (tail_by args.s.now args.caps c.in-Done.y.derived
-    c.in-Done.q c.value_of-is_solid.ensures c.decode_tail.ensures) c.in-Refused-decode_tail.is
+pub returns-in_err-associative : goal.returns-in_err-associative
+unfolding rest rest_read
+returns-in_err-associative g c =
+    let s = c.args.s.now in
+    gives_leaves _ c.from_residual-in_err-associative.ensures
+    (gives_refused (read_on (coded B) _ s c.in_ok-solid.ensures ∙ read_not (coded B) _ s c.in_err-associative.ensures) kept_same)
 
-pub returns-in-Refused-decode_paths : goal.returns-in-Refused-decode_paths
-returns-in-Refused-decode_paths c =
-    let args = c.args in
-    rest_paths_refused args.s.now args.caps args.v args.at c.read_bits-solid.ensures c.then_bits-associative.ensures
-    c.then_count-count.ensures c.in-Value.is c.is_r2010_plus-fits.ensures
-    c.decode_paths.ensures c.in-Refused-decode_paths.is
-
-pub returns-in-Refused : goal.returns-in-Refused
-returns-in-Refused c =
-    let args = c.args in
-    rest_fields_refused args.s.now args.caps args.v args.at c.read_bits-solid.ensures c.then_bits-associative.ensures
-    c.then_count-count.ensures c.in-Refused.is
+pub returns-in_err-solid : goal.returns-in_err-solid
+unfolding rest rest_read
+returns-in_err-solid g c =
+    gives_leaves _ c.from_residual.ensures (gives_refused (read_not (coded B) _ c.args.s.now c.in_err-solid.ensures) kept_same)
