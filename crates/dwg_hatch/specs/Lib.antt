@@ -1,4 +1,2 @@
-pub mod HatchCalls
-pub mod SeedBoundary
 pub mod MoveCalls
 pub mod ConversionCalls
