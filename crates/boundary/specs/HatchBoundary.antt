@@ -9,6 +9,7 @@ use Rattle.hatch_format.specs.declared.GradientColor.{GradientColor}
 use Rattle.hatch_format.specs.declared.GradientFill.{GradientFill}
 use Rattle.hatch_format.specs.declared.Hatch.{Hatch}
 use Rattle.hatch_format.specs.Record.{GradientFillBits, HatchBits, as_doubles, zero_record}
+use Rattle.hatch_record.specs.declared.Lengths.{Lengths}
 use Rattle.boundary.specs.Boundary.{source_number}
 use Rattle.boundary.specs.declared.bodies.TextFields.{TextFields}
 use Rattle.boundary.specs.declared.bodies.GradientFields.{GradientFields}
@@ -16,6 +17,7 @@ use Rattle.boundary.specs.declared.bodies.GradientBits.{GradientBits}
 use Rattle.boundary.specs.declared.bodies.BodyFields.{BodyFields}
 use Rattle.boundary.specs.declared.bodies.BodyAnswer.{BodyAnswer}
 use Rattle.boundary.specs.declared.bodies.BodyBitsAnswer.{BodyBitsAnswer}
+use Rattle.boundary.specs.declared.bodies.LengthsAnswer.{LengthsAnswer}
 
 abbrev pub text_fields : Text → TextFields
 text_fields t =
@@ -106,3 +108,9 @@ body_answer (Err e) = body_with (refusal_number e.refusal) (as_doubles (zero_rec
 abbrev pub body_bits : Result HatchBits (Refused Places) → BodyBitsAnswer
 body_bits (Ok h) = bits_with 0 h
 body_bits (Err e) = bits_with (refusal_number e.refusal) (zero_record e.place)
+
+abbrev pub lengths_answer : Result Lengths (Refused Places) → LengthsAnswer
+lengths_answer (Ok a) =
+    record { refusal = 0; place = a.places.main; string_place = a.places.string; words = a.words; numbers = a.numbers }
+lengths_answer (Err e) =
+    record { refusal = refusal_number e.refusal; place = e.place.main; string_place = e.place.string; words = 0; numbers = 0 }

@@ -1,18 +1,24 @@
 // A hatch as numbers: what crosses the boundary in place of a Result.
 ghost use Rattle.std.specs.Prelude.{◌≡◌, [], map};
 ghost use Rattle.hatch_format.specs.Record.{sixteen, hatch_as, zero_record};
+ghost use Rattle.hatch_body.specs.Parts.{Readable};
+ghost use Rattle.hatch_record.specs.Records.{answer_in};
 ghost use Rattle.boundary.specs.HatchBoundary.{text_fields, gradient_fields, gradient_bits, body_fields, body_with, bits_with};
-ghost use Rattle.boundary.specs.HatchBoundary.{body_answer, body_bits};
+ghost use Rattle.boundary.specs.HatchBoundary.{body_answer, body_bits, lengths_answer};
 
 use crate::answers;
 use crate::answers::NO_TEXT;
 use crate::bodies::{
-    BodyAnswer, BodyBitsAnswer, BodyFields, GradientBits, GradientFields, TextFields,
+    BodyAnswer, BodyBitsAnswer, BodyFields, GradientBits, GradientFields, LengthsAnswer, TextFields,
 };
+use bitcursor::Places;
 use bitcursor::values::Number;
-use bitcursor::{Places, Refused};
-use hatch_format::{Color, GradientFill, GradientFillBits, Hatch, HatchBits, Vec3D};
+use hatch_body::BodyRead;
+use hatch_format::{
+    Color, GradientColorBits, GradientFill, GradientFillBits, Hatch, HatchBits, Vec3D,
+};
 use hatch_front::colors;
+use hatch_record::{HatchRead, LengthsRead};
 use text::Text;
 
 impl From<Text> for TextFields {
@@ -150,10 +156,10 @@ impl BodyAnswer {
     }
 }
 
-impl From<Result<Hatch, Refused<Places>>> for BodyAnswer {
+impl From<HatchRead> for BodyAnswer {
     ghost from_gives = { λ read answer. answer ≡ body_answer read };
 
-    fn from(read: Result<Hatch, Refused<Places>>) -> BodyAnswer {
+    fn from(read: HatchRead) -> BodyAnswer {
         match read {
             Ok(h) => BodyAnswer::new(0, h),
             Err(e) => BodyAnswer::new(
@@ -187,16 +193,46 @@ impl BodyBitsAnswer {
     }
 }
 
-impl From<Result<HatchBits, Refused<Places>>> for BodyBitsAnswer {
+impl From<HatchRead<u64, GradientColorBits>> for BodyBitsAnswer {
     ghost from_gives = { λ read answer. answer ≡ body_bits read };
 
-    fn from(read: Result<HatchBits, Refused<Places>>) -> BodyBitsAnswer {
+    fn from(read: HatchRead<u64, GradientColorBits>) -> BodyBitsAnswer {
         match read {
             Ok(h) => BodyBitsAnswer::new(0, h),
             Err(e) => BodyBitsAnswer::new(
                 u64::from(u8::from(e.refusal)),
                 zero_hatch(colors::zero_colors(), e.place),
             ),
+        }
+    }
+}
+
+// The answer of a call, with the colours read once more where there are some. Where there are none it is made at once; the two ways are calls of their
+// own, since one answer for both would be copied field by field.
+pub fn answer<N: Number, C: Color, A: From<HatchRead<N, C>>>(main: &[u8], read: BodyRead) -> A
+    requires { Readable main.now read }
+    ensures { A.from_gives (answer_in N.of_bits C.of_bits main.now read) result }
+{
+    if 0 < hatch_record::num_colors(read) {
+        return hatch_record::colored::<N, C>(main, read).into();
+    }
+    hatch_record::plain::<N, C>(read).into()
+}
+
+impl From<LengthsRead> for LengthsAnswer {
+    ghost from_gives = { λ read answer. answer ≡ lengths_answer read };
+
+    fn from(read: LengthsRead) -> LengthsAnswer {
+        let (refusal, words, numbers, places) = match read {
+            Ok(lengths) => (0, lengths.words, lengths.numbers, lengths.places),
+            Err(e) => (u64::from(u8::from(e.refusal)), 0, 0, e.place),
+        };
+        LengthsAnswer {
+            refusal,
+            place: places.main,
+            string_place: places.string,
+            words,
+            numbers,
         }
     }
 }
