@@ -1,6 +1,6 @@
 // A hatch as numbers: what crosses the boundary in place of a Result.
 ghost use Rattle.std.specs.Prelude.{◌≡◌, [], map};
-ghost use Rattle.hatch_format.specs.Record.{sixteen, hatch_as, zero_record};
+ghost use Rattle.hatch_format.specs.Record.{sixteen, hatch_as, zero_record, double, color_as_doubles};
 ghost use Rattle.hatch_body.specs.Parts.{Readable};
 ghost use Rattle.hatch_record.specs.Records.{answer_in};
 ghost use Rattle.boundary.specs.HatchBoundary.{text_fields, gradient_fields, gradient_bits, body_fields, body_with, bits_with};
@@ -15,7 +15,8 @@ use bitcursor::Places;
 use bitcursor::values::Number;
 use hatch_body::BodyRead;
 use hatch_format::{
-    Color, GradientColorBits, GradientFill, GradientFillBits, Hatch, HatchBits, Vec3D,
+    Color, GradientColor, GradientColorBits, GradientFill, GradientFillBits, Hatch, HatchBits,
+    Vec3D,
 };
 use hatch_front::colors;
 use hatch_record::{HatchRead, LengthsRead};
@@ -209,14 +210,27 @@ impl From<HatchRead<u64, GradientColorBits>> for BodyBitsAnswer {
 
 // The answer of a call, with the colours read once more where there are some. Where there are none it is made at once; the two ways are calls of their
 // own, since one answer for both would be copied field by field.
-pub fn answer<N: Number, C: Color, A: From<HatchRead<N, C>>>(main: &[u8], read: BodyRead) -> A
+#[tactic(auto, using(hatch_record::proofs::RecordLaws::plain_is))]
+pub fn answer(main: &[u8], read: BodyRead) -> BodyAnswer
     requires { Readable main.now read }
-    ensures { A.from_gives (answer_in N.of_bits C.of_bits main.now read) result }
+    ensures { result ≡ body_answer (answer_in double color_as_doubles main.now read) }
 {
     if 0 < hatch_record::num_colors(read) {
-        return hatch_record::colored::<N, C>(main, read).into();
+        return hatch_record::colored::<f64, GradientColor>(main, read).into();
     }
-    hatch_record::plain::<N, C>(read).into()
+    hatch_record::plain::<f64, GradientColor>(read).into()
+}
+
+// The same with each double as its 64 bits.
+#[tactic(auto, using(hatch_record::proofs::RecordLaws::plain_is))]
+pub fn answer_bits(main: &[u8], read: BodyRead) -> BodyBitsAnswer
+    requires { Readable main.now read }
+    ensures { result ≡ body_bits (answer_in (λ bits. bits) (λ color. color) main.now read) }
+{
+    if 0 < hatch_record::num_colors(read) {
+        return hatch_record::colored::<u64, GradientColorBits>(main, read).into();
+    }
+    hatch_record::plain::<u64, GradientColorBits>(read).into()
 }
 
 impl From<LengthsRead> for LengthsAnswer {
