@@ -237,14 +237,14 @@ impl From<LengthsRead> for LengthsAnswer {
     ghost from_gives = { λ read answer. answer ≡ lengths_answer read };
 
     fn from(read: LengthsRead) -> LengthsAnswer {
-        let (refusal, words, numbers, places) = match read {
+        let (refusal, words, numbers, ends) = match read {
             Ok(lengths) => (0, lengths.words, lengths.numbers, lengths.places),
             Err(e) => (u64::from(u8::from(e.refusal)), 0, 0, e.place),
         };
         LengthsAnswer {
             refusal,
-            place: places.main,
-            string_place: places.string,
+            place: ends.main,
+            string_place: ends.string,
             words,
             numbers,
         }

@@ -1,0 +1,143 @@
+// The hatch calls of the boundary; thin over crate hatch. Where there are no colours the answer is made at once; the two ways are calls of their own,
+// since one answer for both would be copied field by field.
+// specs/HatchCalls promises that each answer is the call's as numbers; the lists are what the call leaves there.
+ghost use Rattle.std.specs.Prelude.{◌≡◌, length};
+ghost use Rattle.hatch_format.specs.Call.{none, lent};
+ghost use Rattle.hatch.specs.Calls.{call_of, as_lengths, most};
+ghost use Rattle.boundary.specs.HatchBoundary.{lengths_answer};
+ghost use Rattle.dwg_hatch.specs.HatchCalls.{Decodes, DecodesBits};
+
+use boundary::bodies::{BodyAnswer, BodyBitsAnswer, LengthsAnswer};
+use boundary::hatches;
+use hatch::calls;
+
+// The hatch body at a bit of the main payload, texts inline, doubles as f64.
+#[unsafe(no_mangle)]
+pub extern "C" fn dwg_hatch_decode(
+    main: &[u8],
+    start: usize,
+    release: u64,
+    numbers: &mut [f64],
+    words: &mut [u32],
+) -> BodyAnswer
+    ensures { Decodes (call_of release main.now start none (length words.old) (length numbers.old)) result
+        numbers.old numbers.new words.old words.new }
+{
+    let read = calls::read(main, start, release, numbers, words);
+    if 0 < hatch_record::num_colors(read) {
+        return hatches::colored(main, read);
+    }
+    hatches::plain(read)
+}
+
+// The same with each double as its 64 bits.
+#[unsafe(no_mangle)]
+pub extern "C" fn dwg_hatch_decode_bits(
+    main: &[u8],
+    start: usize,
+    release: u64,
+    bits: &mut [u64],
+    words: &mut [u32],
+) -> BodyBitsAnswer
+    ensures { DecodesBits (call_of release main.now start none (length words.old) (length bits.old)) result
+        bits.old bits.new words.old words.new }
+{
+    let read = calls::read_bits(main, start, release, bits, words);
+    if 0 < hatch_record::num_colors(read) {
+        return hatches::colored_bits(main, read);
+    }
+    hatches::plain_bits(read)
+}
+
+// The hatch body with a string reader that stands at `string_start` of the string payload and ends at the bit `string_end`.
+#[unsafe(no_mangle)]
+pub extern "C" fn dwg_hatch_decode_with_strings(
+    main: &[u8],
+    start: usize,
+    string: &[u8],
+    string_start: usize,
+    string_end: usize,
+    release: u64,
+    numbers: &mut [f64],
+    words: &mut [u32],
+) -> BodyAnswer
+    ensures { Decodes (call_of release main.now start (lent string.now string_start string_end) (length words.old)
+        (length numbers.old)) result numbers.old numbers.new words.old words.new }
+{
+    let read = calls::read_with_strings(
+        main,
+        start,
+        string,
+        string_start,
+        string_end,
+        release,
+        numbers,
+        words,
+    );
+    if 0 < hatch_record::num_colors(read) {
+        return hatches::colored(main, read);
+    }
+    hatches::plain(read)
+}
+
+// The same with each double as its 64 bits.
+#[unsafe(no_mangle)]
+pub extern "C" fn dwg_hatch_decode_with_strings_bits(
+    main: &[u8],
+    start: usize,
+    string: &[u8],
+    string_start: usize,
+    string_end: usize,
+    release: u64,
+    bits: &mut [u64],
+    words: &mut [u32],
+) -> BodyBitsAnswer
+    ensures { DecodesBits (call_of release main.now start (lent string.now string_start string_end)
+        (length words.old) (length bits.old)) result bits.old bits.new words.old words.new }
+{
+    let read = calls::read_with_strings_bits(
+        main,
+        start,
+        string,
+        string_start,
+        string_end,
+        release,
+        bits,
+        words,
+    );
+    if 0 < hatch_record::num_colors(read) {
+        return hatches::colored_bits(main, read);
+    }
+    hatches::plain_bits(read)
+}
+
+// The lengths that the lists must have for the hatch body, whatever is lent.
+#[unsafe(no_mangle)]
+pub extern "C" fn dwg_hatch_measure(main: &[u8], start: usize, release: u64) -> LengthsAnswer
+    ensures { result ≡ lengths_answer (as_lengths (call_of release main.now start none most most)) }
+{
+    hatches::of_lengths(hatch::measure(main, start, release))
+}
+
+// The same with a string reader.
+#[unsafe(no_mangle)]
+pub extern "C" fn dwg_hatch_measure_with_strings(
+    main: &[u8],
+    start: usize,
+    string: &[u8],
+    string_start: usize,
+    string_end: usize,
+    release: u64,
+) -> LengthsAnswer
+    ensures { result ≡ lengths_answer (as_lengths (call_of release main.now start
+        (lent string.now string_start string_end) most most)) }
+{
+    hatches::of_lengths(hatch::measure_with_strings(
+        main,
+        start,
+        string,
+        string_start,
+        string_end,
+        release,
+    ))
+}
