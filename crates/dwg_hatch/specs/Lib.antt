@@ -1,2 +1,4 @@
+pub mod HatchCalls
+pub mod SeedBoundary
 pub mod MoveCalls
 pub mod ConversionCalls

@@ -22,8 +22,10 @@ use boundary::{
     TextAnswer,
 };
 
+pub mod bodies;
 pub mod code_pages;
 pub mod moves;
+pub mod seeds;
 
 // B: one bit, 0 or 1.
 #[unsafe(no_mangle)]
