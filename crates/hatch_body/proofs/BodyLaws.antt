@@ -1,20 +1,22 @@
 -- A body from the answers for its front and its rest: what the definition of the whole reads, and what the lists are then. Assumes nothing.
 use mathlib.Core.Path.{◌≡◌, refl, sym, ap, ap₂, subst, ◌∙◌}
 use mathlib.Core.Bool.{Bool, true, false, ◌&&◌}
-use mathlib.Core.List.{List, [], ◌∷◌, ◌++◌, append-nil}
-use Prim.Native.Nat.{ℕ, suc, ◌^◌, ◌≤◌, ◌<◌}
+use mathlib.Core.List.{List, [], ◌++◌, append-nil}
+use Prim.Native.Nat.{ℕ, ◌^◌, ◌<◌}
 use native.Mathlib.Nat.{zero-add}
 use native.Mathlib.Omega.{arith}
 use lib.Dec.{leb}
-use lib.Ieee.{Float}
 use lib.ListN.{length}
-use lib.Seq.{sets}
-use borrow.Author.Tests.{le-leb, leb-true, lt-leb}
-use Rattle.bitcursor.specs.declared.Refusal.{Refusal}
+use borrow.Author.Tests.{leb-true}
+use Rattle.std.specs.Prelude.{Result, Ok, Err, map}
+use Rattle.std.specs.Result.{IsErr, IsErrAnd}
 use Rattle.bitcursor.specs.declared.Refusal.TheVariants.{ListTooShort}
-use Rattle.bitcursor.specs.Reading.{Out, got, refused}
+use Rattle.bitcursor.specs.declared.Refused.{Refused}
+use Rattle.bitcursor.specs.Answers.{value_as}
+use Rattle.bitcursor.specs.Fields.{main, lifted}
+use Rattle.bitcursor.specs.Inputs.{Places}
+use Rattle.bitcursor.specs.Reading.{Out, got, refused, never}
 use Rattle.bitcursor.specs.Ranges.{BS_below}
-use Rattle.text.specs.declared.Places.{Places}
 use Rattle.text.specs.declared.version.Version.{Version}
 use Rattle.hatch_format.proofs.Rests.{rest_to}
 use Rattle.hatch_format.specs.declared.Caps.{Caps}
@@ -25,28 +27,14 @@ use Rattle.hatch_format.specs.Patterns.{rest}
 use Rattle.hatch_points.specs.declared.lists.Sizes.{Sizes}
 use Rattle.hatch_points.specs.Gathered.{Entries, gathered}
 use Rattle.hatch_points.specs.Gathers.{all_both}
-use Rattle.hatch_points.specs.Lists.{Lists, lists, doubles_of, store, grow, Stored}
+use Rattle.hatch_points.specs.Lists.{Lists, lists, store, grow, Stored}
+use Rattle.hatch_points.proofs.Laws.{stays, kept_same, sets_out}
 use Rattle.hatch_paths.specs.PathGathers.{all_paths}
 use Rattle.hatch_rest.specs.declared.rests.Rest.{Rest}
-use Rattle.hatch_rest.specs.declared.rests.RestWalk.TheVariants.{Done, Refused}
-use Rattle.hatch_rest.specs.Tails.{Gives}
 use Rattle.hatch_rest.specs.Rests.{no_sizes, rest_of, rest_entries, rest_walk}
 use Rattle.hatch_front.specs.declared.Front.{Front}
-use Rattle.hatch_body.specs.declared.BodyRead.{BodyRead}
-use Rattle.hatch_body.specs.declared.BodyRead.TheVariants.{Done as DoneBody, Refused as RefusedBody}
-use Rattle.hatch_body.specs.Parts.{placed, none_lent, Walked, long_enough, parts_if, rest_read, laid_if, rest_lists}
-
--- ---- from the rest's answer, what was read
-pub rest_done : (o : Out ℕ RestValue) {t : Rest} {q : ℕ} {z : Sizes} → Done t q z ≡ rest_walk o
-    → (a : RestValue) × (o ≡ got a q) × (t ≡ rest_of a) × (z ≡ grow no_sizes (rest_entries a))
-rest_done (got a p) {t} {q} {z} e =
-    let i : p ≡ q = cc in
-    (a, ap (got a) i, cc, cc)
-rest_done (refused k p) e = let x : ◌≡◌ {A = ℕ} 0 1 = cc in absurd (omega arith)
-
-pub rest_not : (o : Out ℕ RestValue) {k : Refusal} {q : ℕ} → Refused k q ≡ rest_walk o → o ≡ refused k q
-rest_not (got a p) e = let x : ◌≡◌ {A = ℕ} 0 1 = cc in absurd (omega arith)
-rest_not (refused k p) e = cc
+use Rattle.hatch_body.specs.declared.Parts.{Parts}
+use Rattle.hatch_body.specs.Parts.{placed, none_lent, long_enough, parts_if, rest_read, laid_if, rest_lists}
 
 pub rest_range : (caps : Caps) (handles : Handles) (v : Version) (xs : List ℕ) (p : ℕ) {a : RestValue} {q : ℕ} → (rest caps handles v).read xs p ≡ got a q
     → (a.tail.pattern_style < 2 ^ 16) × (a.tail.pattern_type < 2 ^ 16)
@@ -72,86 +60,87 @@ used_words a = zero-add (length (rest_entries a).words) ∙ ap length (laid_word
 pub used_numbers : (a : RestValue) → (grow no_sizes (rest_entries a)).numbers ≡ length (numbers a)
 used_numbers a = zero-add (length (rest_entries a).numbers) ∙ ap length (laid_numbers a)
 
--- ---- the room
-module _ (nw nn : ℕ) (z : Sizes) where
-  pub short_words : nw < z.words → long_enough nw nn z ≡ false
-  short_words h = rw (lt-leb z.words nw h)
+-- ---- from the rest's answer, placed behind the front, what was read
+pub record RestRead (p : Places) (o : Out ℕ RestValue) (t : Rest) (z : Sizes) (q : Places) : Type 0 where
+  pub value : RestValue
+  pub place : ℕ
+  pub read : o ≡ got value place
+  pub rest : t ≡ rest_of value
+  pub used : z ≡ grow no_sizes (rest_entries value)
+  pub places : q ≡ placed p place
 
-  pub short_numbers : z.words ≤ nw → nn < z.numbers → long_enough nw nn z ≡ false
-  short_numbers g h = rw (le-leb z.words nw g, lt-leb z.numbers nn h)
+same_got : {A : Type 0} {a b : A} {p q : Places} → got a p ≡ got b q → (a ≡ b) × (p ≡ q)
+same_got e = (cc, cc)
 
-  pub long_enough_lem : z.words ≤ nw → z.numbers ≤ nn → long_enough nw nn z ≡ true
-  long_enough_lem g h = rw (le-leb z.words nw g, le-leb z.numbers nn h)
+pub rest_got : (p : Places) (o : Out ℕ RestValue) {m : Out ℕ (Rest × Sizes)} {t : Rest} {z : Sizes} {q : Places}
+    → m ≡ value_as rest_walk o → got (t, z) q ≡ lifted main p m → RestRead p o t z q
+rest_got p (got a n) i e =
+    let s = same_got (e ∙ ap (lifted main p) i) in
+    record {
+      value = a;
+      place = n;
+      read = refl;
+      rest = ap (λ (u : Rest × Sizes). u.0) s.0;
+      used = ap (λ (u : Rest × Sizes). u.1) s.0;
+      places = s.1;
+    }
+rest_got p (refused k n) i e = never (sym (e ∙ ap (lifted main p) i))
 
 -- ---- the rest behind a front
-module _ (f : Front) (nw nn : ℕ) (p : Places) (o : Out ℕ RestValue) {t : Rest} {q : ℕ} {z : Sizes} (e : Done t q z ≡ rest_walk o) where
-  read : (a : RestValue) × (o ≡ got a q) × (t ≡ rest_of a) × (z ≡ grow no_sizes (rest_entries a))
-  read = rest_done o e
+module _ (f : Front) (nw nn : ℕ) (p : Places) (o : Out ℕ RestValue) {N : Type 0} (of : ℕ → N) where
+  abbrev Answered : Result Parts (Refused Places) → Lists N → Lists N → Out ℕ RestValue → Type 0
+  Answered r l l' x = (r ≡ rest_read f nw nn p x) × (l' ≡ rest_lists of l nw nn x)
 
-  same_room : {b : Bool} → long_enough nw nn z ≡ b → long_enough nw nn (grow no_sizes (rest_entries read.0)) ≡ b
-  same_room s = ap (long_enough nw nn) (sym read.3) ∙ s
+  module _ {t : Rest} {z : Sizes} {q : Places} (h : RestRead p o t z q) where
+    same_room : {b : Bool} → long_enough nw nn z ≡ b → long_enough nw nn (grow no_sizes (rest_entries h.value)) ≡ b
+    same_room s = ap (long_enough nw nn) (sym h.used) ∙ s
 
-  abbrev Answered : BodyRead → Lists → Lists → Out ℕ RestValue → Type 0
-  Answered r l l' x = (r ≡ rest_read f nw nn p x) × (l' ≡ rest_lists l nw nn x)
+    pub rest_short : {l l' : Lists N} → long_enough nw nn z ≡ false → l' ≡ l → Answered (Err (record { refusal = ListTooShort; place = q })) l l' o
+    rest_short {l} {l'} s j =
+        let b = same_room s in
+        subst (Answered (Err (record { refusal = ListTooShort; place = q })) l l') (sym h.read) (
+          ap (λ (x : Places). Err (record { refusal = ListTooShort; place = x })) h.places
+              ∙ ap (λ (c : Bool). parts_if c f h.value (placed p h.place)) (sym b),
+          j ∙ ap (λ (c : Bool). laid_if of c l h.value) (sym b),
+        )
 
-  pub rest_short : {l l' : Lists} → long_enough nw nn z ≡ false → l' ≡ l → Answered (RefusedBody ListTooShort (placed p q)) l l' o
-  rest_short {l} {l'} s j =
-      let b = same_room s in
-      subst (Answered (RefusedBody ListTooShort (placed p q)) l l') (sym read.1)
-      (ap (λ (c : Bool). parts_if c f read.0 (placed p q)) (sym b), j ∙ ap (λ (c : Bool). laid_if c l read.0) (sym b))
+    pub rest_full : (l l' : Lists N) → long_enough nw nn z ≡ true → Stored of (gathered rest_entries o) l no_sizes l'
+        → Answered (Ok (record { front = f; rest = t; used = z; places = q })) l l' o
+    rest_full l l' s g =
+        let a = h.value in
+        let b = same_room s in
+        let laid : l' ≡ store of l no_sizes (rest_entries a)
+        = subst (λ (x : Out ℕ RestValue). Stored of (gathered rest_entries x) l no_sizes l') h.read g in
+        let same : Ok (record { front = f; rest = t; used = z; places = q }) ≡ parts_if true f a (placed p h.place)
+        = λ i. Ok (record { front = f; rest = h.rest i; used = h.used i; places = h.places i }) in
+        subst (Answered (Ok (record { front = f; rest = t; used = z; places = q })) l l') (sym h.read)
+        (same ∙ ap (λ (c : Bool). parts_if c f a (placed p h.place)) (sym b), laid ∙ ap (λ (c : Bool). laid_if of c l a) (sym b))
 
-  pub rest_full : (l l' : Lists) → long_enough nw nn z ≡ true → Stored (gathered rest_entries o) l no_sizes l'
-      → Answered (DoneBody (record { front = f; rest = t; used = z; places = placed p q })) l l' o
-  rest_full l l' s g =
-      let a = read.0 in
-      let b = same_room s in
-      let laid : l' ≡ store l no_sizes (rest_entries a) = subst (λ (x : Out ℕ RestValue). Stored (gathered rest_entries x) l no_sizes l') read.1 g in
-      let same = ap₂ (λ (u : Rest) (y : Sizes). DoneBody (record { front = f; rest = u; used = y; places = placed p q })) read.2 read.3 in
-      subst (Answered (DoneBody (record { front = f; rest = t; used = z; places = placed p q })) l l') (sym read.1)
-      (same ∙ ap (λ (c : Bool). parts_if c f a (placed p q)) (sym b), laid ∙ ap (λ (c : Bool). laid_if c l a) (sym b))
+  refused_as : (x : Out ℕ RestValue) {e : Refused Places} (l l' : Lists N) → refused e.refusal e.place ≡ lifted main p (value_as rest_walk x) → l' ≡ l
+      → Answered (Err e) l l' x
+  refused_as (got a n) l l' k j = never k
+  refused_as (refused r n) {e} l l' k j =
+      let why : e.refusal ≡ r = cc in
+      let stop : e.place ≡ placed p n = cc in
+      (λ i. Err (record { refusal = why i; place = stop i }), j)
 
-pub rest_refused : (f : Front) (nw nn : ℕ) (p : Places) (o : Out ℕ RestValue) {k : Refusal} {q : ℕ} {l l' : Lists} → Refused k q ≡ rest_walk o → l' ≡ l
-    → (RefusedBody k (placed p q) ≡ rest_read f nw nn p o) × (l' ≡ rest_lists l nw nn o)
-rest_refused f nw nn p o {k} {q} {l} {l'} e j =
-    subst (λ (x : Out ℕ RestValue). (RefusedBody k (placed p q) ≡ rest_read f nw nn p x) × (l' ≡ rest_lists l nw nn x)) (sym (rest_not o e)) (refl, j)
-
--- ---- a walk that measures, and one that fills
-module _ (xs : List ℕ) (o : Out ℕ RestValue) (l l' : Lists) {fill : Bool} where
-  pub filled : fill ≡ true → Gives xs rest_entries o l no_sizes l' → Walked fill xs o l l'
-  filled e g = subst (λ (b : Bool). Walked b xs o l l') (sym e) g
-
-  pub measured : fill ≡ false → l' ≡ l → Walked fill xs o l l'
-  measured e i = subst (λ (b : Bool). Walked b xs o l l') (sym e) i
-
--- what was laid, from lists that are known as others
-pub laid_from : (o : Out ℕ RestValue) {l m : Lists} (l' : Lists) → m ≡ l → Stored (gathered rest_entries o) m no_sizes l'
-    → Stored (gathered rest_entries o) l no_sizes l'
-laid_from o l' i h = subst (λ (x : Lists). Stored (gathered rest_entries o) x no_sizes l') i h
+  pub rest_refused : (r : Result Parts (Refused Places)) {e : Refused Places} {m : Out ℕ (Rest × Sizes)} (l l' : Lists N)
+      → IsErr r × IsErrAnd r (λ d. d ≡ e) → m ≡ value_as rest_walk o → refused e.refusal e.place ≡ lifted main p m → l' ≡ l → Answered r l l' o
+  rest_refused r l l' s i h j = stays (λ (x : Result Parts (Refused Places)). Answered x l l' o) r s (refused_as o l l' (h ∙ ap (lifted main p) i) j)
 
 -- ---- empty lists take nothing
-sets_none : {A : Type 0} (l : List A) (i : ℕ) (vs : List A) → length l ≡ 0 → l ≡ sets l i vs
-sets_none [] i [] h = refl
-sets_none [] i (v ∷ vs) h = sets_none [] (suc i) vs h
-sets_none (x ∷ l) i vs h = absurd (omega (arith, h))
-
-none_all : (a b c : ℕ) → none_lent a b c ≡ true → (a ≡ 0) × ((b ≡ 0) × (c ≡ 0))
-none_all a b c h = go (leb a 0) (leb b 0) (leb c 0) refl refl refl h
+none_all : (a b : ℕ) → none_lent a b ≡ true → (a ≡ 0) × (b ≡ 0)
+none_all a b h = go (leb a 0) (leb b 0) refl refl h
   where
-    go : (s t u : Bool) → leb a 0 ≡ s → leb b 0 ≡ t → leb c 0 ≡ u → s && (t && u) ≡ true → (a ≡ 0) × ((b ≡ 0) × (c ≡ 0))
-    go true true true e f g h =
-        let x = leb-true a 0 e in
-        let y = leb-true b 0 f in
-        let z = leb-true c 0 g in
-        (omega (arith, x), (omega (arith, y), omega (arith, z)))
-    go true true false e f g h = let x : ◌≡◌ {A = ℕ} 0 1 = cc in absurd (omega arith)
-    go true false u e f g h = let x : ◌≡◌ {A = ℕ} 0 1 = cc in absurd (omega arith)
-    go false t u e f g h = let x : ◌≡◌ {A = ℕ} 0 1 = cc in absurd (omega arith)
+    go : (s t : Bool) → leb a 0 ≡ s → leb b 0 ≡ t → s && t ≡ true → (a ≡ 0) × (b ≡ 0)
+    go true true e f h = let x = leb-true a 0 e in let y = leb-true b 0 f in (omega (arith, x), omega (arith, y))
+    go true false e f h = let x : ◌≡◌ {A = ℕ} 0 1 = cc in absurd (omega arith)
+    go false t e f h = let x : ◌≡◌ {A = ℕ} 0 1 = cc in absurd (omega arith)
 
-pub none_laid : (o : Out ℕ RestValue) (a : List Float) (b c : List ℕ) → none_lent (length a) (length b) (length c) ≡ true
-    → Stored (gathered rest_entries o) (lists a b c) no_sizes (lists a b c)
-none_laid (refused k q) a b c h =
-    record { doubles = record { long = refl; front = refl }; bits = record { long = refl; front = refl }; words = record { long = refl; front = refl } }
-none_laid (got v q) a b c h =
-    let n = none_all (length a) (length b) (length c) h in
+pub none_laid : {N : Type 0} (of : ℕ → N) (o : Out ℕ RestValue) (a : List N) (b : List ℕ) → none_lent (length a) (length b) ≡ true
+    → Stored of (gathered rest_entries o) (lists a b) no_sizes (lists a b)
+none_laid of (refused k q) a b h = kept_same
+none_laid of (got v q) a b h =
+    let n = none_all (length a) (length b) h in
     let e = rest_entries v in
-    λ i. lists (sets_none a 0 (doubles_of e.numbers) n.0 i) (sets_none b 0 e.numbers n.1.0 i) (sets_none c 0 e.words n.1.1 i)
+    λ i. lists (sym (sets_out a 0 (map of e.numbers) (omega (arith, n.0))) i) (sym (sets_out b 0 e.words (omega (arith, n.1))) i)

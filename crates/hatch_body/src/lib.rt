@@ -5,25 +5,26 @@
 
 ghost use Rattle.std.specs.Prelude.{◌≡◌, ◌*◌, ◌≤◌, length};
 ghost use Rattle.loads.specs.Bits.{limit};
+ghost use Rattle.bitcursor.specs.Answers.{outcome, value_as};
 ghost use Rattle.hatch_format.specs.Caps.{document_caps, NowhereAbove};
 ghost use Rattle.hatch_format.specs.HandleRule.{in_payload};
 ghost use Rattle.hatch_format.specs.Patterns.{rest};
 ghost use Rattle.hatch_points.specs.Gathered.{gathered};
 ghost use Rattle.hatch_points.specs.Lists.{lists, Stored};
 ghost use Rattle.hatch_rest.specs.Rests.{no_sizes, rest_entries, rest_walk};
-ghost use Rattle.hatch_body.specs.Parts.{none_lent, Walked, rest_read, rest_lists};
+ghost use Rattle.hatch_body.specs.Parts.{none_lent, long_enough, rest_read, rest_lists};
 
-use bitcursor::Refusal;
+use bitcursor::values::Number;
+use bitcursor::{Places, Reading, Refusal, Refused, refuse};
 use hatch_format::Caps;
 use hatch_front::Front;
 use hatch_points::lists::Sizes;
 use hatch_rest::rests;
-use hatch_rest::rests::{Rest, RestWalk};
-use text::Places;
+use hatch_rest::rests::Rest;
 use text::version::Version;
 
 // What a readable body gives but for its list entries: its parts, the lengths used of the lists and its final places.
-#[derive(Clone, Copy)]
+#[derive(Clone, Copy, Debug, PartialEq, Eq)]
 pub struct Parts {
     pub front: Front,
     pub rest: Rest,
@@ -31,92 +32,54 @@ pub struct Parts {
     pub places: Places,
 }
 
-#[derive(Clone, Copy)]
-pub enum BodyRead {
-    Done(Parts),
-    Refused(Refusal, Places),
-}
+// The parts, or why there are none.
+pub type BodyRead = Result<Parts, Refused<Places>>;
 
-// The same walk over no lists: it only measures.
-fn measure_rest(s: &[u8], at: usize, v: Version, caps: Caps) -> RestWalk
+// The rest, walked over no lists: that only measures.
+fn measure_rest(s: &[u8], at: usize, v: Version, caps: Caps) -> Reading<(Rest, Sizes)>
     requires { (length s.now ≤ limit) × ((at ≤ 8 * length s.now) × NowhereAbove caps document_caps) }
-    ensures { result ≡ rest_walk ((rest caps in_payload v).read s.now at) }
+    ensures { outcome result ≡ value_as rest_walk ((rest caps in_payload v).read s.now at) }
 {
-    let mut numbers = [0.0f64; 1];
-    let mut bits = [0u64; 1];
-    let mut words = [0u32; 1];
-    rests::decode_rest(
-        s,
-        at,
-        v,
-        caps,
-        &mut numbers[..0],
-        &mut bits[..0],
-        &mut words[..0],
-    )
+    let mut numbers: [u64; 0] = [];
+    let mut words: [u32; 0] = [];
+    rests::decode_rest(s, at, v, caps, &mut numbers, &mut words)
 }
 
-// The rest, walked to measure it or to fill the lists with it.
-fn walk_rest(
-    s: &[u8],
-    at: usize,
-    v: Version,
-    caps: Caps,
-    fill: bool,
-    numbers: &mut [f64],
-    bits: &mut [u64],
-    words: &mut [u32],
-) -> RestWalk
-    requires { (length s.now ≤ limit) × ((at ≤ 8 * length s.now) × NowhereAbove caps document_caps) }
-    ensures { (result ≡ rest_walk ((rest caps in_payload v).read s.now at)) × Walked fill s.now
-        ((rest caps in_payload v).read s.now at) (lists numbers.old bits.old words.old)
-        (lists numbers.new bits.new words.new) }
+// Whether both lists are empty.
+fn none_lent<N: Number>(numbers: &[N], words: &[u32]) -> bool
+    ensures { result ≡ none_lent (length numbers.now) (length words.now) }
 {
-    if fill {
-        return rests::decode_rest(s, at, v, caps, numbers, bits, words);
-    }
-    measure_rest(s, at, v, caps)
-}
-
-// Whether all lists are empty.
-fn none_lent(numbers: usize, bits: usize, words: usize) -> bool
-    ensures { result ≡ none_lent numbers bits words }
-{
-    if 0 < numbers {
-        return false;
-    }
-    if 0 < bits {
-        return false;
-    }
-    if 0 < words {
-        return false;
-    }
-    true
+    numbers.is_empty() && words.is_empty()
 }
 
 // Fills the lists with the rest. Empty lists take nothing, so a call that is lent none, as a measuring call is, does not walk again.
-fn fill_lists(
+fn fill_lists<N: Number>(
     s: &[u8],
     at: usize,
     v: Version,
     caps: Caps,
-    numbers: &mut [f64],
-    bits: &mut [u64],
+    numbers: &mut [N],
     words: &mut [u32],
 )
     requires { (length s.now ≤ limit) × ((at ≤ 8 * length s.now) × NowhereAbove caps document_caps) }
-    ensures { Stored (gathered rest_entries ((rest caps in_payload v).read s.now at))
-        (lists numbers.old bits.old words.old) no_sizes
-        (lists numbers.new bits.new words.new) }
+    ensures { Stored N.of_bits (gathered rest_entries ((rest caps in_payload v).read s.now at))
+        (lists numbers.old words.old) no_sizes (lists numbers.new words.new) }
 {
-    if none_lent(numbers.len(), bits.len(), words.len()) {
+    if none_lent(numbers, words) {
         return;
     }
-    let again = walk_rest(s, at, v, caps, true, numbers, bits, words);
+    let _ = rests::decode_rest(s, at, v, caps, numbers, words);
+}
+
+// Whether both lists are long enough for what the walk used.
+fn long_enough(words_room: usize, numbers_room: usize, used: Sizes) -> bool
+    ensures { result ≡ long_enough words_room numbers_room used }
+{
+    used.words <= words_room && used.numbers <= numbers_room
 }
 
 // What follows a front: measured, and filled only where both lists are long enough.
-pub fn fill_rest(
+pub fn fill_rest<N: Number>(
     main: &[u8],
     p: Places,
     v: Version,
@@ -124,44 +87,25 @@ pub fn fill_rest(
     front: Front,
     words_room: usize,
     numbers_room: usize,
-    numbers: &mut [f64],
-    bits: &mut [u64],
+    numbers: &mut [N],
     words: &mut [u32],
 ) -> BodyRead
     requires { (length main.now ≤ limit) × ((p.main ≤ 8 * length main.now) × NowhereAbove caps document_caps) }
     ensures { (result ≡ rest_read front words_room numbers_room p ((rest caps in_payload v).read main.now p.main)) ×
-        (lists numbers.new bits.new words.new ≡ rest_lists
-        (lists numbers.old bits.old words.old) words_room numbers_room
+        (lists numbers.new words.new ≡ rest_lists N.of_bits
+        (lists numbers.old words.old) words_room numbers_room
         ((rest caps in_payload v).read main.now p.main)) }
 {
-    let at = p.main;
-    let string = p.string;
-    match walk_rest(main, at, v, caps, false, numbers, bits, words) {
-        RestWalk::Done(rest, q, z) => {
-            let e = Places {
-                main: q,
-                string: string,
-            };
-            if words_room < z.words {
-                return BodyRead::Refused(Refusal::ListTooShort, e);
-            }
-            if numbers_room < z.numbers {
-                return BodyRead::Refused(Refusal::ListTooShort, e);
-            }
-            fill_lists(main, at, v, caps, numbers, bits, words);
-            BodyRead::Done(Parts {
-                front: front,
-                rest: rest,
-                used: z,
-                places: e,
-            })
-        }
-        RestWalk::Refused(k, q) => BodyRead::Refused(
-            k,
-            Places {
-                main: q,
-                string: string,
-            },
-        ),
+    let measured = measure_rest(main, p.main, v, caps);
+    let ((rest, used), places) = p.after_main(measured)?;
+    if !long_enough(words_room, numbers_room, used) {
+        return refuse(Refusal::ListTooShort, places);
     }
+    fill_lists(main, p.main, v, caps, numbers, words);
+    Ok(Parts {
+        front,
+        rest,
+        used,
+        places,
+    })
 }

@@ -6,9 +6,7 @@ use Rattle.hatch_body.proofs.BodyLaws.{none_laid}
 use Rattle.hatch_body.proofs.fill_lists.Goals as goal
 
 pub returns-then-none_lent : goal.returns-then-none_lent
-returns-then-none_lent c =
-    let at-if1 = c.if-none_lent in
-    let at-none-lent = c.none_lent in
+returns-then-none_lent g c =
     let a = c.args in
-    none_laid ((rest a.caps in_payload a.v).read a.s.now a.at) a.numbers.now a.bits.now a.words.now
-    (sym at-none-lent.ensures ∙ at-if1.true)
+    none_laid g.N.Number.of_bits ((rest a.caps in_payload a.v).read a.s.now a.at) a.numbers.now a.words.now
+    (sym c.none_lent.ensures ∙ c.if-none_lent.true)
