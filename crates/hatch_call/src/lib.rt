@@ -5,7 +5,7 @@
 
 ghost use Rattle.std.specs.Prelude.{◌≤◌, length};
 ghost use Rattle.loads.specs.Bits.{limit};
-ghost use Rattle.text.specs.Answers.{payloads, places_of};
+ghost use Rattle.text.specs.Answers.{payloads_to};
 ghost use Rattle.hatch_format.specs.Caps.{document_caps, NowhereAbove};
 ghost use Rattle.hatch_format.specs.HandleRule.{in_payload};
 ghost use Rattle.hatch_format.specs.Hatch.{hatch};
@@ -13,107 +13,94 @@ ghost use Rattle.hatch_format.specs.Call.{room_for, call_on};
 ghost use Rattle.hatch_points.specs.Lists.{lists};
 ghost use Rattle.hatch_call.specs.Calls.{CallIs};
 
-use bitcursor::{Passed, Refusal};
+use bitcursor::values::Number;
+use bitcursor::{Places, Refusal, refuse};
 use hatch_body::BodyRead;
 use hatch_format::Caps;
-use hatch_front::FrontRead;
-use text::version::{MaybeVersion, Version};
-use text::{Places, version};
+use text::version::Version;
 
 // A body of a known release, of payloads within the limit.
-fn read_body(
+fn read_body<N: Number>(
     main: &[u8],
     string: &[u8],
     at: Places,
-    reader: bool,
-    end: usize,
+    reader: Option<usize>,
     v: Version,
     caps: Caps,
     words_room: usize,
     numbers_room: usize,
-    numbers: &mut [f64],
-    bits: &mut [u64],
+    numbers: &mut [N],
     words: &mut [u32],
 ) -> BodyRead
     requires { (length main.now ≤ limit) × ((length string.now ≤ limit) × NowhereAbove caps document_caps) }
-    ensures { CallIs main.now (room_for words_room numbers_room
-        ((hatch caps in_payload v).read (payloads main.now string.now reader end) (places_of at)))
-        (lists numbers.old bits.old words.old) (lists numbers.new bits.new words.new) result }
+    ensures { CallIs N.of_bits main.now (room_for words_room numbers_room
+        ((hatch caps in_payload v).read (payloads_to main.now string.now reader) at))
+        (lists numbers.old words.old) (lists numbers.new words.new) result }
 {
-    match hatch_front::read_front(main, string, at, reader, end, v, caps) {
-        FrontRead::Done(front, p) => hatch_body::fill_rest(
-            main,
-            p,
-            v,
-            caps,
-            front,
-            words_room,
-            numbers_room,
-            numbers,
-            bits,
-            words,
-        ),
-        FrontRead::Refused(k, p) => BodyRead::Refused(k, p),
-    }
+    let (front, p) = hatch_front::read_front(main, string, at, reader, v, caps)?;
+    hatch_body::fill_rest(
+        main,
+        p,
+        v,
+        caps,
+        front,
+        words_room,
+        numbers_room,
+        numbers,
+        words,
+    )
 }
 
 // A call on any input: refusal 9, then 10 of either payload, then a string start past its payload, then the body, read with the
-// reader at its start.
-pub fn read_call(
+// reader at its start. A string reader is lent if its end bit is said.
+pub fn read_call<N: Number>(
     main: &[u8],
     string: &[u8],
     at: Places,
-    reader: bool,
-    end: usize,
+    reader: Option<usize>,
     release: u64,
     caps: Caps,
     words_room: usize,
     numbers_room: usize,
-    numbers: &mut [f64],
-    bits: &mut [u64],
+    numbers: &mut [N],
     words: &mut [u32],
 ) -> BodyRead
     requires { NowhereAbove caps document_caps }
-    ensures { CallIs main.now (call_on caps in_payload words_room numbers_room
-        (payloads main.now string.now reader end) (places_of at) release)
-        (lists numbers.old bits.old words.old) (lists numbers.new bits.new words.new) result }
+    ensures { CallIs N.of_bits main.now (call_on caps in_payload words_room numbers_room
+        (payloads_to main.now string.now reader) at release)
+        (lists numbers.old words.old) (lists numbers.new words.new) result }
 {
-    match version::version_of(release) {
-        MaybeVersion::Known(v) => {
-            if bitcursor::LIMIT < main.len() {
-                return BodyRead::Refused(Refusal::PayloadTooLong, at);
-            }
-            if bitcursor::LIMIT < string.len() {
-                return BodyRead::Refused(Refusal::PayloadTooLong, at);
-            }
-            let start = at.string;
-            match string_start::start_in(string.len(), start) {
-                Passed::To(q) => read_body(
-                    main,
-                    string,
-                    Places {
-                        main: at.main,
-                        string: q,
-                    },
-                    reader,
-                    end,
-                    v,
-                    caps,
-                    words_room,
-                    numbers_room,
-                    numbers,
-                    bits,
-                    words,
-                ),
-                Passed::Refused(k, q) => BodyRead::Refused(
-                    k,
-                    Places {
-                        main: at.main,
-                        string: q,
-                    },
-                ),
-            }
-        }
-        MaybeVersion::Unknown => BodyRead::Refused(Refusal::UnknownRelease, at),
+    let Ok(v) = Version::try_from(release) else {
+        return refuse(Refusal::UnknownRelease, at);
+    };
+    if bitcursor::LIMIT < main.len() {
+        return refuse(Refusal::PayloadTooLong, at);
+    }
+    if bitcursor::LIMIT < string.len() {
+        return refuse(Refusal::PayloadTooLong, at);
+    }
+    match string_start::start_in(string.len(), at.string) {
+        Ok(q) => read_body(
+            main,
+            string,
+            Places {
+                main: at.main,
+                string: q,
+            },
+            reader,
+            v,
+            caps,
+            words_room,
+            numbers_room,
+            numbers,
+            words,
+        ),
+        Err(e) => refuse(
+            e.refusal,
+            Places {
+                main: at.main,
+                string: e.place,
+            },
+        ),
     }
 }
