@@ -1,155 +1,101 @@
 // The record and the lengths of a hatch, made of the parts that were read: src/entities/hatch.rs of dwg-rs.
-// Section 20.4.75 of the specification; sixteen colours, and zero but for the places on a refusal, as document 01 has it.
+// Section 20.4.75 of the specification; sixteen colours, as document 01 has it.
 // specs/ promise the record field by field from the parts, with each double as its 64 bits or as the double that it is, and its lengths.
 #![tactic(auto)]
 
 ghost use Rattle.std.specs.Prelude.{◌≡◌};
-ghost use Rattle.hatch_record.specs.Records.{zero_parts, parts_in, outcome_in, num_colors, lengths_of};
+ghost use Rattle.hatch_body.specs.Parts.{Small};
+ghost use Rattle.hatch_record.specs.Records.{record_by, num_colors, lengths_of};
 
-use bitcursor::Refusal;
+use bitcursor::values::Number;
+use bitcursor::{Places, Refused};
 use hatch_body::{BodyRead, Parts};
-use hatch_format::{Hatch, HatchBits};
-use hatch_front::{Front, Gradient, Plane};
-use hatch_points::lists::Sizes;
-use hatch_rest::patterns::{Ending, Pattern, Tail};
-use hatch_rest::rests::Rest;
-use text::{Places, Source, Text};
+use hatch_format::{Color, GradientFill, Hatch, HatchBits, Vec3D};
 
 pub mod bits;
 pub mod doubles;
 
-#[derive(Clone, Copy)]
-pub enum Outcome {
-    Read,
-    Refused(Refusal),
-}
-
-// What a call hands over by value; on a refusal the record is zero but for the places.
-#[derive(Clone, Copy)]
-pub struct HatchAnswer {
-    pub outcome: Outcome,
-    pub hatch: Hatch,
-}
+// What a call hands over by value, with each double as f64; or its refusal and the places of that.
+pub type HatchRead = Result<Hatch, Refused<Places>>;
 
 // The same with each double as its 64 bits.
-#[derive(Clone, Copy)]
-pub struct HatchBitsAnswer {
-    pub outcome: Outcome,
-    pub hatch: HatchBits,
-}
+pub type HatchBitsRead = Result<HatchBits, Refused<Places>>;
 
-// The lengths that the lists must have for a readable hatch, and its final places; zero and the refusal's places else.
-#[derive(Clone, Copy)]
+// The lengths that the lists must have for a readable hatch, and its final places.
+#[derive(Clone, Copy, Debug, PartialEq, Eq)]
 pub struct Lengths {
-    pub outcome: Outcome,
     pub words: usize,
     pub numbers: usize,
     pub places: Places,
 }
 
-fn zero_front() -> Front
-    ensures { result ≡ (zero_parts (record { main = 0; string = 0 })).front }
+pub type LengthsRead = Result<Lengths, Refused<Places>>;
+
+// One function for doubles and for their 64 bits, with the colours as they come. Who takes it for either kind is not generic any more: a call that
+// hands on an array of a type parameter owes that its size is below 2^63, and that proof did not close.
+fn record<N: Number, C: Color>(a: Parts, colors: [C; 16]) -> Hatch<N, C>
+    requires { Small a }
+    ensures { result ≡ record_by N.of_bits colors a }
 {
-    let name = Text {
-        source: Source::Absent,
-        width: 0,
-        position: 0,
-        count: 0,
-        padded: false,
-    };
-    Front {
-        gradient: Gradient {
-            present: false,
-            angle: 0,
-            shift: 0,
-            is_single_color: 0,
-            tint: 0,
-            num_colors: 0,
-            colors_at: 0,
-            name: name,
+    let g = a.front.gradient;
+    let plane = a.front.plane;
+    let rest = a.rest;
+    let tail = rest.tail;
+    let pattern = tail.pattern;
+    let ending = tail.ending;
+    Hatch {
+        gradient: GradientFill {
+            present: g.present,
+            angle: N::from_bits(g.angle),
+            shift: N::from_bits(g.shift),
+            is_single_color: g.is_single_color,
+            tint: N::from_bits(g.tint),
+            num_colors: g.num_colors,
+            colors,
+            name: g.name,
         },
-        plane: Plane {
-            elevation: 0,
-            x: 0,
-            y: 0,
-            z: 0,
+        elevation: N::from_bits(plane.elevation),
+        extrusion: Vec3D {
+            x: N::from_bits(plane.x),
+            y: N::from_bits(plane.y),
+            z: N::from_bits(plane.z),
         },
-        name: name,
+        pattern_name: a.front.name,
+        solid_fill: rest.solid,
+        associative: rest.associative,
+        num_paths: rest.paths,
+        pattern_style: tail.style as u16,
+        pattern_type: tail.kind as u16,
+        pattern_angle: N::from_bits(pattern.angle),
+        pattern_scale: N::from_bits(pattern.scale),
+        pattern_double: pattern.double,
+        num_pattern_lines: pattern.lines,
+        pixel_size: N::from_bits(ending.pixel_size),
+        num_seed_points: ending.seed_points,
+        words_used: a.used.words,
+        numbers_used: a.used.numbers,
+        places: a.places,
     }
 }
 
-// What a refused call hands over: zero but for the places.
-fn zero_parts(p: Places) -> Parts
-    ensures { result ≡ zero_parts p }
-{
-    Parts {
-        front: zero_front(),
-        rest: Rest {
-            solid: false,
-            associative: false,
-            paths: 0,
-            tail: Tail {
-                style: 0,
-                kind: 0,
-                pattern: Pattern {
-                    angle: 0,
-                    scale: 0,
-                    double: false,
-                    lines: 0,
-                },
-                ending: Ending {
-                    pixel_size: 0,
-                    seed_points: 0,
-                },
-            },
-        },
-        used: Sizes {
-            numbers: 0,
-            words: 0,
-            derived: false,
-        },
-        places: p,
-    }
-}
-
-fn parts_of(r: BodyRead) -> Parts
-    ensures { result ≡ parts_in r }
-{
-    match r {
-        BodyRead::Done(a) => a,
-        BodyRead::Refused(_, p) => zero_parts(p),
-    }
-}
-
-fn outcome_of(r: BodyRead) -> Outcome
-    ensures { result ≡ outcome_in r }
-{
-    match r {
-        BodyRead::Done(_) => Outcome::Read,
-        BodyRead::Refused(k, _) => Outcome::Refused(k),
-    }
-}
-
+// How many colours stand to be read again.
 pub fn num_colors(r: BodyRead) -> usize
     ensures { result ≡ num_colors r }
 {
-    let a = parts_of(r);
-    let front = a.front;
-    let gradient = front.gradient;
-    gradient.num_colors
+    match r {
+        Ok(a) => a.front.gradient.num_colors,
+        Err(_) => 0,
+    }
 }
 
-pub fn lengths_of(r: BodyRead) -> Lengths
+pub fn lengths_of(r: BodyRead) -> LengthsRead
     ensures { result ≡ lengths_of r }
 {
-    let a = parts_of(r);
+    let a = r?;
     let used = a.used;
-    let numbers = used.numbers;
-    let places = a.places;
-    Lengths {
-        outcome: outcome_of(r),
+    Ok(Lengths {
         words: used.words,
-        numbers: numbers,
-        places: places,
-    }
+        numbers: used.numbers,
+        places: a.places,
+    })
 }

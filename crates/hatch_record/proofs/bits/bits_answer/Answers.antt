@@ -1,21 +1,14 @@
--- Without colours nothing is read again.
-use mathlib.Core.Path.{◌≡◌, ◌∙◌}
-use native.Mathlib.Omega.{arith}
+-- Without colours nothing is read again, and the sixteen are zero.
+use Rattle.std.specs.Prelude.{◌≡◌, ℕ}
+use Rattle.std.proofs.Common.{◌∙◌, sym, arith}
 use Rattle.hatch_record.specs.Records.{num_colors}
-use Rattle.hatch_record.proofs.RecordLaws.{plain_is, small_parts}
+use Rattle.hatch_record.proofs.RecordLaws.{plain_is, small_in}
 use Rattle.hatch_record.proofs.bits.bits_answer.Goals as goal
 
 pub plain_bits-requires : goal.plain_bits-requires
-plain_bits-requires c =
-    let a = c.args in
-    let pre = c.requires in
-    small_parts a.main.now a.r pre
+plain_bits-requires c = small_in c.args.main.now c.args.r c.requires
 
 pub returns : goal.returns
 returns c =
-    let at-plain-bits = c.plain_bits in
-    let at-if1 = c.if-num_colors-gt0 in
-    let at-num-colors = c.num_colors in
-    let a = c.args in
-    let none : num_colors a.r ≡ 0 = omega (arith, at-num-colors.ensures, at-if1.false) in
-    at-plain-bits.ensures ∙ plain_is a.main.now a.r none
+    let none : c.num_colors.result ≡ 0 = omega arith in
+    c.plain_bits.ensures ∙ plain_is (λ n. n) (λ c. c) c.args.main.now c.args.r (sym c.num_colors.ensures ∙ none)

@@ -1,21 +1,15 @@
--- Without colours nothing is read again.
-use mathlib.Core.Path.{◌≡◌, ap, ◌∙◌}
-use native.Mathlib.Omega.{arith}
-use Rattle.hatch_record.specs.Records.{num_colors, doubles_in}
-use Rattle.hatch_record.proofs.RecordLaws.{plain_is, small_parts}
+-- Without colours nothing is read again, and the sixteen are zero.
+use Rattle.std.specs.Prelude.{◌≡◌, ℕ}
+use Rattle.std.proofs.Common.{◌∙◌, sym, arith}
+use Rattle.hatch_format.specs.Record.{double, color_as_doubles}
+use Rattle.hatch_record.specs.Records.{num_colors}
+use Rattle.hatch_record.proofs.RecordLaws.{plain_is, small_in}
 use Rattle.hatch_record.proofs.doubles.doubles_answer.Goals as goal
 
 pub plain_doubles-requires : goal.plain_doubles-requires
-plain_doubles-requires c =
-    let a = c.args in
-    let pre = c.requires in
-    small_parts a.main.now a.r pre
+plain_doubles-requires c = small_in c.args.main.now c.args.r c.requires
 
 pub returns : goal.returns
 returns c =
-    let at-plain-doubles = c.plain_doubles in
-    let at-if1 = c.if-num_colors-gt0 in
-    let at-num-colors = c.num_colors in
-    let a = c.args in
-    let none : num_colors a.r ≡ 0 = omega (arith, at-num-colors.ensures, at-if1.false) in
-    at-plain-doubles.ensures ∙ ap doubles_in (plain_is a.main.now a.r none)
+    let none : c.num_colors.result ≡ 0 = omega arith in
+    c.plain_doubles.ensures ∙ plain_is double color_as_doubles c.args.main.now c.args.r (sym c.num_colors.ensures ∙ none)
