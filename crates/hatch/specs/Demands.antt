@@ -1,31 +1,35 @@
 -- Demands 1 and 3 of the calls themselves: what a caller is handed, by value and in both lists. `c` is what the caller gives, and `answer` is
--- how the reading is handed over: `as_bits` or `as_data`; the contracts of `decode`, `decode_with_strings` and their forms with 64 bits equate
+-- how the reading is handed over: `as_hatch` of doubles or of their 64 bits; the contracts of `decode` and `decode_with_strings` equate
 -- answer and lists with these. Assumes nothing.
-use Rattle.std.specs.Prelude.{◌≡◌, refl, List, ◌++◌, ℕ, length, drop}
+use Rattle.std.specs.Prelude.{◌≡◌, refl, List, ◌++◌, ℕ, length, drop, Ok, Err, IsOk}
 use Rattle.std.proofs.Common.{ap, arith}
 use Rattle.bitcursor.specs.declared.Refusal.{Refusal}
 use Rattle.bitcursor.specs.Reading.{Out, got, refused, place}
 use Rattle.bitcursor.specs.Inputs.{Places}
 use Rattle.hatch_format.specs.Values.{Rest, Body}
-use Rattle.hatch_format.specs.Record.{record_of, zero_record, as_doubles}
+use Rattle.hatch_format.specs.Record.{record_of, as_doubles, hatch_as_bits}
 use Rattle.hatch_format.specs.Call.{Call, hatch_call}
 use Rattle.hatch_format.specs.Demand3.{HatchLaid, AlikeCalls}
 use Rattle.hatch_format.proofs.Demand3.{read_iff_laid, refused_none, alike_same}
-use Rattle.hatch_record.specs.declared.Outcome.TheVariants.{Read, Refused}
-use Rattle.hatch.specs.Calls.{as_bits, as_data, filled}
+use Rattle.hatch.specs.Calls.{as_hatch, as_bits, as_data, filled}
 
 -- what is handed over of a reading and of a refusal, in both forms
-pub bits_read : (a : Body) (q : Places) → as_bits (got a q) ≡ record { outcome = Read; hatch = record_of a q }
+pub bits_read : (a : Body) (q : Places) → as_bits (got a q) ≡ Ok (record_of a q)
 bits_read a q = refl
 
-pub doubles_read : (a : Body) (q : Places) → as_data (got a q) ≡ record { outcome = Read; hatch = as_doubles (record_of a q) }
+pub doubles_read : (a : Body) (q : Places) → as_data (got a q) ≡ Ok (as_doubles (record_of a q))
 doubles_read a q = refl
 
-pub bits_refused : (k : Refusal) (q : Places) → as_bits (refused k q) ≡ record { outcome = Refused k; hatch = zero_record q }
+pub bits_refused : (k : Refusal) (q : Places) → as_bits (refused k q) ≡ Err (record { refusal = k; place = q })
 bits_refused k q = refl
 
-pub doubles_refused : (k : Refusal) (q : Places) → as_data (refused k q) ≡ record { outcome = Refused k; hatch = as_doubles (zero_record q) }
+pub doubles_refused : (k : Refusal) (q : Places) → as_data (refused k q) ≡ Err (record { refusal = k; place = q })
 doubles_refused k q = refl
+
+-- over 64 bits the record is handed over as it is
+pub bits_are : (o : Out Places Body) → as_hatch (λ n. n) (λ c. c) o ≡ as_bits o
+bits_are (got a q) = ap Ok (hatch_as_bits (record_of a q))
+bits_are (refused k q) = refl
 
 module _ (c : Call) {R : Type 0} (answer : Out Places Body → R) where
   -- the call's reading or refusal, by the definition
@@ -52,10 +56,10 @@ module _ (c : Call) {R : Type 0} (answer : Out Places Body → R) where
   read_when_laid a q l = ap answer ((read_iff_laid c a q).1 l)
 
   -- both forms have the same outcome
-  pub laid_when_read : (as_bits reading).outcome ≡ Read → (a : Body) × (q : Places) × HatchLaid c a q × (answer reading ≡ answer (got a q))
+  pub laid_when_read : IsOk (as_bits reading) → (a : Body) × (q : Places) × HatchLaid c a q × (answer reading ≡ answer (got a q))
   laid_when_read h = go reading refl h
     where
-      go : (o : Out Places Body) → reading ≡ o → (as_bits o).outcome ≡ Read → (a : Body) × (q : Places) × HatchLaid c a q × (answer reading ≡ answer (got a q))
+      go : (o : Out Places Body) → reading ≡ o → IsOk (as_bits o) → (a : Body) × (q : Places) × HatchLaid c a q × (answer reading ≡ answer (got a q))
       go (got a q) i k = (a, q, (read_iff_laid c a q).0 i, ap answer i)
       go (refused n q) i k = let z : ◌≡◌ {A = ℕ} 0 1 = cc in absurd (omega arith)
 

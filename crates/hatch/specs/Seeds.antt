@@ -1,8 +1,8 @@
 -- The seed points are the last numbers that a call used. Assumes nothing.
-use Rattle.std.specs.Prelude.{◌≡◌, refl, Bool, true, false, List, [], ◌∷◌, ◌++◌, ℕ, ◌-◌, ◌*◌, ◌≤◌, Float, length, take, drop, leb}
+use Rattle.std.specs.Prelude.{◌≡◌, refl, Bool, true, false, List, [], ◌∷◌, ◌++◌, ℕ, ◌-◌, ◌*◌, ◌≤◌, length, take, drop, leb, map}
 use Rattle.std.proofs.Common.{sym, ap, ◌∙◌, append_assoc, arith, length-append, take_at, drop_at, le-leb}
+use Rattle.std.proofs.lemmas.List.{map-append, map-id, length-map}
 use Rattle.hatch_format.specs.Values.{Point, Rest}
-use Rattle.hatch_points.specs.Lists.{doubles_of, doubles_append, length_doubles}
 use Rattle.hatch_format.specs.Entries.{every, point_numbers, path_numbers, line_numbers, numbers}
 
 module _ {A : Type 0} where
@@ -32,27 +32,22 @@ points_length : (points : List Point) → length (every point_numbers points) �
 points_length [] = refl
 points_length (a ∷ points) = let h = points_length points in omega (arith, h)
 
--- `listed` is how the numbers stand in the list: as their 64 bits, or as doubles
-module _ {A : Type 0} (listed : List ℕ → List A) (joins : (xs ys : List ℕ) → listed (xs ++ ys) ≡ listed xs ++ listed ys)
-    (keeps : (xs : List ℕ) → length (listed xs) ≡ length xs) where
-  seeds_listed : (a : Rest) (behind : List A)
-      → seeds_of (listed (numbers a) ++ behind) (length (numbers a)) (length a.tail.ending.seed_points) ≡ listed
-      (every point_numbers a.tail.ending.seed_points)
-  seeds_listed a behind =
-      let front = every path_numbers a.paths ++ every line_numbers a.tail.pattern.lines in
-      let seeds = every point_numbers a.tail.ending.seed_points in
-      let n = length a.tail.ending.seed_points in
-      let e : front ++ seeds ≡ numbers a = append_assoc (every path_numbers a.paths) (every line_numbers a.tail.pattern.lines) seeds in
-      let i : listed (numbers a) ≡ listed front ++ listed seeds = ap listed (sym e) ∙ joins front seeds in
-      let used : length (numbers a) ≡ length (listed front ++ listed seeds) = sym (keeps (numbers a)) ∙ ap length i in
-      ap (λ (l : List A). seeds_of (l ++ behind) (length (numbers a)) n) i
-      ∙ seeds_last (listed front) (listed seeds) behind n (length (numbers a)) (keeps seeds ∙ points_length a.tail.ending.seed_points) used
+-- `of` is how a number stands in the list: as its 64 bits, or as the double
+pub seeds_handed : {N : Type 0} (of : ℕ → N) (a : Rest) (behind : List N)
+    → seeds_of (map of (numbers a) ++ behind) (length (numbers a)) (length a.tail.ending.seed_points)
+    ≡ map of (every point_numbers a.tail.ending.seed_points)
+seeds_handed of a behind =
+    let front = every path_numbers a.paths ++ every line_numbers a.tail.pattern.lines in
+    let seeds = every point_numbers a.tail.ending.seed_points in
+    let n = length a.tail.ending.seed_points in
+    let e : front ++ seeds ≡ numbers a = append_assoc (every path_numbers a.paths) (every line_numbers a.tail.pattern.lines) seeds in
+    let i : map of (numbers a) ≡ map of front ++ map of seeds = ap (map of) (sym e) ∙ map-append of front seeds in
+    let used : length (numbers a) ≡ length (map of front ++ map of seeds) = sym (length-map (numbers a) of) ∙ ap length i in
+    ap (λ (l : List _). seeds_of (l ++ behind) (length (numbers a)) n) i
+    ∙ seeds_last (map of front) (map of seeds) behind n (length (numbers a)) (length-map seeds of ∙ points_length a.tail.ending.seed_points) used
 
 pub seeds_handed_bits : (a : Rest) (behind : List ℕ)
     → seeds_of (numbers a ++ behind) (length (numbers a)) (length a.tail.ending.seed_points) ≡ every point_numbers a.tail.ending.seed_points
-seeds_handed_bits = seeds_listed (λ (l : List ℕ). l) (λ (xs ys : List ℕ). refl) (λ (xs : List ℕ). refl)
-
-pub seeds_handed : (a : Rest) (behind : List Float)
-    → seeds_of (doubles_of (numbers a) ++ behind) (length (numbers a)) (length a.tail.ending.seed_points) ≡ doubles_of
-    (every point_numbers a.tail.ending.seed_points)
-seeds_handed = seeds_listed doubles_of doubles_append length_doubles
+seeds_handed_bits a behind =
+    ap (λ (l : List ℕ). seeds_of (l ++ behind) (length (numbers a)) (length a.tail.ending.seed_points)) (sym (map-id (numbers a)))
+    ∙ seeds_handed (λ n. n) a behind ∙ map-id (every point_numbers a.tail.ending.seed_points)

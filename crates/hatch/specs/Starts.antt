@@ -11,7 +11,7 @@ use Rattle.hatch_format.proofs.Starts.{start_past, same_past}
 use Rattle.hatch.specs.Calls.{filled}
 use Rattle.hatch.specs.Measuring.{lending}
 
--- `answer` is how the reading is handed over: `as_bits` or `as_data`, or `as_lengths` where it is measured; `e` is what a body has for a list
+-- `answer` is how the reading is handed over: `as_hatch`, or `as_lengths` where it is measured; `e` is what a body has for a list
 module _ (c : Call) (past : string_bits c < string_start_of c.strings) {R : Type 0} (answer : Out Places Body → R) where
   -- refusal 1 with the main start and the string payload's length in bits, whatever lists are lent; these stay as they are
   pub past_answer : ComesToStart c → (nw nn : ℕ) → answer (hatch_call (lending c nw nn)) ≡ answer (refused TooFewBits (past_places c))

@@ -5,72 +5,46 @@
 
 ghost use Rattle.std.specs.Prelude.{◌≡◌, length};
 ghost use Rattle.hatch_format.specs.Call.{none, lent};
-ghost use Rattle.hatch.specs.Calls.{ReadsBits, Reads, as_lengths, call_of, most};
+ghost use Rattle.hatch_format.specs.Record.{double, color_as_doubles};
+ghost use Rattle.hatch.specs.Calls.{Reads, ReadsBits, call_of, as_lengths, most};
 
-use hatch_record::{HatchAnswer, HatchBitsAnswer, Lengths, bits, doubles};
-use text::Places;
+use bitcursor::Places;
+use hatch_record::{HatchBitsRead, HatchRead, LengthsRead, bits, doubles};
 
 pub mod calls;
 pub mod seeds;
 
-// A hatch body without a reader, from any bytes at any start bit, of any release number; doubles as their 64 bits.
-pub fn decode_bits(
-    main: &[u8],
-    start: usize,
-    release: u64,
-    bits: &mut [u64],
-    words: &mut [u32],
-) -> HatchBitsAnswer
-    ensures { ReadsBits (call_of release main.now start none (length words.old) (length bits.old)) result
-        bits.old bits.new words.old words.new }
-{
-    let read = calls::read_bits(main, start, release, bits, words);
-    bits::bits_answer(main, read)
-}
-
-// The same with doubles as f64.
+// A hatch body without a reader, from any bytes at any start bit, of any release number; doubles as f64.
 pub fn decode(
     main: &[u8],
     start: usize,
     release: u64,
     numbers: &mut [f64],
     words: &mut [u32],
-) -> HatchAnswer
-    ensures { Reads (call_of release main.now start none (length words.old) (length numbers.old)) result
+) -> HatchRead
+    ensures { Reads double color_as_doubles (call_of release main.now start none (length words.old) (length numbers.old)) result
         numbers.old numbers.new words.old words.new }
 {
     let read = calls::read(main, start, release, numbers, words);
     doubles::doubles_answer(main, read)
 }
 
-// With a string reader over any bytes, from any start bit to any end bit.
-pub fn decode_with_strings_bits(
+// The same with doubles as their 64 bits.
+pub fn decode_bits(
     main: &[u8],
     start: usize,
-    string: &[u8],
-    string_start: usize,
-    string_end: usize,
     release: u64,
     bits: &mut [u64],
     words: &mut [u32],
-) -> HatchBitsAnswer
-    ensures { ReadsBits (call_of release main.now start (lent string.now string_start string_end)
-        (length words.old) (length bits.old)) result bits.old bits.new words.old words.new }
+) -> HatchBitsRead
+    ensures { ReadsBits (call_of release main.now start none (length words.old) (length bits.old)) result
+        bits.old bits.new words.old words.new }
 {
-    let read = calls::read_with_strings_bits(
-        main,
-        start,
-        string,
-        string_start,
-        string_end,
-        release,
-        bits,
-        words,
-    );
+    let read = calls::read(main, start, release, bits, words);
     bits::bits_answer(main, read)
 }
 
-// The same with doubles as f64.
+// With a string reader over any bytes, from any start bit to any end bit.
 pub fn decode_with_strings(
     main: &[u8],
     start: usize,
@@ -80,9 +54,9 @@ pub fn decode_with_strings(
     release: u64,
     numbers: &mut [f64],
     words: &mut [u32],
-) -> HatchAnswer
-    ensures { Reads (call_of release main.now start (lent string.now string_start string_end) (length words.old)
-        (length numbers.old)) result numbers.old numbers.new words.old words.new }
+) -> HatchRead
+    ensures { Reads double color_as_doubles (call_of release main.now start (lent string.now string_start string_end)
+        (length words.old) (length numbers.old)) result numbers.old numbers.new words.old words.new }
 {
     let read = calls::read_with_strings(
         main,
@@ -97,33 +71,55 @@ pub fn decode_with_strings(
     doubles::doubles_answer(main, read)
 }
 
+// The same with doubles as their 64 bits.
+pub fn decode_with_strings_bits(
+    main: &[u8],
+    start: usize,
+    string: &[u8],
+    string_start: usize,
+    string_end: usize,
+    release: u64,
+    bits: &mut [u64],
+    words: &mut [u32],
+) -> HatchBitsRead
+    ensures { ReadsBits (call_of release main.now start (lent string.now string_start string_end)
+        (length words.old) (length bits.old)) result bits.old bits.new words.old words.new }
+{
+    let read = calls::read_with_strings(
+        main,
+        start,
+        string,
+        string_start,
+        string_end,
+        release,
+        bits,
+        words,
+    );
+    bits::bits_answer(main, read)
+}
+
 // Longer than any list is: what a measuring call takes both lists to be.
-const MOST: usize = 0xffff_ffff_ffff_ffff;
+const MOST: usize = usize::MAX;
 
 // The lengths that the lists must have for a hatch without a reader, or its refusal: a host measures, lends so much and reads.
-pub fn measure(main: &[u8], start: usize, release: u64) -> Lengths
+pub fn measure(main: &[u8], start: usize, release: u64) -> LengthsRead
     ensures { result ≡ as_lengths (call_of release main.now start none most most) }
 {
-    let mut numbers = [0.0f64; 1];
-    let mut bits = [0u64; 1];
-    let mut words = [0u32; 1];
     let at = Places {
         main: start,
         string: 0,
     };
-    let read = hatch_call::read_call(
+    let read = hatch_call::read_call::<u64>(
         main,
-        &main[..0],
+        &[],
         at,
-        false,
-        0,
+        None,
         release,
         hatch_format::document_caps(),
         MOST,
         MOST,
-        &mut numbers[..0],
-        &mut bits[..0],
-        &mut words[..0],
+        &mut [],
+        &mut [],
     );
     hatch_record::lengths_of(read)
 }
@@ -136,29 +132,24 @@ pub fn measure_with_strings(
     string_start: usize,
     string_end: usize,
     release: u64,
-) -> Lengths
+) -> LengthsRead
     ensures { result ≡ as_lengths (call_of release main.now start (lent string.now string_start string_end) most most) }
 {
-    let mut numbers = [0.0f64; 1];
-    let mut bits = [0u64; 1];
-    let mut words = [0u32; 1];
     let at = Places {
         main: start,
         string: string_start,
     };
-    let read = hatch_call::read_call(
+    let read = hatch_call::read_call::<u64>(
         main,
         string,
         at,
-        true,
-        string_end,
+        Some(string_end),
         release,
         hatch_format::document_caps(),
         MOST,
         MOST,
-        &mut numbers[..0],
-        &mut bits[..0],
-        &mut words[..0],
+        &mut [],
+        &mut [],
     );
     hatch_record::lengths_of(read)
 }

@@ -1,25 +1,20 @@
 -- The record of the parts that the call read.
-use mathlib.Core.Path.{ap, ◌∙◌}
-use lib.ListN.{length}
+use Rattle.std.specs.Prelude.{length}
+use Rattle.std.proofs.Common.{◌∙◌}
 use Rattle.hatch_format.specs.Call.{lent}
-use Rattle.hatch_record.specs.Records.{doubles_in}
 use Rattle.hatch.specs.Calls.{call_of}
+use Rattle.hatch_format.specs.Record.{double, color_as_doubles}
 use Rattle.hatch.proofs.Filled.{answer_is}
 use Rattle.hatch.proofs.decode_with_strings.Goals as goal
 
 pub doubles_answer-requires : goal.doubles_answer-requires
-doubles_answer-requires c =
-    let at-read-with-strings = c.read_with_strings-read in
-    at-read-with-strings.ensures.readable
+doubles_answer-requires c = c.read_with_strings-read.ensures.readable
 
 pub returns : goal.returns
 returns c =
-    let at-doubles-answer = c.doubles_answer in
-    let at-read-with-strings = c.read_with_strings-read in
     let a = c.args in
-    let o = call_of a.release a.main.now a.start (lent a.string.now a.string_start a.string_end) (length a.words.now)
-    (length a.numbers.now) in
-    let read = at-read-with-strings.ensures in (
-      at-doubles-answer.ensures ∙ ap doubles_in (answer_is a.main.now o at-read-with-strings.result read.body),
+    let o = call_of a.release a.main.now a.start (lent a.string.now a.string_start a.string_end) (length a.words.now) (length a.numbers.now) in
+    let read = c.read_with_strings-read.ensures in (
+      c.doubles_answer.ensures ∙ answer_is double color_as_doubles a.main.now o c.read_with_strings-read.result read.body,
       (read.numbers_then, read.words_then),
     )

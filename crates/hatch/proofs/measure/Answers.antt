@@ -1,5 +1,5 @@
 -- The same call over no lists, taken to be long enough.
-use mathlib.Core.Path.{sym, subst, ◌∙◌}
+use Rattle.std.proofs.Common.{sym, subst, ◌∙◌}
 use Rattle.hatch_format.specs.declared.Caps.{Caps}
 use Rattle.hatch_format.specs.Caps.{document_caps, NowhereAbove, above_itself}
 use Rattle.hatch_format.specs.HandleRule.{in_payload}
@@ -9,15 +9,10 @@ use Rattle.hatch.proofs.Filled.{call_by, lengths_are}
 use Rattle.hatch.proofs.measure.Goals as goal
 
 pub read_call-read-requires : goal.read_call-read-requires
-read_call-read-requires c =
-    let at-document-caps = c.document_caps in
-    subst (λ (x : Caps). NowhereAbove x document_caps) (sym at-document-caps.ensures) (above_itself document_caps)
+read_call-read-requires c = subst (λ (x : Caps). NowhereAbove x document_caps) (sym c.document_caps.ensures) (above_itself document_caps)
 
 pub returns : goal.returns
 returns c =
-    let at-lengths-of = c.lengths_of in
-    let at-read-call = c.read_call-read in
-    let at-document-caps = c.document_caps in
     let a = c.args in
     let xs = a.main.now in
     let d : Call = record {
@@ -30,5 +25,5 @@ returns c =
       words = most;
       numbers = most;
     } in
-    let h = call_by at-document-caps.ensures xs most most (payloads_of d) (starts_of d) a.release at-read-call.ensures in
-    at-lengths-of.ensures ∙ lengths_are xs (hatch_call d) at-read-call.result h.body
+    let h = call_by (λ n. n) c.document_caps.ensures xs most most (payloads_of d) (starts_of d) a.release c.read_call-read.ensures in
+    c.lengths_of.ensures ∙ lengths_are xs (hatch_call d) c.read_call-read.result h.body
