@@ -1,16 +1,14 @@
 -- What crosses the C boundary of a hatch call: its record as numbers, with each double as its 64 bits or as the double. On a refusal the
 -- record is zero but for the places, and so is every number. Assumes nothing.
-use Rattle.std.specs.Prelude.{ℕ}
+use Rattle.std.specs.Prelude.{ℕ, Float, Result, Ok, Err}
+use Rattle.bitcursor.specs.declared.Refused.{Refused}
+use Rattle.bitcursor.specs.Inputs.{Places}
 use Rattle.bitcursor.specs.Refusals.{refusal_number}
 use Rattle.text.specs.declared.Text.{Text}
+use Rattle.hatch_format.specs.declared.GradientColor.{GradientColor}
 use Rattle.hatch_format.specs.declared.GradientFill.{GradientFill}
-use Rattle.hatch_format.specs.declared.GradientFillBits.{GradientFillBits}
 use Rattle.hatch_format.specs.declared.Hatch.{Hatch}
-use Rattle.hatch_format.specs.declared.HatchBits.{HatchBits}
-use Rattle.hatch_record.specs.declared.Outcome.{Outcome}
-use Rattle.hatch_record.specs.declared.Outcome.TheVariants.{Read, Refused}
-use Rattle.hatch_record.specs.declared.HatchAnswer.{HatchAnswer}
-use Rattle.hatch_record.specs.declared.HatchBitsAnswer.{HatchBitsAnswer}
+use Rattle.hatch_format.specs.Record.{GradientFillBits, HatchBits, as_doubles, zero_record}
 use Rattle.hatch_record.specs.declared.Lengths.{Lengths}
 use Rattle.boundary.specs.Boundary.{source_number}
 use Rattle.boundary.specs.declared.bodies.TextFields.{TextFields}
@@ -21,15 +19,11 @@ use Rattle.boundary.specs.declared.bodies.BodyAnswer.{BodyAnswer}
 use Rattle.boundary.specs.declared.bodies.BodyBitsAnswer.{BodyBitsAnswer}
 use Rattle.boundary.specs.declared.bodies.LengthsAnswer.{LengthsAnswer}
 
-abbrev pub outcome_number : Outcome → ℕ
-outcome_number Read = 0
-outcome_number (Refused r) = refusal_number r
-
 abbrev pub text_fields : Text → TextFields
 text_fields t =
     record { source = source_number t.source; width = t.width; padded = t.padded; position = t.position; count = t.count }
 
-abbrev pub gradient_fields : GradientFill → GradientFields
+abbrev pub gradient_fields : GradientFill Float GradientColor → GradientFields
 gradient_fields a =
     record {
       present = a.present;
@@ -55,7 +49,7 @@ gradient_bits a =
       name = text_fields a.name;
     }
 
-abbrev pub body_fields : Hatch → BodyFields
+abbrev pub body_fields : {N C : Type 0} → Hatch N C → BodyFields
 body_fields h =
     record {
       pattern_name = text_fields h.pattern_name;
@@ -71,62 +65,52 @@ body_fields h =
       numbers_used = h.numbers_used;
     }
 
-abbrev pub body_bits_fields : HatchBits → BodyFields
-body_bits_fields h =
+-- ---- by the refusal's number or 0, and the record
+abbrev pub body_with : ℕ → Hatch Float GradientColor → BodyAnswer
+body_with refusal h =
     record {
-      pattern_name = text_fields h.pattern_name;
-      solid_fill = h.solid_fill;
-      associative = h.associative;
-      pattern_double = h.pattern_double;
-      pattern_style = h.pattern_style;
-      pattern_type = h.pattern_type;
-      num_paths = h.num_paths;
-      num_pattern_lines = h.num_pattern_lines;
-      num_seed_points = h.num_seed_points;
-      words_used = h.words_used;
-      numbers_used = h.numbers_used;
+      refusal = refusal;
+      place = h.places.main;
+      string_place = h.places.string;
+      gradient = gradient_fields h.gradient;
+      elevation = h.elevation;
+      extrusion_x = h.extrusion.x;
+      extrusion_y = h.extrusion.y;
+      extrusion_z = h.extrusion.z;
+      pattern_angle = h.pattern_angle;
+      pattern_scale = h.pattern_scale;
+      pixel_size = h.pixel_size;
+      fields = body_fields h;
     }
 
-abbrev pub body_answer : HatchAnswer → BodyAnswer
-body_answer a =
+abbrev pub bits_with : ℕ → HatchBits → BodyBitsAnswer
+bits_with refusal h =
     record {
-      refusal = outcome_number a.outcome;
-      place = a.hatch.places.main;
-      string_place = a.hatch.places.string;
-      gradient = gradient_fields a.hatch.gradient;
-      elevation = a.hatch.elevation;
-      extrusion_x = a.hatch.extrusion.x;
-      extrusion_y = a.hatch.extrusion.y;
-      extrusion_z = a.hatch.extrusion.z;
-      pattern_angle = a.hatch.pattern_angle;
-      pattern_scale = a.hatch.pattern_scale;
-      pixel_size = a.hatch.pixel_size;
-      fields = body_fields a.hatch;
+      refusal = refusal;
+      place = h.places.main;
+      string_place = h.places.string;
+      gradient = gradient_bits h.gradient;
+      elevation = h.elevation;
+      extrusion_x = h.extrusion.x;
+      extrusion_y = h.extrusion.y;
+      extrusion_z = h.extrusion.z;
+      pattern_angle = h.pattern_angle;
+      pattern_scale = h.pattern_scale;
+      pixel_size = h.pixel_size;
+      fields = body_fields h;
     }
 
-abbrev pub body_bits : HatchBitsAnswer → BodyBitsAnswer
-body_bits a =
-    record {
-      refusal = outcome_number a.outcome;
-      place = a.hatch.places.main;
-      string_place = a.hatch.places.string;
-      gradient = gradient_bits a.hatch.gradient;
-      elevation = a.hatch.elevation;
-      extrusion_x = a.hatch.extrusion.x;
-      extrusion_y = a.hatch.extrusion.y;
-      extrusion_z = a.hatch.extrusion.z;
-      pattern_angle = a.hatch.pattern_angle;
-      pattern_scale = a.hatch.pattern_scale;
-      pixel_size = a.hatch.pixel_size;
-      fields = body_bits_fields a.hatch;
-    }
+-- ---- what was read, or a refusal: its number and its places, and zero for all else
+abbrev pub body_answer : Result (Hatch Float GradientColor) (Refused Places) → BodyAnswer
+body_answer (Ok h) = body_with 0 h
+body_answer (Err e) = body_with (refusal_number e.refusal) (as_doubles (zero_record e.place))
 
-abbrev pub lengths_answer : Lengths → LengthsAnswer
-lengths_answer a =
-    record {
-      refusal = outcome_number a.outcome;
-      place = a.places.main;
-      string_place = a.places.string;
-      words = a.words;
-      numbers = a.numbers;
-    }
+abbrev pub body_bits : Result HatchBits (Refused Places) → BodyBitsAnswer
+body_bits (Ok h) = bits_with 0 h
+body_bits (Err e) = bits_with (refusal_number e.refusal) (zero_record e.place)
+
+abbrev pub lengths_answer : Result Lengths (Refused Places) → LengthsAnswer
+lengths_answer (Ok a) =
+    record { refusal = 0; place = a.places.main; string_place = a.places.string; words = a.words; numbers = a.numbers }
+lengths_answer (Err e) =
+    record { refusal = refusal_number e.refusal; place = e.place.main; string_place = e.place.string; words = 0; numbers = 0 }

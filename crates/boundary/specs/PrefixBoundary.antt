@@ -1,30 +1,19 @@
 -- What crosses the C boundary of a prefix call: its record as numbers, with the linetype scale as its 64 bits or as the double. On a
 -- refusal the record is zero throughout, and so is every number. Assumes nothing.
-use Rattle.std.specs.Prelude.{false, ℕ, get_or}
+use Rattle.std.specs.Prelude.{false, ℕ, Float, get_or, is_some, unwrap_or}
 use Rattle.std.specs.Float.Ieee.{of_bits}
 use Rattle.std.specs.Float.{binary64}
-use Rattle.bitcursor.specs.Refusals.{refusal_number}
-use Rattle.prefix_format.specs.declared.EntityMode.{EntityMode}
-use Rattle.prefix_format.specs.declared.EntityMode.TheVariants.{ByLayer, ByPreviousEntity, InBlock, Reserved}
-use Rattle.prefix_format.specs.declared.Outcome.{Outcome}
-use Rattle.prefix_format.specs.declared.Outcome.TheVariants.{Read, Refused}
-use Rattle.prefix_format.specs.declared.CommonEntityBits.{CommonEntityBits}
-use Rattle.prefix_format.specs.declared.PrefixBits.{PrefixBits}
+use Rattle.bitcursor.specs.Reading.{Out}
+use Rattle.prefix_format.specs.declared.CommonEntityData.{CommonEntityData}
+use Rattle.prefix_format.specs.Modes.{mode_number}
+use Rattle.prefix_format.specs.Record.{data_of, zero_bits}
 use Rattle.boundary.specs.declared.PrefixFields.{PrefixFields}
 use Rattle.boundary.specs.declared.PrefixAnswer.{PrefixAnswer}
 use Rattle.boundary.specs.declared.PrefixBitsAnswer.{PrefixBitsAnswer}
+use Rattle.boundary.specs.Boundary.{number, place, value_or}
 
-abbrev pub mode_number : EntityMode → ℕ
-mode_number ByLayer = 0
-mode_number ByPreviousEntity = 1
-mode_number InBlock = 2
-mode_number Reserved = 3
-
-abbrev pub outcome_number : Outcome → ℕ
-outcome_number Read = 0
-outcome_number (Refused r) = refusal_number r
-
-abbrev pub field_numbers : CommonEntityBits → PrefixFields
+-- a number that may be absent is 0 where it is
+abbrev pub field_numbers : {N : Type 0} → CommonEntityData N → PrefixFields
 field_numbers b =
     record {
       raw_mode = b.raw_mode;
@@ -40,10 +29,10 @@ field_numbers b =
       invisibility = b.invisibility;
       nolinks = b.nolinks;
       color_raw = b.color_raw;
-      has_color_rgb = b.color_rgb.present;
-      color_rgb = b.color_rgb.value;
-      has_color_alpha = b.color_alpha.present;
-      color_alpha = b.color_alpha.value;
+      has_color_rgb = is_some b.color_rgb;
+      color_rgb = unwrap_or b.color_rgb 0;
+      has_color_alpha = is_some b.color_alpha;
+      color_alpha = unwrap_or b.color_alpha 0;
       ltype_flags = b.ltype_flags;
       full_visual_style = get_or b.visual_style_flags 0 false;
       face_visual_style = get_or b.visual_style_flags 1 false;
@@ -51,25 +40,17 @@ field_numbers b =
       lineweight = b.lineweight;
       had_graphics = b.had_graphics;
       had_extended_data = b.had_extended_data;
-      has_data_end_bits = b.data_end_bits.present;
-      data_end_bits = b.data_end_bits.value;
+      has_data_end_bits = is_some b.data_end_bits;
+      data_end_bits = unwrap_or b.data_end_bits 0;
     }
 
-abbrev pub bits_answer : PrefixBits → PrefixBitsAnswer
-bits_answer b =
-    record {
-      refusal = outcome_number b.outcome;
-      place = b.place;
-      ltype_scale = b.fields.ltype_scale;
-      fields = field_numbers b.fields;
-    }
+abbrev pub bits_answer : Out ℕ (CommonEntityData ℕ) → PrefixBitsAnswer
+bits_answer o =
+    let b = value_or zero_bits o in
+    record { refusal = number o; place = place o; ltype_scale = b.ltype_scale; fields = field_numbers b }
 
--- the scale as the double that it is, the NaN where it is a NaN's pattern
-abbrev pub double_answer : PrefixBits → PrefixAnswer
-double_answer b =
-    record {
-      refusal = outcome_number b.outcome;
-      place = b.place;
-      ltype_scale = of_bits binary64 b.fields.ltype_scale;
-      fields = field_numbers b.fields;
-    }
+-- with the scale as the double that it is
+abbrev pub double_answer : Out ℕ (CommonEntityData Float) → PrefixAnswer
+double_answer o =
+    let b = value_or (data_of (of_bits binary64) zero_bits) o in
+    record { refusal = number o; place = place o; ltype_scale = b.ltype_scale; fields = field_numbers b }

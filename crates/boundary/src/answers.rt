@@ -1,122 +1,107 @@
-// The answers of the calls as numbers: what crosses the boundary in place of an enum.
+// The answers of the calls as numbers: what crosses the boundary in place of a Result.
 ghost use Rattle.std.specs.Prelude.{◌≡◌};
-ghost use Rattle.bitcursor.specs.Refusals.{refusal_number};
-ghost use Rattle.boundary.specs.Boundary.{bool_numbers, read_numbers, i16_numbers, i32_numbers, f64_numbers, handle_numbers, text_numbers, source_number};
+ghost use Rattle.bitcursor.specs.Answers.{outcome};
+ghost use Rattle.boundary.specs.Boundary.{number, place, value_or, source_number};
+ghost use Rattle.boundary.specs.Boundary.{code_answer, bool_answer, signed_answer, double_answer, handle_answer, text_answer};
 
 use crate::{CodeAnswer, DoubleAnswer, HandleAnswer, SignedAnswer, TextAnswer};
-use bitcursor::{Read, ReadBool, ReadF64, ReadHandle, ReadI16, ReadI32, Refusal};
-use text::{ReadText, Source};
+use bitcursor::{Handle, Reading};
+use text::{Source, Text};
 
-// A refusal's number, as wide as the boundary has it.
-pub fn number(r: Refusal) -> u64
-    ensures { result ≡ refusal_number r }
+// What every answer begins with, and what was read: the refusal's number or 0, the place, and the value or what stands for it on a refusal.
+fn parts<T: Copy>(read: Reading<T>, none: T) -> (u64, usize, T)
+    ensures { result ≡ (number (outcome read), place (outcome read), value_or none (outcome read)) }
 {
-    bitcursor::refusal_number(r) as u64
-}
-
-pub fn of_read(r: Read) -> CodeAnswer
-    ensures { result ≡ read_numbers r }
-{
-    match r {
-        Read::Value(v, p) => CodeAnswer {
-            refusal: 0,
-            place: p,
-            value: v,
-        },
-        Read::Refused(k, p) => CodeAnswer {
-            refusal: number(k),
-            place: p,
-            value: 0,
-        },
+    match read {
+        Ok((value, place)) => (0, place, value),
+        Err(e) => (u64::from(u8::from(e.refusal)), e.place, none),
     }
 }
 
-pub fn of_i16(r: ReadI16) -> SignedAnswer
-    ensures { result ≡ i16_numbers r }
-{
-    match r {
-        ReadI16::Value(v, p) => SignedAnswer {
-            refusal: 0,
-            place: p,
-            value: v as i32,
-        },
-        ReadI16::Refused(k, p) => SignedAnswer {
-            refusal: number(k),
-            place: p,
-            value: 0,
-        },
+impl From<Reading<u64>> for CodeAnswer {
+    ghost from_gives = { λ read answer. answer ≡ code_answer (outcome read) };
+
+    fn from(read: Reading<u64>) -> CodeAnswer {
+        let (refusal, place, value) = parts(read, 0);
+        CodeAnswer {
+            refusal,
+            place,
+            value,
+        }
     }
 }
 
-pub fn of_i32(r: ReadI32) -> SignedAnswer
-    ensures { result ≡ i32_numbers r }
-{
-    match r {
-        ReadI32::Value(v, p) => SignedAnswer {
-            refusal: 0,
-            place: p,
-            value: v,
-        },
-        ReadI32::Refused(k, p) => SignedAnswer {
-            refusal: number(k),
-            place: p,
-            value: 0,
-        },
+impl From<Reading<bool>> for CodeAnswer {
+    ghost from_gives = { λ read answer. answer ≡ bool_answer (outcome read) };
+
+    fn from(read: Reading<bool>) -> CodeAnswer {
+        let (refusal, place, value) = parts(read, false);
+        CodeAnswer {
+            refusal,
+            place,
+            value: u64::from(value),
+        }
     }
 }
 
-pub fn of_f64(r: ReadF64) -> DoubleAnswer
-    ensures { result ≡ f64_numbers r }
-{
-    match r {
-        ReadF64::Value(v, p) => DoubleAnswer {
-            refusal: 0,
-            place: p,
-            value: v,
-        },
-        ReadF64::Refused(k, p) => DoubleAnswer {
-            refusal: number(k),
-            place: p,
-            value: 0.0,
-        },
+impl From<Reading<i16>> for SignedAnswer {
+    ghost from_gives = { λ read answer. answer ≡ signed_answer (outcome read) };
+
+    fn from(read: Reading<i16>) -> SignedAnswer {
+        let (refusal, place, value) = parts(read, 0);
+        SignedAnswer {
+            refusal,
+            place,
+            value: i32::from(value),
+        }
     }
 }
 
-pub fn of_bool(r: ReadBool) -> CodeAnswer
-    ensures { result ≡ bool_numbers r }
-{
-    match r {
-        ReadBool::Value(v, p) => CodeAnswer {
-            refusal: 0,
-            place: p,
-            value: v as u64,
-        },
-        ReadBool::Refused(k, p) => CodeAnswer {
-            refusal: number(k),
-            place: p,
-            value: 0,
-        },
+impl From<Reading<i32>> for SignedAnswer {
+    ghost from_gives = { λ read answer. answer ≡ signed_answer (outcome read) };
+
+    fn from(read: Reading<i32>) -> SignedAnswer {
+        let (refusal, place, value) = parts(read, 0);
+        SignedAnswer {
+            refusal,
+            place,
+            value,
+        }
     }
 }
 
-pub fn of_handle(r: ReadHandle) -> HandleAnswer
-    ensures { result ≡ handle_numbers r }
-{
-    match r {
-        ReadHandle::Value(h, p) => HandleAnswer {
-            refusal: 0,
-            place: p,
+impl From<Reading<f64>> for DoubleAnswer {
+    ghost from_gives = { λ read answer. answer ≡ double_answer (outcome read) };
+
+    fn from(read: Reading<f64>) -> DoubleAnswer {
+        let (refusal, place, value) = parts(read, 0.0);
+        DoubleAnswer {
+            refusal,
+            place,
+            value,
+        }
+    }
+}
+
+// What stands for a handle on a refusal.
+const NO_HANDLE: Handle = Handle {
+    code: 0,
+    counter: 0,
+    value: 0,
+};
+
+impl From<Reading<Handle>> for HandleAnswer {
+    ghost from_gives = { λ read answer. answer ≡ handle_answer (outcome read) };
+
+    fn from(read: Reading<Handle>) -> HandleAnswer {
+        let (refusal, place, h) = parts(read, NO_HANDLE);
+        HandleAnswer {
+            refusal,
+            place,
             code: h.code,
             counter: h.counter,
             value: h.value,
-        },
-        ReadHandle::Refused(k, p) => HandleAnswer {
-            refusal: number(k),
-            place: p,
-            code: 0,
-            counter: 0,
-            value: 0,
-        },
+        }
     }
 }
 
@@ -131,30 +116,28 @@ pub fn source_number(source: Source) -> u8
     }
 }
 
-pub fn of_text(r: ReadText) -> TextAnswer
-    ensures { result ≡ text_numbers r }
-{
-    match r {
-        ReadText::Found(t, p) => {
-            let source = t.source;
-            TextAnswer {
-                refusal: 0,
-                place: p,
-                source: source_number(source),
-                width: t.width,
-                padded: t.padded,
-                position: t.position,
-                count: t.count,
-            }
+// What stands for a text on a refusal, and for the name of a hatch that has none.
+pub const NO_TEXT: Text = Text {
+    source: Source::Absent,
+    width: 0,
+    padded: false,
+    position: 0,
+    count: 0,
+};
+
+impl From<Reading<Text>> for TextAnswer {
+    ghost from_gives = { λ read answer. answer ≡ text_answer (outcome read) };
+
+    fn from(read: Reading<Text>) -> TextAnswer {
+        let (refusal, place, t) = parts(read, NO_TEXT);
+        TextAnswer {
+            refusal,
+            place,
+            source: source_number(t.source),
+            width: t.width,
+            padded: t.padded,
+            position: t.position,
+            count: t.count,
         }
-        ReadText::Refused(k, p) => TextAnswer {
-            refusal: number(k),
-            place: p,
-            source: 0,
-            width: 0,
-            padded: false,
-            position: 0,
-            count: 0,
-        },
     }
 }

@@ -99,7 +99,7 @@ pub fn counts_of(fields: FieldsGiven, num_colors: usize) -> HatchCounts
         solid_fill: fields.solid_fill,
         associative: fields.associative,
         pattern_double: fields.pattern_double,
-        num_colors: num_colors,
+        num_colors,
         num_paths: fields.num_paths,
         num_pattern_lines: fields.num_pattern_lines,
         num_seed_points: fields.num_seed_points,

@@ -63,7 +63,7 @@ pub struct TextAnswer {
 
 // The fields of a prefix but its linetype scale, under the Rust's names; a number that may be absent has its `has` beside it.
 #[repr(C)]
-#[derive(Clone, Copy)]
+#[derive(Clone, Copy, Default)]
 pub struct PrefixFields {
     pub raw_mode: u8,
     pub mode: u8,
@@ -96,7 +96,7 @@ pub struct PrefixFields {
 // What a prefix gives: the refusal's number or 0, the final place, and the fields or 0 for each. The mode's number is 0 by layer,
 // 1 by the previous entity, 2 in a block, 3 reserved.
 #[repr(C)]
-#[derive(Clone, Copy)]
+#[derive(Clone, Copy, Default)]
 pub struct PrefixAnswer {
     pub refusal: u64,
     pub place: usize,
@@ -105,7 +105,7 @@ pub struct PrefixAnswer {
 }
 
 #[repr(C)]
-#[derive(Clone, Copy)]
+#[derive(Clone, Copy, Default)]
 pub struct PrefixBitsAnswer {
     pub refusal: u64,
     pub place: usize,

@@ -1,13 +1,15 @@
 -- What moving a hatch's points across the boundary ensures, by the definition: its answer, and the list of numbers before and after it; and that whatever a
 -- hatch call handed over is whole for it. Assumes nothing.
-use Rattle.std.specs.Prelude.{◌≡◌, List, ◌++◌, ℕ, ◌≤◌, Float, length, drop}
+use Rattle.std.specs.Prelude.{◌≡◌, List, ◌++◌, ℕ, ◌≤◌, Float, length, drop, map}
 use Rattle.std.proofs.Common.{arith, length-append}
+use Rattle.std.proofs.lemmas.List.{length-map}
 use Rattle.bitcursor.specs.Reading.{got}
 use Rattle.bitcursor.specs.Inputs.{Places}
 use Rattle.hatch_format.specs.Caps.{document_caps, above_itself}
 use Rattle.hatch_format.specs.HandleRule.{in_payload}
 use Rattle.hatch_format.specs.Values.{Body}
 use Rattle.hatch_format.specs.Entries.{words, numbers}
+use Rattle.hatch_format.specs.Record.{double}
 use Rattle.hatch_format.specs.Call.{Strings}
 use Rattle.hatch.specs.Calls.{call_of, as_bits, as_data, words_after, numbers_after, doubles_after}
 use Rattle.hatch_lists.specs.Holding.{Holding, holding_of}
@@ -16,7 +18,6 @@ use Rattle.hatch_lists.specs.Items.{held_items}
 use Rattle.hatch_lists.specs.DecodedWhole.{decoded_whole, decoded_doubles}
 use Rattle.differences.specs.Upright.{is_upright, is_upright_bits}
 use Rattle.moved_hatch.specs.Moving.{Outcome, outcome, answer_of, after, patterns}
-use Rattle.hatch_points.specs.Lists.{doubles_of, length_doubles}
 use Rattle.moved_hatch.specs.MovedLists.{patterns_length}
 use Rattle.moved_hatch.specs.Doubles.{of_doubles, of_bits}
 use Rattle.boundary.specs.declared.given.BodyGiven.{BodyGiven}
@@ -65,9 +66,9 @@ module _ (release : ℕ) (xs : List ℕ) (start : ℕ) (strings : Strings) (nw n
   -- over doubles the lists hold the same items, whatever 64 bits a NaN has
   long : (ns : List Float) → length (numbers a.rest) ≤ length (patterns of_doubles.pattern (doubles_after (got a q) ns))
   long ns =
-      let own = doubles_of (numbers a.rest) in
+      let own = map double (numbers a.rest) in
       let rest = drop (length own) ns in
-      omega (arith, patterns_length of_doubles.pattern (own ++ rest), length-append own rest, length_doubles (numbers a.rest))
+      omega (arith, patterns_length of_doubles.pattern (own ++ rest), length-append own rest, length-map (numbers a.rest) double)
 
   pub decoded_doubles_whole : (ws : List ℕ) (ns : List Float)
       → (b : Holding) × Whole (given_counts (as_given answered_doubles.fields) answered_doubles.gradient.num_colors)

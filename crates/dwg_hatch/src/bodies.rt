@@ -1,5 +1,4 @@
-// The hatch calls of the boundary; thin over crate hatch. Where there are no colours the answer is made at once; the two ways are calls of their own,
-// since one answer for both would be copied field by field.
+// The hatch calls of the boundary; thin over crate hatch.
 // specs/HatchCalls promises that each answer is the call's as numbers; the lists are what the call leaves there.
 ghost use Rattle.std.specs.Prelude.{◌≡◌, length};
 ghost use Rattle.hatch_format.specs.Call.{none, lent};
@@ -24,10 +23,7 @@ pub extern "C" fn dwg_hatch_decode(
         numbers.old numbers.new words.old words.new }
 {
     let read = calls::read(main, start, release, numbers, words);
-    if 0 < hatch_record::num_colors(read) {
-        return hatches::colored(main, read);
-    }
-    hatches::plain(read)
+    hatches::answer(main, read)
 }
 
 // The same with each double as its 64 bits.
@@ -42,11 +38,8 @@ pub extern "C" fn dwg_hatch_decode_bits(
     ensures { DecodesBits (call_of release main.now start none (length words.old) (length bits.old)) result
         bits.old bits.new words.old words.new }
 {
-    let read = calls::read_bits(main, start, release, bits, words);
-    if 0 < hatch_record::num_colors(read) {
-        return hatches::colored_bits(main, read);
-    }
-    hatches::plain_bits(read)
+    let read = calls::read(main, start, release, bits, words);
+    hatches::answer_bits(main, read)
 }
 
 // The hatch body with a string reader that stands at `string_start` of the string payload and ends at the bit `string_end`.
@@ -74,10 +67,7 @@ pub extern "C" fn dwg_hatch_decode_with_strings(
         numbers,
         words,
     );
-    if 0 < hatch_record::num_colors(read) {
-        return hatches::colored(main, read);
-    }
-    hatches::plain(read)
+    hatches::answer(main, read)
 }
 
 // The same with each double as its 64 bits.
@@ -95,7 +85,7 @@ pub extern "C" fn dwg_hatch_decode_with_strings_bits(
     ensures { DecodesBits (call_of release main.now start (lent string.now string_start string_end)
         (length words.old) (length bits.old)) result bits.old bits.new words.old words.new }
 {
-    let read = calls::read_with_strings_bits(
+    let read = calls::read_with_strings(
         main,
         start,
         string,
@@ -105,10 +95,7 @@ pub extern "C" fn dwg_hatch_decode_with_strings_bits(
         bits,
         words,
     );
-    if 0 < hatch_record::num_colors(read) {
-        return hatches::colored_bits(main, read);
-    }
-    hatches::plain_bits(read)
+    hatches::answer_bits(main, read)
 }
 
 // The lengths that the lists must have for the hatch body, whatever is lent.
@@ -116,7 +103,7 @@ pub extern "C" fn dwg_hatch_decode_with_strings_bits(
 pub extern "C" fn dwg_hatch_measure(main: &[u8], start: usize, release: u64) -> LengthsAnswer
     ensures { result ≡ lengths_answer (as_lengths (call_of release main.now start none most most)) }
 {
-    hatches::of_lengths(hatch::measure(main, start, release))
+    hatch::measure(main, start, release).into()
 }
 
 // The same with a string reader.
@@ -132,12 +119,5 @@ pub extern "C" fn dwg_hatch_measure_with_strings(
     ensures { result ≡ lengths_answer (as_lengths (call_of release main.now start
         (lent string.now string_start string_end) most most)) }
 {
-    hatches::of_lengths(hatch::measure_with_strings(
-        main,
-        start,
-        string,
-        string_start,
-        string_end,
-        release,
-    ))
+    hatch::measure_with_strings(main, start, string, string_start, string_end, release).into()
 }

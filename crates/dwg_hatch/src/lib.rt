@@ -4,21 +4,22 @@
 #![tactic(auto)]
 
 ghost use Rattle.std.specs.Prelude.{◌≡◌};
-ghost use Rattle.std.specs.Float.Ieee.{to_bits};
+ghost use Rattle.std.specs.Float.Ieee.{of_bits, to_bits};
 ghost use Rattle.std.specs.Float.{binary64};
 ghost use Rattle.bitcursor.specs.Codes.{B, BB, «3B», RC, RS, RL, RD, BS, BL, signed_BS, signed_BL};
 ghost use Rattle.bitcursor.specs.Doubles.{BD, DD};
 ghost use Rattle.bitcursor.specs.Handles.{BLL, HANDLE};
-ghost use Rattle.bitcursor.specs.Answers.{limited};
+ghost use Rattle.bitcursor.specs.Answers.{limited, value_as};
 ghost use Rattle.text.specs.Releases.{version_of};
 ghost use Rattle.text.specs.Answers.{inline_text, reader_text, released};
-ghost use Rattle.prefix_format.specs.Call.{as_bits, prefix_call};
+ghost use Rattle.prefix_format.specs.Record.{data_of};
+ghost use Rattle.prefix_format.specs.Call.{prefix_call};
 ghost use Rattle.boundary.specs.PrefixBoundary.{bits_answer, double_answer as prefix_double_answer};
 ghost use Rattle.boundary.specs.Boundary.{bool_answer, code_answer, signed_answer, double_answer, handle_answer, text_answer};
 
 use boundary::{
     CodeAnswer, DoubleAnswer, HandleAnswer, PrefixAnswer, PrefixBitsAnswer, SignedAnswer,
-    TextAnswer, answers, prefixes,
+    TextAnswer,
 };
 
 pub mod bodies;
@@ -31,7 +32,7 @@ pub mod seeds;
 pub extern "C" fn dwg_read_b(s: &[u8], at: usize) -> CodeAnswer
     ensures { result ≡ bool_answer (limited B.read s.now at) }
 {
-    answers::of_bool(bit_codes::read_b(s, at))
+    bit_codes::read_b(s, at).into()
 }
 
 // BB: two bits.
@@ -39,7 +40,7 @@ pub extern "C" fn dwg_read_b(s: &[u8], at: usize) -> CodeAnswer
 pub extern "C" fn dwg_read_bb(s: &[u8], at: usize) -> CodeAnswer
     ensures { result ≡ code_answer (limited BB.read s.now at) }
 {
-    answers::of_read(bit_codes::read_bb(s, at))
+    bit_codes::read_bb(s, at).into()
 }
 
 // 3B: three bits.
@@ -47,7 +48,7 @@ pub extern "C" fn dwg_read_bb(s: &[u8], at: usize) -> CodeAnswer
 pub extern "C" fn dwg_read_3b(s: &[u8], at: usize) -> CodeAnswer
     ensures { result ≡ code_answer (limited «3B».read s.now at) }
 {
-    answers::of_read(bit_codes::read_3b(s, at))
+    bit_codes::read_3b(s, at).into()
 }
 
 // RC: one byte.
@@ -55,7 +56,7 @@ pub extern "C" fn dwg_read_3b(s: &[u8], at: usize) -> CodeAnswer
 pub extern "C" fn dwg_read_rc(s: &[u8], at: usize) -> CodeAnswer
     ensures { result ≡ code_answer (limited RC.read s.now at) }
 {
-    answers::of_read(bit_codes::read_rc(s, at))
+    bit_codes::read_rc(s, at).into()
 }
 
 // RS: two bytes, signed.
@@ -63,7 +64,7 @@ pub extern "C" fn dwg_read_rc(s: &[u8], at: usize) -> CodeAnswer
 pub extern "C" fn dwg_read_rs(s: &[u8], at: usize) -> SignedAnswer
     ensures { result ≡ signed_answer (limited RS.read s.now at) }
 {
-    answers::of_i16(bit_codes::read_rs(s, at))
+    bit_codes::read_rs(s, at).into()
 }
 
 // RL: four bytes.
@@ -71,23 +72,24 @@ pub extern "C" fn dwg_read_rs(s: &[u8], at: usize) -> SignedAnswer
 pub extern "C" fn dwg_read_rl(s: &[u8], at: usize) -> CodeAnswer
     ensures { result ≡ code_answer (limited RL.read s.now at) }
 {
-    answers::of_read(bit_codes::read_rl(s, at))
+    bit_codes::read_rl(s, at).into()
 }
 
 // RD, as the double.
 #[unsafe(no_mangle)]
 pub extern "C" fn dwg_read_rd(s: &[u8], at: usize) -> DoubleAnswer
-    ensures { result ≡ double_answer (limited RD.read s.now at) }
+    ensures { result ≡ double_answer (value_as (of_bits binary64) (limited RD.read s.now at)) }
 {
-    answers::of_f64(bit_codes::read_rd(s, at))
+    bit_codes::read_rd::<f64>(s, at).into()
 }
 
 // RD, as its 64 bits.
+#[tactic(auto, using(crate::proofs::Same::same))]
 #[unsafe(no_mangle)]
 pub extern "C" fn dwg_read_rd_bits(s: &[u8], at: usize) -> CodeAnswer
     ensures { result ≡ code_answer (limited RD.read s.now at) }
 {
-    answers::of_read(bit_codes::read_rd_bits(s, at))
+    bit_codes::read_rd::<u64>(s, at).into()
 }
 
 // BS, signed.
@@ -95,7 +97,7 @@ pub extern "C" fn dwg_read_rd_bits(s: &[u8], at: usize) -> CodeAnswer
 pub extern "C" fn dwg_read_bs(s: &[u8], at: usize) -> SignedAnswer
     ensures { result ≡ signed_answer (limited signed_BS.read s.now at) }
 {
-    answers::of_i16(bit_codes::read_bs(s, at))
+    bit_codes::read_bs(s, at).into()
 }
 
 // BS, unsigned.
@@ -103,7 +105,7 @@ pub extern "C" fn dwg_read_bs(s: &[u8], at: usize) -> SignedAnswer
 pub extern "C" fn dwg_read_bs_u(s: &[u8], at: usize) -> CodeAnswer
     ensures { result ≡ code_answer (limited BS.read s.now at) }
 {
-    answers::of_read(bit_codes::read_bs_u(s, at))
+    bit_codes::read_bs_u(s, at).into()
 }
 
 // BL, signed.
@@ -111,7 +113,7 @@ pub extern "C" fn dwg_read_bs_u(s: &[u8], at: usize) -> CodeAnswer
 pub extern "C" fn dwg_read_bl(s: &[u8], at: usize) -> SignedAnswer
     ensures { result ≡ signed_answer (limited signed_BL.read s.now at) }
 {
-    answers::of_i32(bit_codes::read_bl(s, at))
+    bit_codes::read_bl(s, at).into()
 }
 
 // BL, unsigned.
@@ -119,7 +121,7 @@ pub extern "C" fn dwg_read_bl(s: &[u8], at: usize) -> SignedAnswer
 pub extern "C" fn dwg_read_bl_u(s: &[u8], at: usize) -> CodeAnswer
     ensures { result ≡ code_answer (limited BL.read s.now at) }
 {
-    answers::of_read(bit_codes::read_bl_u(s, at))
+    bit_codes::read_bl_u(s, at).into()
 }
 
 // BLL: three bits, and that many bytes.
@@ -127,39 +129,41 @@ pub extern "C" fn dwg_read_bl_u(s: &[u8], at: usize) -> CodeAnswer
 pub extern "C" fn dwg_read_bll(s: &[u8], at: usize) -> CodeAnswer
     ensures { result ≡ code_answer (limited BLL.read s.now at) }
 {
-    answers::of_read(bit_codes::read_bll(s, at))
+    bit_codes::read_bll(s, at).into()
 }
 
 // BD, as the double.
 #[unsafe(no_mangle)]
 pub extern "C" fn dwg_read_bd(s: &[u8], at: usize) -> DoubleAnswer
-    ensures { result ≡ double_answer (limited BD.read s.now at) }
+    ensures { result ≡ double_answer (value_as (of_bits binary64) (limited BD.read s.now at)) }
 {
-    answers::of_f64(bit_codes::read_bd(s, at))
+    bit_codes::read_bd::<f64>(s, at).into()
 }
 
 // BD, as its 64 bits.
+#[tactic(auto, using(crate::proofs::Same::same))]
 #[unsafe(no_mangle)]
 pub extern "C" fn dwg_read_bd_bits(s: &[u8], at: usize) -> CodeAnswer
     ensures { result ≡ code_answer (limited BD.read s.now at) }
 {
-    answers::of_read(bit_codes::read_bd_bits(s, at))
+    bit_codes::read_bd::<u64>(s, at).into()
 }
 
 // DD with a default, as doubles.
 #[unsafe(no_mangle)]
 pub extern "C" fn dwg_read_dd(s: &[u8], at: usize, default: f64) -> DoubleAnswer
-    ensures { result ≡ double_answer (limited (DD (to_bits binary64 default)).read s.now at) }
+    ensures { result ≡ double_answer (value_as (of_bits binary64) (limited (DD (to_bits binary64 default)).read s.now at)) }
 {
-    answers::of_f64(bit_codes::read_dd(s, at, default))
+    bit_codes::read_dd(s, at, default).into()
 }
 
 // DD with a default, as their 64 bits.
+#[tactic(auto, using(crate::proofs::Same::same))]
 #[unsafe(no_mangle)]
 pub extern "C" fn dwg_read_dd_bits(s: &[u8], at: usize, default: u64) -> CodeAnswer
     ensures { result ≡ code_answer (limited (DD default).read s.now at) }
 {
-    answers::of_read(bit_codes::read_dd_bits(s, at, default))
+    bit_codes::read_dd(s, at, default).into()
 }
 
 // A handle: code, counter, and that many bytes with the high one first.
@@ -167,7 +171,7 @@ pub extern "C" fn dwg_read_dd_bits(s: &[u8], at: usize, default: u64) -> CodeAns
 pub extern "C" fn dwg_read_handle(s: &[u8], at: usize) -> HandleAnswer
     ensures { result ≡ handle_answer (limited HANDLE.read s.now at) }
 {
-    answers::of_handle(bit_codes::read_handle(s, at))
+    bit_codes::read_handle(s, at).into()
 }
 
 // TV: inline text of a release.
@@ -175,7 +179,7 @@ pub extern "C" fn dwg_read_handle(s: &[u8], at: usize) -> HandleAnswer
 pub extern "C" fn dwg_read_tv(s: &[u8], at: usize, release: u64) -> TextAnswer
     ensures { result ≡ text_answer (released (λ v. limited (inline_text v)) (version_of release) s.now at) }
 {
-    answers::of_text(text::read_tv(s, at, release))
+    text::read_tv(s, at, release).into()
 }
 
 // Text from a string reader that stands at `at` and ends at the bit `end`.
@@ -183,21 +187,22 @@ pub extern "C" fn dwg_read_tv(s: &[u8], at: usize, release: u64) -> TextAnswer
 pub extern "C" fn dwg_read_string_tv(s: &[u8], at: usize, end: usize) -> TextAnswer
     ensures { result ≡ text_answer (limited (reader_text end) s.now at) }
 {
-    answers::of_text(text::read_string_tv(s, at, end))
+    text::read_string_tv(s, at, end).into()
 }
 
 // The entity prefix, the linetype scale as the double.
 #[unsafe(no_mangle)]
 pub extern "C" fn dwg_read_common_entity_data(s: &[u8], at: usize, release: u64) -> PrefixAnswer
-    ensures { result ≡ prefix_double_answer (as_bits (prefix_call release s.now at)) }
+    ensures { result ≡ prefix_double_answer (value_as (data_of (of_bits binary64)) (prefix_call release s.now at)) }
 {
-    prefixes::of_prefix(common_entity::read_common_entity_bits(s, at, release))
+    common_entity::read_common_entity_data::<f64>(s, at, release).into()
 }
 
 // The entity prefix, the linetype scale as its 64 bits.
+#[tactic(auto, using(prefix_format::proofs::Records::reading_same))]
 #[unsafe(no_mangle)]
 pub extern "C" fn dwg_read_common_entity_bits(s: &[u8], at: usize, release: u64) -> PrefixBitsAnswer
-    ensures { result ≡ bits_answer (as_bits (prefix_call release s.now at)) }
+    ensures { result ≡ bits_answer (prefix_call release s.now at) }
 {
-    prefixes::of_prefix_bits(common_entity::read_common_entity_bits(s, at, release))
+    common_entity::read_common_entity_data::<u64>(s, at, release).into()
 }

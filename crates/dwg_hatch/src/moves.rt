@@ -18,9 +18,7 @@ pub extern "C" fn dwg_hatch_move_origin(
 ) -> MoveAnswer
     ensures { MovesDoubles hatch words.now x y result numbers.old numbers.new }
 {
-    let gradient = hatch.gradient;
-    let fields = hatch.fields;
-    let counts = given::counts_of(fields, gradient.num_colors);
+    let counts = given::counts_of(hatch.fields, hatch.gradient.num_colors);
     let extrusion = Vec3D {
         x: hatch.extrusion_x,
         y: hatch.extrusion_y,
@@ -40,9 +38,7 @@ pub extern "C" fn dwg_hatch_move_origin_bits(
 ) -> MoveAnswer
     ensures { MovesBits hatch words.now x y result bits.old bits.new }
 {
-    let gradient = hatch.gradient;
-    let fields = hatch.fields;
-    let counts = given::counts_of(fields, gradient.num_colors);
+    let counts = given::counts_of(hatch.fields, hatch.gradient.num_colors);
     let extrusion = Vec3D {
         x: hatch.extrusion_x,
         y: hatch.extrusion_y,

@@ -21,13 +21,11 @@ pub extern "C" fn dwg_hatch_seed_points(
 ) -> SeedPart
     ensures { result ≡ seed_part length numbers_used num_seed_points }
 {
-    if numbers_used <= length {
-        if num_seed_points <= numbers_used / 2 {
-            return SeedPart {
-                begin: numbers_used - 2 * num_seed_points,
-                count: 2 * num_seed_points,
-            };
-        }
+    if numbers_used <= length && num_seed_points <= numbers_used / 2 {
+        return SeedPart {
+            begin: numbers_used - 2 * num_seed_points,
+            count: 2 * num_seed_points,
+        };
     }
     SeedPart { begin: 0, count: 0 }
 }

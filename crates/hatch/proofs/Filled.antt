@@ -2,7 +2,7 @@
 -- nothing.
 use Rattle.std.specs.Prelude.{◌≡◌, refl, List, ◌++◌, ℕ, ◌+◌, ◌≤◌, length, drop, map, Result, Ok}
 use Rattle.std.proofs.Common.{ap, ap₂, subst, ◌∙◌, arith, zero-add}
-use Rattle.std.proofs.lemmas.List.{length-map, map-id}
+use Rattle.std.proofs.lemmas.List.{length-map}
 use Rattle.std.proofs.lemmas.List.Edits.{sets}
 use lib.Seq.{sets-eq}
 use Rattle.bitcursor.specs.declared.Refused.{Refused}
@@ -97,8 +97,3 @@ module _ {N : Type 0} (of : ℕ → N) where
           numbers_then = ap (λ (x : Lists N). x.numbers) h.lists ∙ filled_numbers l n;
           words_then = ap (λ (x : Lists N). x.words) h.lists ∙ filled_words l w;
         }
-
--- over 64 bits the entries are the numbers themselves
-pub filled_bits : (o : Out Places Body) (l : List ℕ) → filled (numbers_as (λ n. n)) o l ≡ filled numbers o l
-filled_bits (got a q) l = ap (λ (ns : List ℕ). ns ++ drop (length ns) l) (map-id (numbers a.rest))
-filled_bits (refused k q) l = refl

@@ -57,10 +57,6 @@ abbrev pub Reads : {N C : Type 0} → (ℕ → N) → (GradientColorBits → C) 
 Reads of color o r numbers numbers' words words' =
     (r ≡ as_hatch of color o) × ((numbers' ≡ filled (numbers_as of) o numbers) × (words' ≡ words_after o words))
 
--- over 64 bits: the record and the numbers as they are
-abbrev pub ReadsBits : Out Places Body → Result HatchBits (Refused Places) → (bits bits' words words' : List ℕ) → Type 0
-ReadsBits o r bits bits' words words' = (r ≡ as_bits o) × ((bits' ≡ numbers_after o bits) × (words' ≡ words_after o words))
-
 -- ---- the calls: document 01's caps, and boundary handles in the payload
 abbrev pub call_of : ℕ → List ℕ → ℕ → Strings → ℕ → ℕ → Out Places Body
 call_of release xs start strings nw nn =

@@ -5,57 +5,43 @@
 
 ghost use Rattle.std.specs.Prelude.{◌≡◌, length};
 ghost use Rattle.hatch_format.specs.Call.{none, lent};
-ghost use Rattle.hatch_format.specs.Record.{double, color_as_doubles};
-ghost use Rattle.hatch.specs.Calls.{Reads, ReadsBits, call_of, as_lengths, most};
+ghost use Rattle.hatch.specs.Calls.{Reads, call_of, as_lengths, most};
 
 use bitcursor::Places;
-use hatch_record::{HatchBitsRead, HatchRead, LengthsRead, bits, doubles};
+use bitcursor::values::Number;
+use hatch_format::Color;
+use hatch_record::{HatchRead, LengthsRead};
 
 pub mod calls;
 pub mod seeds;
 
-// A hatch body without a reader, from any bytes at any start bit, of any release number; doubles as f64.
-pub fn decode(
+// A hatch body without a reader, from any bytes at any start bit, of any release number; its doubles as f64 or as their 64 bits.
+pub fn decode<N: Number, C: Color>(
     main: &[u8],
     start: usize,
     release: u64,
-    numbers: &mut [f64],
+    numbers: &mut [N],
     words: &mut [u32],
-) -> HatchRead
-    ensures { Reads double color_as_doubles (call_of release main.now start none (length words.old) (length numbers.old)) result
+) -> HatchRead<N, C>
+    ensures { Reads N.of_bits C.of_bits (call_of release main.now start none (length words.old) (length numbers.old)) result
         numbers.old numbers.new words.old words.new }
 {
     let read = calls::read(main, start, release, numbers, words);
-    doubles::doubles_answer(main, read)
-}
-
-// The same with doubles as their 64 bits.
-pub fn decode_bits(
-    main: &[u8],
-    start: usize,
-    release: u64,
-    bits: &mut [u64],
-    words: &mut [u32],
-) -> HatchBitsRead
-    ensures { ReadsBits (call_of release main.now start none (length words.old) (length bits.old)) result
-        bits.old bits.new words.old words.new }
-{
-    let read = calls::read(main, start, release, bits, words);
-    bits::bits_answer(main, read)
+    hatch_record::answer(main, read)
 }
 
 // With a string reader over any bytes, from any start bit to any end bit.
-pub fn decode_with_strings(
+pub fn decode_with_strings<N: Number, C: Color>(
     main: &[u8],
     start: usize,
     string: &[u8],
     string_start: usize,
     string_end: usize,
     release: u64,
-    numbers: &mut [f64],
+    numbers: &mut [N],
     words: &mut [u32],
-) -> HatchRead
-    ensures { Reads double color_as_doubles (call_of release main.now start (lent string.now string_start string_end)
+) -> HatchRead<N, C>
+    ensures { Reads N.of_bits C.of_bits (call_of release main.now start (lent string.now string_start string_end)
         (length words.old) (length numbers.old)) result numbers.old numbers.new words.old words.new }
 {
     let read = calls::read_with_strings(
@@ -68,34 +54,7 @@ pub fn decode_with_strings(
         numbers,
         words,
     );
-    doubles::doubles_answer(main, read)
-}
-
-// The same with doubles as their 64 bits.
-pub fn decode_with_strings_bits(
-    main: &[u8],
-    start: usize,
-    string: &[u8],
-    string_start: usize,
-    string_end: usize,
-    release: u64,
-    bits: &mut [u64],
-    words: &mut [u32],
-) -> HatchBitsRead
-    ensures { ReadsBits (call_of release main.now start (lent string.now string_start string_end)
-        (length words.old) (length bits.old)) result bits.old bits.new words.old words.new }
-{
-    let read = calls::read_with_strings(
-        main,
-        start,
-        string,
-        string_start,
-        string_end,
-        release,
-        bits,
-        words,
-    );
-    bits::bits_answer(main, read)
+    hatch_record::answer(main, read)
 }
 
 // Longer than any list is: what a measuring call takes both lists to be.

@@ -98,17 +98,18 @@ impl Color for GradientColorBits {
 }
 
 // The gradient of a hatch; colours past their count are zero. `present` is a field, and not an Option around the others, since document 01
-// has the record zero throughout where there is no gradient.
+// has the record zero throughout where there is no gradient. Fields of an open type come last, here and in Hatch: where the types are open, each field behind
+// one doubles the term that says how large the struct is, and the proofs of generic calls meet the check's limit.
 #[derive(Copy)]
 pub struct GradientFill<N = f64, C = GradientColor> {
     pub present: bool,
+    pub is_single_color: u32,
+    pub num_colors: usize,
+    pub name: Text,
     pub angle: N,
     pub shift: N,
-    pub is_single_color: u32,
     pub tint: N,
-    pub num_colors: usize,
     pub colors: [C; 16],
-    pub name: Text,
 }
 
 // A copy of the whole: a derived `clone` would go colour by colour, and its proof meets the check's limit.
@@ -132,24 +133,24 @@ pub struct Vec3D<N = f64> {
 // What a hatch call hands over by value: document 01's record. The rest goes to the two lent lists, so far as their lengths used say.
 #[derive(Copy)]
 pub struct Hatch<N = f64, C = GradientColor> {
-    pub gradient: GradientFill<N, C>,
-    pub elevation: N,
-    pub extrusion: Vec3D<N>,
     pub pattern_name: Text,
     pub solid_fill: bool,
     pub associative: bool,
     pub num_paths: usize,
     pub pattern_style: u16,
     pub pattern_type: u16,
-    pub pattern_angle: N,
-    pub pattern_scale: N,
     pub pattern_double: bool,
     pub num_pattern_lines: usize,
-    pub pixel_size: N,
     pub num_seed_points: usize,
     pub words_used: usize,
     pub numbers_used: usize,
     pub places: Places,
+    pub elevation: N,
+    pub pattern_angle: N,
+    pub pattern_scale: N,
+    pub pixel_size: N,
+    pub extrusion: Vec3D<N>,
+    pub gradient: GradientFill<N, C>,
 }
 
 // As that of a gradient.

@@ -3,23 +3,19 @@
 // specs/ promise the record field by field from the parts, with each double as its 64 bits or as the double that it is, and its lengths.
 #![tactic(auto)]
 
-ghost use Rattle.std.specs.Prelude.{◌≡◌};
-ghost use Rattle.hatch_body.specs.Parts.{Small};
-ghost use Rattle.hatch_record.specs.Records.{record_by, num_colors, lengths_of};
+ghost use Rattle.std.specs.Prelude.{◌≡◌, [], ◌<◌, map};
+ghost use Rattle.hatch_format.specs.Record.{sixteen};
+ghost use Rattle.hatch_body.specs.Parts.{Small, Readable};
+ghost use Rattle.hatch_record.specs.Records.{fill_by, record_by, SmallIn, num_colors, answer_with, answer_in, lengths_of};
 
 use bitcursor::values::Number;
 use bitcursor::{Places, Refused};
 use hatch_body::{BodyRead, Parts};
-use hatch_format::{Color, GradientFill, Hatch, HatchBits, Vec3D};
+use hatch_format::{Color, GradientColor, GradientFill, Hatch, Vec3D};
+use hatch_front::{Gradient, colors};
 
-pub mod bits;
-pub mod doubles;
-
-// What a call hands over by value, with each double as f64; or its refusal and the places of that.
-pub type HatchRead = Result<Hatch, Refused<Places>>;
-
-// The same with each double as its 64 bits.
-pub type HatchBitsRead = Result<HatchBits, Refused<Places>>;
+// What a call hands over by value, with doubles and colours as a caller has them; or its refusal and the places of that.
+pub type HatchRead<N = f64, C = GradientColor> = Result<Hatch<N, C>, Refused<Places>>;
 
 // The lengths that the lists must have for a readable hatch, and its final places.
 #[derive(Clone, Copy, Debug, PartialEq, Eq)]
@@ -31,29 +27,32 @@ pub struct Lengths {
 
 pub type LengthsRead = Result<Lengths, Refused<Places>>;
 
-// One function for doubles and for their 64 bits, with the colours as they come. Who takes it for either kind is not generic any more: a call that
-// hands on an array of a type parameter owes that its size is below 2^63, and that proof did not close.
+fn fill<N: Number, C: Color>(g: Gradient, colors: [C; 16]) -> GradientFill<N, C>
+    ensures { result ≡ fill_by N.of_bits colors g }
+{
+    GradientFill {
+        present: g.present,
+        angle: N::from_bits(g.angle),
+        shift: N::from_bits(g.shift),
+        is_single_color: g.is_single_color,
+        tint: N::from_bits(g.tint),
+        num_colors: g.num_colors,
+        colors,
+        name: g.name,
+    }
+}
+
 fn record<N: Number, C: Color>(a: Parts, colors: [C; 16]) -> Hatch<N, C>
     requires { Small a }
     ensures { result ≡ record_by N.of_bits colors a }
 {
-    let g = a.front.gradient;
     let plane = a.front.plane;
     let rest = a.rest;
     let tail = rest.tail;
     let pattern = tail.pattern;
     let ending = tail.ending;
     Hatch {
-        gradient: GradientFill {
-            present: g.present,
-            angle: N::from_bits(g.angle),
-            shift: N::from_bits(g.shift),
-            is_single_color: g.is_single_color,
-            tint: N::from_bits(g.tint),
-            num_colors: g.num_colors,
-            colors,
-            name: g.name,
-        },
+        gradient: fill(a.front.gradient, colors),
         elevation: N::from_bits(plane.elevation),
         extrusion: Vec3D {
             x: N::from_bits(plane.x),
@@ -86,6 +85,37 @@ pub fn num_colors(r: BodyRead) -> usize
         Ok(a) => a.front.gradient.num_colors,
         Err(_) => 0,
     }
+}
+
+// The answer of a call that has no colours.
+pub fn plain<N: Number, C: Color>(r: BodyRead) -> HatchRead<N, C>
+    requires { SmallIn r }
+    ensures { result ≡ answer_with N.of_bits (map C.of_bits (sixteen [])) r }
+{
+    let a = r?;
+    Ok(record(a, colors::zero_colors()))
+}
+
+// The answer with the colours read once more, from where they stand.
+pub fn colored<N: Number, C: Color>(main: &[u8], r: BodyRead) -> HatchRead<N, C>
+    requires { Readable main.now r }
+    ensures { result ≡ answer_in N.of_bits C.of_bits main.now r }
+{
+    let a = r?;
+    let g = a.front.gradient;
+    Ok(record(a, colors::read_colors(main, g.colors_at, g.num_colors)))
+}
+
+// Colours are read again only where there are some.
+#[tactic(auto, using(crate::proofs::RecordLaws::plain_is))]
+pub fn answer<N: Number, C: Color>(main: &[u8], r: BodyRead) -> HatchRead<N, C>
+    requires { Readable main.now r }
+    ensures { result ≡ answer_in N.of_bits C.of_bits main.now r }
+{
+    if 0 < num_colors(r) {
+        return colored(main, r);
+    }
+    plain(r)
 }
 
 pub fn lengths_of(r: BodyRead) -> LengthsRead

@@ -23,7 +23,11 @@ fn zeros(alloc: Global) -> Result<Vec<u8>, AllocError> {
 }
 
 // A line of the list: the request, a tab, the answer. No reading is in the lines that these are compared with.
-fn line<W: Write, T: Drop>(out: &mut W, request: &str, answer: Result<T, Refused>) -> io::Result<()> {
+fn line<W: Write, T: Drop>(
+    out: &mut W,
+    request: &str,
+    answer: Result<T, Refused>,
+) -> io::Result<()> {
     match answer {
         Ok(_) => writeln!(out, "{request}\tok"),
         Err(e) => {
@@ -36,7 +40,7 @@ fn line<W: Write, T: Drop>(out: &mut W, request: &str, answer: Result<T, Refused
 
 // The hatch body, with the main place of its refusal.
 fn hatch_body(s: &[u8], release: u64) -> Result<HatchBits, Refused> {
-    hatch::decode(s, START, release, &mut [], &mut []).map_err(|e| Refused {
+    hatch::decode_bits(s, START, release, &mut [], &mut []).map_err(|e| Refused {
         refusal: e.refusal,
         place: e.place.main,
     })
@@ -72,7 +76,11 @@ fn shorts_and_longs<W: Write>(out: &mut W, s: &[u8]) -> io::Result<()> {
 }
 
 fn double_and_long_long<W: Write>(out: &mut W, s: &[u8]) -> io::Result<()> {
-    line(out, "bd 2 5 z268435457", bit_codes::read_bd::<u64>(s, START))?;
+    line(
+        out,
+        "bd 2 5 z268435457",
+        bit_codes::read_bd::<u64>(s, START),
+    )?;
     line(out, "bll 2 5 z268435457", bit_codes::read_bll(s, START))
 }
 
@@ -80,11 +88,19 @@ fn raw<W: Write>(out: &mut W, s: &[u8]) -> io::Result<()> {
     line(out, "rc 2 5 z268435457", bit_codes::read_rc(s, START))?;
     line(out, "rs 2 5 z268435457", bit_codes::read_rs(s, START))?;
     line(out, "rl 2 5 z268435457", bit_codes::read_rl(s, START))?;
-    line(out, "rd 2 5 z268435457", bit_codes::read_rd::<u64>(s, START))
+    line(
+        out,
+        "rd 2 5 z268435457",
+        bit_codes::read_rd::<u64>(s, START),
+    )
 }
 
 fn handle_and_default<W: Write>(out: &mut W, s: &[u8]) -> io::Result<()> {
-    line(out, "handle 2 5 z268435457", bit_codes::read_handle(s, START))?;
+    line(
+        out,
+        "handle 2 5 z268435457",
+        bit_codes::read_handle(s, START),
+    )?;
     line(
         out,
         "dd 2 5 z268435457 3ff0000000000000",
@@ -104,8 +120,16 @@ fn texts<W: Write>(out: &mut W, s: &[u8]) -> io::Result<()> {
 
 // The calls that hand over f64, of the same requests.
 fn doubles<W: Write>(out: &mut W, s: &[u8]) -> io::Result<()> {
-    line(out, "bd 2 5 z268435457", bit_codes::read_bd::<f64>(s, START))?;
-    line(out, "rd 2 5 z268435457", bit_codes::read_rd::<f64>(s, START))?;
+    line(
+        out,
+        "bd 2 5 z268435457",
+        bit_codes::read_bd::<f64>(s, START),
+    )?;
+    line(
+        out,
+        "rd 2 5 z268435457",
+        bit_codes::read_rd::<f64>(s, START),
+    )?;
     line(
         out,
         "dd 2 5 z268435457 3ff0000000000000",

@@ -1,54 +1,6 @@
--- The record of what the call read, as numbers, with its colours read again where there are some.
-use mathlib.Core.Path.{◌≡◌, ap, ◌∙◌}
-use Prim.Native.Nat.{◌<◌}
-use native.Mathlib.Omega.{arith}
-use lib.ListN.{length}
-use Rattle.hatch_format.specs.Call.{lent}
-use Rattle.hatch_record.specs.declared.HatchBitsAnswer.{HatchBitsAnswer}
-use Rattle.hatch_record.specs.Records.{num_colors, doubles_in}
-use Rattle.hatch_record.proofs.RecordLaws.{plain_is, small_parts}
-use Rattle.hatch.specs.Calls.{call_of}
-use Rattle.hatch.proofs.Filled.{answer_is}
-use Rattle.boundary.specs.HatchBoundary.{body_answer}
+-- The answer of the parts that the call read, and the lists as it left them.
+use Rattle.dwg_hatch.proofs.Decoded.{decoded}
 use Rattle.dwg_hatch.proofs.bodies.dwg_hatch_decode_with_strings.Goals as goal
 
-pub colored-requires : goal.colored-requires
-colored-requires c =
-    let at-if1 = c.if-num_colors-gt0 in
-    let at-num-colors = c.num_colors in
-    let at-read-with-strings = c.read_with_strings-read in
-    let some : 0 < num_colors at-read-with-strings.result = omega (arith, at-num-colors.ensures, at-if1.true) in
-    (at-read-with-strings.ensures.readable, some)
-
-pub returns-then-num_colors-gt0 : goal.returns-then-num_colors-gt0
-returns-then-num_colors-gt0 c =
-    let at-colored = c.colored in
-    let at-read-with-strings = c.read_with_strings-read in
-    let a = c.args in
-    let o = call_of a.release a.main.now a.start (lent a.string.now a.string_start a.string_end) (length a.words.now)
-    (length a.numbers.now) in
-    let read = at-read-with-strings.ensures in (
-      at-colored.ensures ∙ ap (λ (x : HatchBitsAnswer). body_answer (doubles_in x)) (answer_is a.main.now o at-read-with-strings.result read.body),
-      (read.numbers_then, read.words_then),
-    )
-
-pub plain-requires : goal.plain-requires
-plain-requires c =
-    let at-read-with-strings = c.read_with_strings-read in
-    let a = c.args in
-    small_parts a.main.now at-read-with-strings.result at-read-with-strings.ensures.readable
-
 pub returns : goal.returns
-returns c =
-    let at_plain = c.plain in
-    let at-if1 = c.if-num_colors-gt0 in
-    let at-num-colors = c.num_colors in
-    let at-read-with-strings = c.read_with_strings-read in
-    let a = c.args in
-    let xs = a.main.now in
-    let o = call_of a.release xs a.start (lent a.string.now a.string_start a.string_end) (length a.words.now)
-    (length a.numbers.now) in
-    let read = at-read-with-strings.ensures in
-    let none : num_colors at-read-with-strings.result ≡ 0 = omega (arith, at-num-colors.ensures, at-if1.false) in
-    let same = plain_is xs at-read-with-strings.result none ∙ answer_is xs o at-read-with-strings.result read.body in
-    (at_plain.ensures ∙ ap (λ (x : HatchBitsAnswer). body_answer (doubles_in x)) same, (read.numbers_then, read.words_then))
+returns c = decoded c.args.main.now c.answer.ensures c.read_with_strings-read.ensures
