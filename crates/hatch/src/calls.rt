@@ -5,7 +5,7 @@ ghost use Rattle.hatch.specs.Calls.{numbers_as, ReadsParts, call_of};
 
 use bitcursor::Places;
 use bitcursor::values::Number;
-use hatch_body::BodyRead;
+use hatch_body::{BodyRead, Room};
 
 // A hatch body without a reader; its numbers as doubles or as their 64 bits.
 pub fn read<N: Number>(
@@ -22,8 +22,10 @@ pub fn read<N: Number>(
         main: start,
         string: 0,
     };
-    let words_room = words.len();
-    let numbers_room = numbers.len();
+    let room = Room {
+        words: words.len(),
+        numbers: numbers.len(),
+    };
     hatch_call::read_call(
         main,
         &[],
@@ -31,8 +33,7 @@ pub fn read<N: Number>(
         None,
         release,
         hatch_format::document_caps(),
-        words_room,
-        numbers_room,
+        room,
         numbers,
         words,
     )
@@ -57,8 +58,10 @@ pub fn read_with_strings<N: Number>(
         main: start,
         string: string_start,
     };
-    let words_room = words.len();
-    let numbers_room = numbers.len();
+    let room = Room {
+        words: words.len(),
+        numbers: numbers.len(),
+    };
     hatch_call::read_call(
         main,
         string,
@@ -66,8 +69,7 @@ pub fn read_with_strings<N: Number>(
         Some(string_end),
         release,
         hatch_format::document_caps(),
-        words_room,
-        numbers_room,
+        room,
         numbers,
         words,
     )

@@ -9,6 +9,7 @@ ghost use Rattle.hatch.specs.Calls.{Reads, call_of, as_lengths, most};
 
 use bitcursor::Places;
 use bitcursor::values::Number;
+use hatch_body::Room;
 use hatch_format::Color;
 use hatch_record::{HatchRead, LengthsRead};
 
@@ -60,6 +61,11 @@ pub fn decode_with_strings<N: Number, C: Color>(
 // Longer than any list is: what a measuring call takes both lists to be.
 const MOST: usize = usize::MAX;
 
+const LONGEST: Room = Room {
+    words: MOST,
+    numbers: MOST,
+};
+
 // The lengths that the lists must have for a hatch without a reader, or its refusal: a host measures, lends so much and reads.
 pub fn measure(main: &[u8], start: usize, release: u64) -> LengthsRead
     ensures { result ≡ as_lengths (call_of release main.now start none most most) }
@@ -75,8 +81,7 @@ pub fn measure(main: &[u8], start: usize, release: u64) -> LengthsRead
         None,
         release,
         hatch_format::document_caps(),
-        MOST,
-        MOST,
+        LONGEST,
         &mut [],
         &mut [],
     );
@@ -105,8 +110,7 @@ pub fn measure_with_strings(
         Some(string_end),
         release,
         hatch_format::document_caps(),
-        MOST,
-        MOST,
+        LONGEST,
         &mut [],
         &mut [],
     );

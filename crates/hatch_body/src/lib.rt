@@ -71,11 +71,18 @@ fn fill_lists<N: Number>(
     let _ = rests::decode_rest(s, at, v, caps, numbers, words);
 }
 
+// How long the two lists of a caller are, or are taken to be where a call only measures.
+#[derive(Clone, Copy, Debug, PartialEq, Eq)]
+pub struct Room {
+    pub words: usize,
+    pub numbers: usize,
+}
+
 // Whether both lists are long enough for what the walk used.
-fn long_enough(words_room: usize, numbers_room: usize, used: Sizes) -> bool
-    ensures { result ≡ long_enough words_room numbers_room used }
+fn long_enough(room: Room, used: Sizes) -> bool
+    ensures { result ≡ long_enough room.words room.numbers used }
 {
-    used.words <= words_room && used.numbers <= numbers_room
+    used.words <= room.words && used.numbers <= room.numbers
 }
 
 // What follows a front: measured, and filled only where both lists are long enough.
@@ -85,20 +92,19 @@ pub fn fill_rest<N: Number>(
     v: Version,
     caps: Caps,
     front: Front,
-    words_room: usize,
-    numbers_room: usize,
+    room: Room,
     numbers: &mut [N],
     words: &mut [u32],
 ) -> BodyRead
     requires { (length main.now ≤ limit) × ((p.main ≤ 8 * length main.now) × NowhereAbove caps document_caps) }
-    ensures { (result ≡ rest_read front words_room numbers_room p ((rest caps in_payload v).read main.now p.main)) ×
+    ensures { (result ≡ rest_read front room.words room.numbers p ((rest caps in_payload v).read main.now p.main)) ×
         (lists numbers.new words.new ≡ rest_lists N.of_bits
-        (lists numbers.old words.old) words_room numbers_room
+        (lists numbers.old words.old) room.words room.numbers
         ((rest caps in_payload v).read main.now p.main)) }
 {
     let measured = measure_rest(main, p.main, v, caps);
     let ((rest, used), places) = p.after_main(measured)?;
-    if !long_enough(words_room, numbers_room, used) {
+    if !long_enough(room, used) {
         return refuse(Refusal::ListTooShort, places);
     }
     fill_lists(main, p.main, v, caps, numbers, words);

@@ -15,7 +15,7 @@ ghost use Rattle.hatch_call.specs.Calls.{CallIs};
 
 use bitcursor::values::Number;
 use bitcursor::{Places, Refusal, refuse};
-use hatch_body::BodyRead;
+use hatch_body::{BodyRead, Room};
 use hatch_format::Caps;
 use text::version::Version;
 
@@ -27,28 +27,17 @@ fn read_body<N: Number>(
     reader: Option<usize>,
     v: Version,
     caps: Caps,
-    words_room: usize,
-    numbers_room: usize,
+    room: Room,
     numbers: &mut [N],
     words: &mut [u32],
 ) -> BodyRead
     requires { (length main.now ≤ limit) × ((length string.now ≤ limit) × NowhereAbove caps document_caps) }
-    ensures { CallIs N.of_bits main.now (room_for words_room numbers_room
+    ensures { CallIs N.of_bits main.now (room_for room.words room.numbers
         ((hatch caps in_payload v).read (payloads_to main.now string.now reader) at))
         (lists numbers.old words.old) (lists numbers.new words.new) result }
 {
     let (front, p) = hatch_front::read_front(main, string, at, reader, v, caps)?;
-    hatch_body::fill_rest(
-        main,
-        p,
-        v,
-        caps,
-        front,
-        words_room,
-        numbers_room,
-        numbers,
-        words,
-    )
+    hatch_body::fill_rest(main, p, v, caps, front, room, numbers, words)
 }
 
 // A call on any input: refusal 9, then 10 of either payload, then a string start past its payload, then the body, read with the
@@ -60,13 +49,12 @@ pub fn read_call<N: Number>(
     reader: Option<usize>,
     release: u64,
     caps: Caps,
-    words_room: usize,
-    numbers_room: usize,
+    room: Room,
     numbers: &mut [N],
     words: &mut [u32],
 ) -> BodyRead
     requires { NowhereAbove caps document_caps }
-    ensures { CallIs N.of_bits main.now (call_on caps in_payload words_room numbers_room
+    ensures { CallIs N.of_bits main.now (call_on caps in_payload room.words room.numbers
         (payloads_to main.now string.now reader) at release)
         (lists numbers.old words.old) (lists numbers.new words.new) result }
 {
@@ -90,8 +78,7 @@ pub fn read_call<N: Number>(
             reader,
             v,
             caps,
-            words_room,
-            numbers_room,
+            room,
             numbers,
             words,
         ),

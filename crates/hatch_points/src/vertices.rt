@@ -86,7 +86,8 @@ pub fn decode_vertices<N: Number>(
     pass_vertices(s, p, n - m, y)
 }
 
-// n points, with a double behind each or without: without one they are a run of RD.
+// n points, with a double behind each or without: without one they are a run of RD. Which of the two, the payload says: the callers have it as a flag,
+// and a closure in its place would put this `if` into each of them.
 #[tactic(auto, unfolding(crate::specs::Walks::vertices_walk))]
 pub fn decode_points<N: Number>(
     s: &[u8],

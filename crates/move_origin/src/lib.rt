@@ -29,7 +29,8 @@ fn seeds_item(c: HatchCounts) -> Item
     }
 }
 
-// Whether each coordinate of whole lists, of which these are the words used, is in range: item by item, and then of the seed points.
+// Whether each coordinate of whole lists, of which these are the words used, is in range: item by item, and then of the seed points. The next item is
+// known from the last one's place, and the seed points begin where the walk ends: an iterator of items would hold the same place, and be asked for it.
 fn are_within<C: Coordinate>(c: HatchCounts, words: &[u32], numbers: &[C]) -> bool
     requires { Walks c words.now (length numbers.now) }
     ensures { result ≡ all_in_range C.within (roles_of c words.now) numbers.now }

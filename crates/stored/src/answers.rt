@@ -9,7 +9,8 @@ const ROOM: usize = 1024;
 // How many numbers open it: the refusal or 0, the place, the second place, which is 0 without a string reader, and how many values follow.
 const HEAD: usize = 4;
 
-// An answer as numbers. What there is no room for is dropped, as no answer of the list is so long.
+// An answer as numbers. What there is no room for is dropped, as no answer of the list is so long. The memory is fixed, as everywhere below the
+// programs: so it is an array with its count, and no Vec.
 #[derive(Drop)]
 pub struct Answer {
     numbers: [u64; ROOM],

@@ -24,7 +24,8 @@ pub fn large_buffer() -> [u8; 65536]
     [0; 65536]
 }
 
-// Reads until `s` is full, the input ends or a read fails, and returns how many bytes it put at the start of `s`.
+// Reads until `s` is full, the input ends or a read fails, and returns how many bytes it put at the start of `s`. A read says how far it came: so the
+// loop goes by bytes, and `read_exact` would not say how many there were.
 pub fn read_full<R: Read>(file: &mut R, s: &mut [u8]) -> usize
     ensures { IsPrefixLen result s.new }
 {

@@ -137,7 +137,8 @@ pub fn next_item(words: &[u32], numbers: usize, at: Place) -> Option<(Item, Plac
     }
 }
 
-// All items from a place on: the word and the number behind the last of them; or the lists are not whole.
+// All items from a place on: the word and the number behind the last of them; or the lists are not whole. An iterator of items would hold the place,
+// and its end is what is asked for: it would be no plainer.
 #[tactic(auto, using(crate::proofs::Loops::along_next))]
 fn pass_all(words: &[u32], numbers: usize, from: Place) -> Option<ListEnd>
     requires { Within words.now numbers from }

@@ -26,13 +26,13 @@ returns g c =
     let a = c.args in
     let γ = payloads_to a.main.now a.string.now a.reader in
     let l = lists a.numbers.now a.words.now in
-    body_done g.N.Number.of_bits a.caps in_payload a.v γ a.at a.words_room a.numbers_room _ _ l c.requires.0 c.in_ok-front.ensures c.fill_rest.ensures
+    body_done g.N.Number.of_bits a.caps in_payload a.v γ a.at a.room.words a.room.numbers _ _ l c.requires.0 c.in_ok-front.ensures c.fill_rest.ensures
 
 pub returns-in_err-front : goal.returns-in_err-front
 returns-in_err-front g c =
     let a = c.args in
     let γ = payloads_to a.main.now a.string.now a.reader in
     let l = lists a.numbers.now a.words.now in
-    let read = room_for a.words_room a.numbers_room ((hatch a.caps in_payload a.v).read γ a.at) in
+    let read = room_for a.room.words a.room.numbers ((hatch a.caps in_payload a.v).read γ a.at) in
     stays (λ (r : _). CallIs g.N.Number.of_bits a.main.now read l l r) _ c.from_residual.ensures
-    (body_refused g.N.Number.of_bits a.caps in_payload a.v γ a.at a.words_room a.numbers_room l c.in_err-front.ensures)
+    (body_refused g.N.Number.of_bits a.caps in_payload a.v γ a.at a.room.words a.room.numbers l c.in_err-front.ensures)
