@@ -10,8 +10,7 @@ pub returns : goal.returns
 returns g c =
     let a = c.args in
     let o = call_of a.release a.main.now a.start (none) (length a.words.now) (length a.numbers.now) in
-    let read = c.read-read.ensures in
-    (
+    let read = c.read-read.ensures in (
       c.answer.ensures ∙ answer_is g.N.Number.of_bits g.C.Color.of_bits a.main.now o c.read-read.result read.body,
       (read.numbers_then, read.words_then),
     )

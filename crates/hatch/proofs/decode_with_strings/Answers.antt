@@ -10,8 +10,7 @@ pub returns : goal.returns
 returns g c =
     let a = c.args in
     let o = call_of a.release a.main.now a.start (lent a.string.now a.string_start a.string_end) (length a.words.now) (length a.numbers.now) in
-    let read = c.read_with_strings-read.ensures in
-    (
+    let read = c.read_with_strings-read.ensures in (
       c.answer.ensures ∙ answer_is g.N.Number.of_bits g.C.Color.of_bits a.main.now o c.read_with_strings-read.result read.body,
       (read.numbers_then, read.words_then),
     )
