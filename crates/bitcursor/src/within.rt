@@ -10,8 +10,10 @@ ghost use Rattle.loads.specs.Bits.{limit};
 
 use crate::{Handle, Passing, Reading, Refusal, refuse};
 
-// The next n bits. A payload that is not empty has n bits, so that its last place for them is known, and one comparison tells.
+// The next n bits. A payload that is not empty has n bits, so that its last place for them is known, and one comparison tells. A row of flags
+// has it many times, and the compiler would leave it a call that hands its answer over by memory: so it is marked.
 #[tactic(auto, using(crate::specs::Bytes::raw_there, crate::specs::Bytes::raw_short))]
+#[inline(always)]
 pub fn read_bits(s: &[u8], at: usize, n: usize) -> Reading<u64>
     requires { (length s.now ≤ limit) × ((1 ≤ n) × (n ≤ 8)) }
     ensures { outcome result ≡ (raw n).read s.now at }

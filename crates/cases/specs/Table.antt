@@ -7,7 +7,7 @@ use Rattle.loads.specs.Bytes.{low_number}
 use Rattle.bitcursor.specs.Codes.{by_tag, tagged, B, B_read, BB, RC, RD, RL, BS, BS_read, signed_BS, BL, BL_read}
 use Rattle.bitcursor.specs.Doubles.{BD, BD_read, one_pattern}
 use Rattle.bitcursor.specs.Handles.{BLL, BLL_read, HANDLE, HANDLE_read, HANDLE_value, checked}
-use Rattle.bitcursor.specs.Held.{held}
+use Rattle.bitcursor.specs.Held.{held, marked}
 use Rattle.bitcursor.specs.Answers.{limited}
 use Rattle.bitcursor.specs.Format.{pure, refuse as refuse_format, ◌>>=◌ as bind_format, peek, relay, either}
 use Rattle.bitcursor.specs.Fields.{at_least, part_in}
@@ -17,7 +17,7 @@ use Rattle.text.specs.Fields.{here, inline, past_end, room_for, from_reader}
 use Rattle.text.specs.Layouts.{reader_text_format}
 use Rattle.text.specs.TextField.{has_reader, TV_field, TV_read as TV_field_read}
 use Rattle.text.specs.Answers.{released, inline_text, reader_text}
-use Rattle.prefix_format.specs.declared.CommonEntityBits.{CommonEntityBits}
+use Rattle.prefix_format.specs.declared.CommonEntityData.{CommonEntityData}
 use Rattle.prefix_format.specs.Prefix.{chain, extended, graphics_block, graphics, name, prefix_by}
 use Rattle.prefix_format.specs.Call.{prefix_call}
 use Rattle.hatch_format.specs.Values.{Body}
@@ -43,7 +43,7 @@ abbrev integer_of : ℤ → List ℤ
 integer_of z = z ∷ []
 
 -- a prefix's colour, the bits of its linetype scale, and its lineweight
-abbrev fields_of : CommonEntityBits → List ℤ
+abbrev fields_of : CommonEntityData ℕ → List ℤ
 fields_of d = pos d.color_raw ∷ (pos d.ltype_scale ∷ (pos d.lineweight ∷ []))
 
 -- a prefix call from bit 0: release, payload
@@ -87,7 +87,7 @@ cases =
 pub all_hold : Holds cases
 unfolding cases padded_cases all_same
     signed_BS BS BS_read BD BD_read BLL BLL_read B B_read BB RC RD RL BL BL_read HANDLE HANDLE_read HANDLE_value tagged by_tag checked
-    raw ◌>>=◌ tabled mapped measured give refuse held low_first high_first bytes bytes_read low_number skip window bits_of digits number limited
+    raw ◌>>=◌ tabled mapped measured give refuse held marked low_first high_first bytes bytes_read low_number skip window bits_of digits number limited
     pure refuse_format bind_format peek relay either part_in at_least
     reader_text inline_text units units_read checked_units released TV TV_read TV_field TV_field_read has_reader reader_text_format from_reader
     past_end room_for

@@ -5,7 +5,7 @@ use Rattle.bitcursor.specs.Reading.{Out, got, refused, and_then}
 use Rattle.bitcursor.specs.Codes.{BL}
 use Rattle.bitcursor.specs.Doubles.{BD}
 use Rattle.bitcursor.specs.Format.{Input, Format, pure, ◌>>=◌, relay, peek}
-use Rattle.bitcursor.specs.Inputs.{one, both, Places, Payloads}
+use Rattle.bitcursor.specs.Inputs.{one, Places, Payloads}
 use Rattle.bitcursor.specs.Fields.{coded, main, part_in, lifted, moved_in}
 use Rattle.text.specs.declared.Text.{Text}
 use Rattle.text.specs.declared.version.Version.{Version}
@@ -20,7 +20,6 @@ use Rattle.hatch_format.specs.Hatch.{plane}
 use Rattle.hatch_points.specs.Heads.{count_capped}
 use Rattle.hatch_points.specs.Runs.{times_length}
 use Rattle.hatch_front.specs.declared.Gradient.{Gradient}
-use Rattle.hatch_front.specs.declared.Front.{Front}
 use Rattle.hatch_front.specs.declared.gradients.Block.{Block}
 use Rattle.hatch_front.specs.Answers.{ColorsAt, Handed, block_of, gradient_of, shown_of, plane_as, front_of}
 use Rattle.hatch_front.specs.Fronts.{named_as, named, front_with, front}

@@ -9,8 +9,7 @@ use Rattle.bitcursor.specs.Bytes.{low_first}
 use Rattle.bitcursor.specs.Codes.{BS, RC, signed, signed_BS}
 use Rattle.bitcursor.proofs.Steps.{mapped_read}
 use Rattle.bitcursor.specs.Reading.{Out, got, refused, and_then}
-use Rattle.bitcursor.specs.Format.{Input, Format, pure, ◌>>=◌, peek}
-use Rattle.bitcursor.specs.Inputs.{one}
+use Rattle.bitcursor.specs.Format.{Input, pure, ◌>>=◌, peek}
 use Rattle.hatch_format.specs.declared.GradientColorBits.{GradientColorBits}
 use Rattle.hatch_format.specs.Counts.{times}
 use Rattle.hatch_format.specs.Gradients.{color}

@@ -1,23 +1,18 @@
 -- The parts of a front as they are read: field by field, with the colours passed over and the place where they stand kept. Assumes nothing.
-use Rattle.std.specs.Prelude.{◌≡◌, refl, Bool, true, false, List, ℕ, ◌≤◌, leb, length}
-use Rattle.std.proofs.Common.{sym, ap, ap₂, subst, ◌∙◌, arith}
-use Rattle.bitcursor.specs.Reading.{Out, got, refused, and_then}
+use Rattle.std.specs.Prelude.{Bool, true, false, ℕ, leb}
 use Rattle.bitcursor.specs.Codes.{BL}
 use Rattle.bitcursor.specs.Doubles.{BD}
-use Rattle.bitcursor.specs.Format.{Input, Format, pure, ◌>>=◌, relay, peek}
-use Rattle.bitcursor.specs.Inputs.{one, both, Places, Payloads}
-use Rattle.bitcursor.specs.Fields.{coded, main, part_in, lifted}
-use Rattle.text.specs.declared.Text.{Text}
+use Rattle.bitcursor.specs.Format.{Format, pure, ◌>>=◌, peek}
+use Rattle.bitcursor.specs.Inputs.{one, both}
+use Rattle.bitcursor.specs.Fields.{coded, main, part_in}
 use Rattle.text.specs.declared.version.Version.{Version}
 use Rattle.text.specs.Releases.{release_number}
 use Rattle.text.specs.TextField.{TV_field}
 use Rattle.hatch_format.specs.declared.Caps.{Caps}
-use Rattle.hatch_format.specs.declared.GradientColorBits.{GradientColorBits}
-use Rattle.hatch_format.specs.Counts.{bounded, counted, listed_read, listed, times}
-use Rattle.hatch_format.specs.Gradients.{color, block_read, block, gradient_read, gradient}
+use Rattle.hatch_format.specs.Counts.{bounded, times}
+use Rattle.hatch_format.specs.Gradients.{color}
 use Rattle.hatch_format.specs.Hatch.{plane}
 use Rattle.hatch_front.specs.declared.Gradient.{Gradient}
-use Rattle.hatch_front.specs.declared.Plane.{Plane}
 use Rattle.hatch_front.specs.declared.Front.{Front}
 use Rattle.hatch_front.specs.declared.gradients.Block.{Block}
 use Rattle.hatch_front.specs.Answers.{no_gradient_read, shown_of, plane_as}

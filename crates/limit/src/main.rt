@@ -3,14 +3,13 @@
 // It promises nothing of its own: it tests that the calls answer as the Rust does.
 #![tactic(auto)]
 
+use bitcursor::{Reading, Refused};
+use hatch_format::HatchBits;
+use prefix_format::CommonEntityData;
 use std::alloc::{AllocError, Global};
 use std::io;
 use std::io::Write;
-use stored::answers as codes;
-use stored::answers::Code;
-use stored::report::{decimal, write};
-
-mod answers;
+use text::Text;
 
 // Document 01's limit and one more.
 const SIZE: usize = 268_435_457;
@@ -24,161 +23,117 @@ fn zeros(alloc: Global) -> Result<Vec<u8>, AllocError> {
 }
 
 // A line of the list: the request, a tab, the answer. No reading is in the lines that these are compared with.
-fn line<W: Write>(out: &mut W, request: &[u8], answer: Code) -> io::Result<()> {
-    write(out, request)?;
+fn line<W: Write, T: Drop>(
+    out: &mut W,
+    request: &str,
+    answer: Result<T, Refused>,
+) -> io::Result<()> {
     match answer {
-        Code::Refused(k, p) => {
-            write(out, b"\terr ")?;
-            decimal(out, k)?;
-            write(out, b" ")?;
-            decimal(out, p as u64)?;
-            write(out, b" 0\n")
+        Ok(_) => writeln!(out, "{request}\tok"),
+        Err(e) => {
+            let number = u8::from(e.refusal);
+            let place = e.place;
+            writeln!(out, "{request}\terr {number} {place} 0")
         }
-        _ => write(out, b"\tok\n"),
     }
 }
 
-fn hatch_body(s: &[u8], release: u64) -> Code {
-    let mut numbers = [0u64; 1];
-    let mut words = [0u32; 1];
-    answers::of_hatch(hatch::decode_bits(s, START, release, &mut numbers[..0], &mut words[..0]))
+// The hatch body, with the main place of its refusal.
+fn hatch_body(s: &[u8], release: u64) -> Result<HatchBits, Refused> {
+    hatch::decode_bits(s, START, release, &mut [], &mut []).map_err(|e| Refused {
+        refusal: e.refusal,
+        place: e.place.main,
+    })
 }
 
 // An unknown release is refused before the payload's length is looked at.
 fn hatches<W: Write>(out: &mut W, s: &[u8]) -> io::Result<()> {
-    line(out, b"hatch 8 5 z268435457", hatch_body(s, 8))?;
-    line(out, b"hatch 2 5 z268435457", hatch_body(s, 2))
+    line(out, "hatch 8 5 z268435457", hatch_body(s, 8))?;
+    line(out, "hatch 2 5 z268435457", hatch_body(s, 2))
 }
 
-fn prefix(s: &[u8], release: u64) -> Code {
-    answers::of_prefix(common_entity::read_common_entity_bits(s, START, release))
+fn prefix(s: &[u8], release: u64) -> Reading<CommonEntityData<u64>> {
+    common_entity::read_common_entity_data(s, START, release)
 }
 
 // Here too an unknown release comes first.
 fn prefixes<W: Write>(out: &mut W, s: &[u8]) -> io::Result<()> {
-    line(out, b"prefix 2 5 z268435457", prefix(s, 2))?;
-    line(out, b"prefix 8 5 z268435457", prefix(s, 8))
+    line(out, "prefix 2 5 z268435457", prefix(s, 2))?;
+    line(out, "prefix 8 5 z268435457", prefix(s, 8))
 }
 
 fn bits<W: Write>(out: &mut W, s: &[u8]) -> io::Result<()> {
-    line(
-        out,
-        b"b 2 5 z268435457",
-        codes::of_bool(bit_codes::read_b(s, START)),
-    )?;
-    line(
-        out,
-        b"bb 2 5 z268435457",
-        codes::of_read(bit_codes::read_bb(s, START)),
-    )?;
-    line(
-        out,
-        b"3b 2 5 z268435457",
-        codes::of_read(bit_codes::read_3b(s, START)),
-    )
+    line(out, "b 2 5 z268435457", bit_codes::read_b(s, START))?;
+    line(out, "bb 2 5 z268435457", bit_codes::read_bb(s, START))?;
+    line(out, "3b 2 5 z268435457", bit_codes::read_3b(s, START))
 }
 
-fn shorts<W: Write>(out: &mut W, s: &[u8]) -> io::Result<()> {
-    line(
-        out,
-        b"bs 2 5 z268435457",
-        codes::of_i16(bit_codes::read_bs(s, START)),
-    )?;
-    line(
-        out,
-        b"bsu 2 5 z268435457",
-        codes::of_read(bit_codes::read_bs_u(s, START)),
-    )
-}
-
-fn longs<W: Write>(out: &mut W, s: &[u8]) -> io::Result<()> {
-    line(
-        out,
-        b"bl 2 5 z268435457",
-        codes::of_i32(bit_codes::read_bl(s, START)),
-    )?;
-    line(
-        out,
-        b"blu 2 5 z268435457",
-        codes::of_read(bit_codes::read_bl_u(s, START)),
-    )
+fn shorts_and_longs<W: Write>(out: &mut W, s: &[u8]) -> io::Result<()> {
+    line(out, "bs 2 5 z268435457", bit_codes::read_bs(s, START))?;
+    line(out, "bsu 2 5 z268435457", bit_codes::read_bs_u(s, START))?;
+    line(out, "bl 2 5 z268435457", bit_codes::read_bl(s, START))?;
+    line(out, "blu 2 5 z268435457", bit_codes::read_bl_u(s, START))
 }
 
 fn double_and_long_long<W: Write>(out: &mut W, s: &[u8]) -> io::Result<()> {
     line(
         out,
-        b"bd 2 5 z268435457",
-        codes::of_read(bit_codes::read_bd_bits(s, START)),
+        "bd 2 5 z268435457",
+        bit_codes::read_bd::<u64>(s, START),
     )?;
-    line(
-        out,
-        b"bll 2 5 z268435457",
-        codes::of_read(bit_codes::read_bll(s, START)),
-    )
+    line(out, "bll 2 5 z268435457", bit_codes::read_bll(s, START))
 }
 
 fn raw<W: Write>(out: &mut W, s: &[u8]) -> io::Result<()> {
+    line(out, "rc 2 5 z268435457", bit_codes::read_rc(s, START))?;
+    line(out, "rs 2 5 z268435457", bit_codes::read_rs(s, START))?;
+    line(out, "rl 2 5 z268435457", bit_codes::read_rl(s, START))?;
     line(
         out,
-        b"rc 2 5 z268435457",
-        codes::of_read(bit_codes::read_rc(s, START)),
-    )?;
-    line(
-        out,
-        b"rs 2 5 z268435457",
-        codes::of_i16(bit_codes::read_rs(s, START)),
-    )?;
-    line(
-        out,
-        b"rl 2 5 z268435457",
-        codes::of_read(bit_codes::read_rl(s, START)),
-    )?;
-    line(
-        out,
-        b"rd 2 5 z268435457",
-        codes::of_read(bit_codes::read_rd_bits(s, START)),
+        "rd 2 5 z268435457",
+        bit_codes::read_rd::<u64>(s, START),
     )
 }
 
 fn handle_and_default<W: Write>(out: &mut W, s: &[u8]) -> io::Result<()> {
     line(
         out,
-        b"handle 2 5 z268435457",
-        codes::of_handle(bit_codes::read_handle(s, START)),
+        "handle 2 5 z268435457",
+        bit_codes::read_handle(s, START),
     )?;
     line(
         out,
-        b"dd 2 5 z268435457 3ff0000000000000",
-        codes::of_read(bit_codes::read_dd_bits(s, START, 0x3ff0_0000_0000_0000)),
+        "dd 2 5 z268435457 3ff0000000000000",
+        bit_codes::read_dd::<u64>(s, START, 0x3ff0_0000_0000_0000),
     )
 }
 
-fn inline_text(s: &[u8], release: u64) -> Code {
-    answers::of_text(text::read_tv(s, START, release))
+fn inline_text(s: &[u8], release: u64) -> Reading<Text> {
+    text::read_tv(s, START, release)
 }
 
 // Units of one byte, and of two.
 fn texts<W: Write>(out: &mut W, s: &[u8]) -> io::Result<()> {
-    line(out, b"tv 2 5 z268435457", inline_text(s, 2))?;
-    line(out, b"tv 7 5 z268435457", inline_text(s, 7))
+    line(out, "tv 2 5 z268435457", inline_text(s, 2))?;
+    line(out, "tv 7 5 z268435457", inline_text(s, 7))
 }
 
 // The calls that hand over f64, of the same requests.
 fn doubles<W: Write>(out: &mut W, s: &[u8]) -> io::Result<()> {
     line(
         out,
-        b"bd 2 5 z268435457",
-        codes::of_f64(bit_codes::read_bd(s, START)),
+        "bd 2 5 z268435457",
+        bit_codes::read_bd::<f64>(s, START),
     )?;
     line(
         out,
-        b"rd 2 5 z268435457",
-        codes::of_f64(bit_codes::read_rd(s, START)),
+        "rd 2 5 z268435457",
+        bit_codes::read_rd::<f64>(s, START),
     )?;
     line(
         out,
-        b"dd 2 5 z268435457 3ff0000000000000",
-        codes::of_f64(bit_codes::read_dd(s, START, 1.0)),
+        "dd 2 5 z268435457 3ff0000000000000",
+        bit_codes::read_dd::<f64>(s, START, 1.0),
     )
 }
 
@@ -187,8 +142,7 @@ fn replay<W: Write>(out: &mut W, s: &[u8]) -> io::Result<()> {
     hatches(out, s)?;
     prefixes(out, s)?;
     bits(out, s)?;
-    shorts(out, s)?;
-    longs(out, s)?;
+    shorts_and_longs(out, s)?;
     double_and_long_long(out, s)?;
     raw(out, s)?;
     handle_and_default(out, s)?;

@@ -167,8 +167,8 @@ fn is_polyline(bulge: usize, closed: usize, vertices: usize, handles: usize) -> 
     bulge <= 1 && closed <= 1 && vertices <= 100_000 && handles <= 1_024
 }
 
-// Behind a polyline's flags: all its words, the handle count too, which one test finds there. They are judged together, since a test
-// of each in its turn takes twice as long.
+// Behind a polyline's flags: all its words, the handle count too, which one test finds there. All are read before the first is judged, so that the
+// compiler joins the tests.
 #[tactic(auto, using(crate::proofs::Short::polyline_short))]
 fn polyline_head(words: &[u32], at: usize) -> Option<(Head, usize)>
     requires { at ≤ length words.now }

@@ -3,7 +3,7 @@ use mathlib.Core.Path.{◌≡◌, refl, sym, ap, ◌∙◌}
 use mathlib.Core.List.{List}
 use Prim.Native.Nat.{ℕ, zero, suc, ◌+◌, ◌-◌, ◌*◌, ◌/◌, ◌%◌, ◌^◌, ◌≤◌, ◌<◌}
 use native.Mathlib.Nat.{mul_assoc, mul-add-div_right, mul-add-mod_self_right, mod-eq_of_lt, div-eq_of_lt}
-use native.Mathlib.Nat.{lt_of_lt_of_le, zero-add, suc-add, mul-one}
+use native.Mathlib.Nat.{lt_of_lt_of_le, zero-add, add-zero, suc-add, mul-one}
 use native.Mathlib.Omega.{arith}
 use lib.ListN.{length}
 use lib.Pow.{pow-add, pow_pos, pow_mono, high, shl-shr}
@@ -21,6 +21,13 @@ swapped (suc n) x = x / 2 ^ (8 * n) % 256 + 256 * swapped n x
 pub swap_is : (x : ℕ) → swap_bytes w64 x ≡ swapped 8 x
 unfolding swapped
 swap_is x = omega arith
+
+-- the eight bytes of x, each taken by a shift, put together from the other end
+pub eight_swapped : (x : ℕ) {b₀ b₁ b₂ b₃ b₄ b₅ b₆ b₇ : ℕ} → b₀ ≡ x / 2 ^ 0 % 256 → b₁ ≡ x / 2 ^ 8 % 256 → b₂ ≡ x / 2 ^ 16 % 256
+    → b₃ ≡ x / 2 ^ 24 % 256 → b₄ ≡ x / 2 ^ 32 % 256 → b₅ ≡ x / 2 ^ 40 % 256 → b₆ ≡ x / 2 ^ 48 % 256 → b₇ ≡ x / 2 ^ 56 % 256
+    → b₇ + 256 * (b₆ + 256 * (b₅ + 256 * (b₄ + 256 * (b₃ + 256 * (b₂ + 256 * (b₁ + 256 * b₀)))))) ≡ swapped 8 x
+unfolding swapped
+eight_swapped x e₀ e₁ e₂ e₃ e₄ e₅ e₆ e₇ = rw (e₇, e₆, e₅, e₄, e₃, e₂, e₁, e₀, add-zero (x / 1 % 256))
 
 -- the low bytes of a number do not see what stands above them
 swap_low : (n m a b : ℕ) → n ≤ m → swapped n (a * 2 ^ (8 * m) + b) ≡ swapped n b

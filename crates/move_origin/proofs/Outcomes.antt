@@ -108,7 +108,9 @@ module _ {A : Type 0} (m : Arithmetic A) (c : HatchCounts) (ws : List ℕ) (ns :
       -- by the plane, or the origin
       pub refused_before : {r : Result (Unit {0}) MoveRefusal} {k : MoveRefusal} → r ≡ may_move upright (m.in_range x₀ && m.in_range y₀) → r ≡ Err k
           → MovesOrigin m here_outcome x₀ y₀ (Err k) ns ns
-      refused_before {r} {k} e f = refuses_so (outcome_is ∙ by (m.in_range x₀) (m.in_range y₀) upright (all_in_range m.in_range (held_roles h.hatch) ns) (sym e ∙ f))
+      refused_before {r} {k} e f =
+          refuses_so
+          (outcome_is ∙ by (m.in_range x₀) (m.in_range y₀) upright (all_in_range m.in_range (held_roles h.hatch) ns) (sym e ∙ f))
         where
           by : (x y u a : Bool) → may_move u (x && y) ≡ Err k → judged (held_roles h.hatch) u (x && (y && a)) ≡ refuses k
           by x y false a g = cc

@@ -3,7 +3,7 @@
 // Contracts are equations with crate moved_hatch: whether every coordinate is in range, and every entry of the list afterwards.
 #![tactic(auto)]
 
-ghost use Rattle.std.specs.Prelude.{◌≡◌, ◌+◌, ◌*◌, ◌≤◌, ◌&&◌, length};
+ghost use Rattle.std.specs.Prelude.{◌≡◌, ◌+◌, ◌*◌, ◌≤◌, length};
 ghost use Rattle.hatch_lists.specs.Coordinates.{point_run, item_roles};
 ghost use Rattle.hatch_lists.specs.Items.{item_size};
 ghost use Rattle.moved_hatch.specs.Parts.{moved_from, in_range_from, Movable};

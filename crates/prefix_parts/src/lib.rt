@@ -66,7 +66,9 @@ pub struct Tail {
     pub lineweight: u8,
 }
 
+// The five are put into their one caller, so that no part is handed over by memory.
 #[tactic(auto, using(bitcursor::proofs::Steps::reading), unfolding(crate::specs::Parts::head))]
+#[inline(always)]
 pub fn read_head(s: &[u8], at: usize, row: Row) -> Reading<Head>
     requires { length s.now ≤ limit }
     ensures { outcome result ≡ (head row).read s.now at }
@@ -83,6 +85,7 @@ pub fn read_head(s: &[u8], at: usize, row: Row) -> Reading<Head>
 }
 
 #[tactic(auto, using(bitcursor::proofs::Steps::reading, bitcursor::proofs::Smalls::smalls), unfolding(crate::specs::Parts::modes, bitcursor::specs::Codes::BB))]
+#[inline(always)]
 pub fn read_modes(s: &[u8], at: usize, row: Row) -> Reading<Modes>
     requires { length s.now ≤ limit }
     ensures { outcome result ≡ (modes row).read s.now at }
@@ -134,6 +137,7 @@ fn present_fields(row: Row, colour: u64) -> PresentFields
 }
 
 #[tactic(auto, using(bitcursor::proofs::Steps::reading, bitcursor::proofs::Smalls::smalls), unfolding(crate::specs::Parts::colours))]
+#[inline(always)]
 pub fn read_colours(s: &[u8], at: usize, row: Row) -> Reading<Colours>
     requires { length s.now ≤ limit }
     ensures { outcome result ≡ (colours row).read s.now at }
@@ -163,6 +167,7 @@ pub fn read_colours(s: &[u8], at: usize, row: Row) -> Reading<Colours>
 
 // An RC is read as eight bits (here and below): that is one comparison less than a byte's reader has.
 #[tactic(auto, using(bitcursor::proofs::Steps::reading, sequence::specs::OneByte::held_byte), unfolding(crate::specs::Parts::styles, bitcursor::specs::Codes::BB))]
+#[inline(always)]
 pub fn read_styles(s: &[u8], at: usize, row: Row) -> Reading<Styles>
     requires { length s.now ≤ limit }
     ensures { outcome result ≡ (styles row).read s.now at }
@@ -183,6 +188,7 @@ pub fn read_styles(s: &[u8], at: usize, row: Row) -> Reading<Styles>
 }
 
 #[tactic(auto, using(bitcursor::proofs::Steps::reading, bitcursor::proofs::Smalls::smalls, sequence::specs::OneByte::held_byte), unfolding(crate::specs::Parts::tail, bitcursor::specs::Codes::signed_BS))]
+#[inline(always)]
 pub fn read_tail(s: &[u8], at: usize, row: Row) -> Reading<Tail>
     requires { length s.now ≤ limit }
     ensures { outcome result ≡ (tail row).read s.now at }

@@ -12,8 +12,10 @@ ghost use Rattle.loads.specs.Bits.{limit};
 
 use bitcursor::{Reading, within};
 
-// n bits (BB, RC), if the release has them; else 0.
+// n bits (BB, RC), if the release has them; else 0. This and the next stand in a row of fields many times, and the compiler would leave them calls that
+// hand their answers over by memory: so they are marked.
 #[tactic(auto, using(bitcursor::proofs::Steps::reading), unfolding(bitcursor::specs::Held::held))]
+#[inline(always)]
 pub fn held_bits(s: &[u8], at: usize, n: usize, has: bool) -> Reading<u8>
     requires { (length s.now ≤ limit) × ((1 ≤ n) × (n ≤ 8)) }
     ensures { outcome result ≡ (held has (raw n) 0).read s.now at }
@@ -37,6 +39,7 @@ pub fn read_flag(s: &[u8], at: usize) -> Reading<bool>
 
 // B, if the release has it.
 #[tactic(auto, using(bitcursor::proofs::Steps::reading), unfolding(bitcursor::specs::Held::held))]
+#[inline(always)]
 pub fn held_flag(s: &[u8], at: usize, has: bool, absent: bool) -> Reading<bool>
     requires { length s.now ≤ limit }
     ensures { outcome result ≡ (held has B absent).read s.now at }

@@ -45,7 +45,7 @@ fn put_tail(answer: &mut Answer, b: &CommonEntityData<u64>) {
 }
 
 pub fn answer(record: &Record) -> Answer {
-    match common_entity::read_common_entity_bits(record.payload, record.start, record.release) {
+    match common_entity::read_common_entity_data(record.payload, record.start, record.release) {
         Ok((b, place)) => {
             let mut answer = Answer::read(place, 0);
             put_modes(&mut answer, &b);

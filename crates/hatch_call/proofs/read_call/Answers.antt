@@ -1,8 +1,6 @@
 -- The tests come in document 01's order, and each refuses with its places; the body is read from the main start and from where the string reader stands.
-use Rattle.std.specs.Prelude.{◌≡◌, ◌*◌, length, Some, None}
-use Rattle.std.proofs.Common.{sym, ◌∙◌}
+use Rattle.std.proofs.Common.{sym}
 use Rattle.text.specs.Answers.{payloads_to}
-use Rattle.text.specs.Releases.{version_of}
 use Rattle.hatch_format.specs.HandleRule.{in_payload}
 use Rattle.hatch_points.specs.Lists.{lists}
 use Rattle.hatch_call.proofs.CallLaws.{unknown, main_long, string_long, not_started, started, refused_is, call_as, known_version, unknown_version}

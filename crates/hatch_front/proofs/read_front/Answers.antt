@@ -1,13 +1,8 @@
 -- What was passed over field by field is what the front reads, and its colours stand where it says.
-use Rattle.std.proofs.Common.{rules, sym, subst}
-use Rattle.std.specs.Prelude.{◌≡◌, leb}
-use Rattle.bitcursor.specs.Reading.{Out, got}
-use Rattle.bitcursor.specs.Inputs.{Places}
+use Rattle.std.proofs.Common.{rules, subst}
 use Rattle.bitcursor.specs.Format.{◌>>=◌, pure}
-use Rattle.bitcursor.specs.Answers.{outcome}
 use Rattle.bitcursor.specs.Fields.{part_in}
 use Rattle.text.specs.Answers.{payloads_to}
-use Rattle.hatch_front.specs.declared.Front.{Front}
 use Rattle.hatch_front.specs.Fronts.{front}
 use Rattle.hatch_front.specs.Answers.{Handed, front_of}
 use Rattle.hatch_front.specs.Passed.{front_passed}

@@ -15,4 +15,5 @@ pub returns-else-points_within : goal.returns-else-points_within
 returns-else-points_within g c =
     let a = c.args in
     sym (item_in_range a.i a.from g.C.Coordinate.within c.requires.0.from_two a.numbers.now
-    ∙ ap (λ b. b && in_range_from g.C.Coordinate.within (fits_at a.i a.from) (fits a.i a.from) a.numbers.now) (sym c.points_within.ensures ∙ c.if-points_within.false) ∙ sym c.if-points_within.false)
+    ∙ ap (λ b. b && in_range_from g.C.Coordinate.within (fits_at a.i a.from) (fits a.i a.from) a.numbers.now)
+    (sym c.points_within.ensures ∙ c.if-points_within.false) ∙ sym c.if-points_within.false)

@@ -2,7 +2,6 @@
 use Rattle.std.specs.Prelude.{List, ◌<◌, map}
 use Rattle.std.proofs.Common.{sym, ap, ap₂, ◌∙◌, arith}
 use lib.ListN.{set}
-use Rattle.hatch_format.specs.declared.GradientColorBits.{GradientColorBits}
 use Rattle.hatch_front.specs.Answers.{sixteen_of}
 use Rattle.hatch_front.proofs.ColorLaws.{none_read, one_read, one_refused, all_read, filled, filled_none, filled_all, filled_more, set_as}
 use Rattle.hatch_front.proofs.colors.read_colors.Goals as goal
