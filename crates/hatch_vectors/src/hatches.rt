@@ -15,7 +15,7 @@ fn call(
 ) -> Result<HatchBits, Refused<Places>> {
     let main = record.payload;
     if record.kind == Kind::HatchWithStrings {
-        return hatch::decode_with_strings_bits(
+        return hatch::decode_with_strings(
             main,
             record.start,
             record.strings,
@@ -26,7 +26,7 @@ fn call(
             words,
         );
     }
-    hatch::decode_bits(main, record.start, record.release, numbers, words)
+    hatch::decode(main, record.start, record.release, numbers, words)
 }
 
 // A reading: the record, and the entries used of both lists; none where the room is full or the seed points' part is another one.

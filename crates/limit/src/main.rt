@@ -40,7 +40,7 @@ fn line<W: Write, T: Drop>(
 
 // The hatch body, with the main place of its refusal.
 fn hatch_body(s: &[u8], release: u64) -> Result<HatchBits, Refused> {
-    hatch::decode_bits(s, START, release, &mut [], &mut []).map_err(|e| Refused {
+    hatch::decode(s, START, release, &mut [], &mut []).map_err(|e| Refused {
         refusal: e.refusal,
         place: e.place.main,
     })
