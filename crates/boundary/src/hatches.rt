@@ -211,26 +211,26 @@ impl From<HatchRead<u64, GradientColorBits>> for BodyBitsAnswer {
 // The answer of a call, with the colours read once more where there are some. Where there are none it is made at once; the two ways are calls of their
 // own, since one answer for both would be copied field by field.
 #[tactic(auto, using(hatch_record::proofs::RecordLaws::plain_is))]
-pub fn answer(main: &[u8], read: BodyRead) -> BodyAnswer
-    requires { Readable main.now read }
-    ensures { result ≡ body_answer (answer_in double color_as_doubles main.now read) }
+pub fn answer(main: &[u8], read: &BodyRead) -> BodyAnswer
+    requires { Readable main.now read.now }
+    ensures { result ≡ body_answer (answer_in double color_as_doubles main.now read.now) }
 {
-    if 0 < hatch_record::num_colors(read) {
-        return hatch_record::colored::<f64, GradientColor>(main, read).into();
+    if 0 < hatch_record::num_colors(*read) {
+        return hatch_record::colored::<f64, GradientColor>(main, *read).into();
     }
-    hatch_record::plain::<f64, GradientColor>(read).into()
+    hatch_record::plain::<f64, GradientColor>(*read).into()
 }
 
 // The same with each double as its 64 bits.
 #[tactic(auto, using(hatch_record::proofs::RecordLaws::plain_is))]
-pub fn answer_bits(main: &[u8], read: BodyRead) -> BodyBitsAnswer
-    requires { Readable main.now read }
-    ensures { result ≡ body_bits (answer_in (λ bits. bits) (λ color. color) main.now read) }
+pub fn answer_bits(main: &[u8], read: &BodyRead) -> BodyBitsAnswer
+    requires { Readable main.now read.now }
+    ensures { result ≡ body_bits (answer_in (λ bits. bits) (λ color. color) main.now read.now) }
 {
-    if 0 < hatch_record::num_colors(read) {
-        return hatch_record::colored::<u64, GradientColorBits>(main, read).into();
+    if 0 < hatch_record::num_colors(*read) {
+        return hatch_record::colored::<u64, GradientColorBits>(main, *read).into();
     }
-    hatch_record::plain::<u64, GradientColorBits>(read).into()
+    hatch_record::plain::<u64, GradientColorBits>(*read).into()
 }
 
 impl From<LengthsRead> for LengthsAnswer {
