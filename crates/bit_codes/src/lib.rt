@@ -30,8 +30,7 @@ pub fn read_b(s: &[u8], at: usize) -> Reading<bool>
     ensures { outcome result ≡ limited B.read s.now at }
 {
     within_limit(s, at)?;
-    let (bit, p) = within::read_bits(s, at, 1)?;
-    Ok((bit == 1, p))
+    within::read_flag(s, at)
 }
 
 // BB: two bits.

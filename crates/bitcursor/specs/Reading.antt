@@ -27,6 +27,12 @@ module _ {P : Type 0} where
   and_then (got a q) k = k a q
   and_then (refused n q) k = refused n q
 
+  -- readings one behind the other, however they are taken together
+  pub chained : {A B C : Type 0} (o : Out P A) (f : A → P → Out P B) (g : B → P → Out P C)
+      → and_then (and_then o f) g ≡ and_then o (λ a q. and_then (f a q) g)
+  chained (got a q) f g = refl
+  chained (refused n q) f g = refl
+
   pub never : {A X : Type 0} {n : Refusal} {p q : P} {a : A} → refused n p ≡ got a q → X
   never {A} {X} e = subst F e tt
     where

@@ -2,7 +2,7 @@
 ghost use Rattle.std.specs.Prelude.{◌≡◌, ◌+◌, ◌/◌, ◌^◌, ◌≤◌, ◌<◌, length};
 ghost use Rattle.bitcursor.specs.Code.{raw};
 ghost use Rattle.bitcursor.specs.Bytes.{low_first, high_first, skip};
-ghost use Rattle.bitcursor.specs.Codes.{by_tag, BS, BL};
+ghost use Rattle.bitcursor.specs.Codes.{by_tag, B, BS, BL};
 ghost use Rattle.bitcursor.specs.Doubles.{BD, DD, four, six};
 ghost use Rattle.bitcursor.specs.Handles.{BLL, HANDLE, HANDLE_value};
 ghost use Rattle.bitcursor.specs.Answers.{outcome, passing};
@@ -25,6 +25,16 @@ pub fn read_bits(s: &[u8], at: usize, n: usize) -> Reading<u64>
         return refuse(Refusal::TooFewBits, at);
     }
     Ok((loads::bits_at(s, at, n), at + n))
+}
+
+// B.
+#[tactic(auto, using(crate::proofs::Steps::reading), unfolding(crate::specs::Codes::B, crate::specs::Codes::B_read))]
+pub fn read_flag(s: &[u8], at: usize) -> Reading<bool>
+    requires { length s.now ≤ limit }
+    ensures { outcome result ≡ B.read s.now at }
+{
+    let (v, p) = read_bits(s, at, 1)?;
+    Ok((v == 1, p))
 }
 
 // Past n bytes, by one comparison.

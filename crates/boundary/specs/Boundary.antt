@@ -4,9 +4,9 @@ use Rattle.std.specs.Prelude.{Bool, false, ℕ, ℤ, pos, Float}
 use Rattle.std.specs.Float.Ieee.{of_bits}
 use Rattle.std.specs.Float.{binary64}
 use Rattle.bitcursor.specs.declared.Handle.{Handle}
-use Rattle.text.specs.declared.Source.{Source}
-use Rattle.text.specs.declared.Source.TheVariants.{Absent, Main, String}
+use Rattle.text.specs.declared.Source.TheVariants.{Absent}
 use Rattle.text.specs.declared.Text.{Text}
+use Rattle.text.specs.Answers.{source_number}
 use Rattle.loads.specs.Bits.{bit}
 use Rattle.bitcursor.specs.Reading.{Out, got, refused}
 use Rattle.bitcursor.specs.Refusals.{refusal_number}
@@ -50,11 +50,6 @@ abbrev pub handle_answer : Out ℕ Handle → HandleAnswer
 handle_answer o =
     let h = value_or no_handle o in
     record { refusal = number o; place = place o; code = h.code; counter = h.counter; value = h.value }
-
-abbrev pub source_number : Source → ℕ
-source_number Absent = 0
-source_number Main = 1
-source_number String = 2
 
 abbrev pub no_text : Text
 no_text = record { source = Absent; width = 0; padded = false; position = 0; count = 0 }

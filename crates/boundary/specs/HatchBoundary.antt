@@ -5,12 +5,12 @@ use Rattle.bitcursor.specs.declared.Refused.{Refused}
 use Rattle.bitcursor.specs.Inputs.{Places}
 use Rattle.bitcursor.specs.Refusals.{refusal_number}
 use Rattle.text.specs.declared.Text.{Text}
+use Rattle.text.specs.Answers.{source_number}
 use Rattle.hatch_format.specs.declared.GradientColor.{GradientColor}
 use Rattle.hatch_format.specs.declared.GradientFill.{GradientFill}
 use Rattle.hatch_format.specs.declared.Hatch.{Hatch}
 use Rattle.hatch_format.specs.Record.{GradientFillBits, HatchBits, as_doubles, zero_record}
 use Rattle.hatch_record.specs.declared.Lengths.{Lengths}
-use Rattle.boundary.specs.Boundary.{source_number}
 use Rattle.boundary.specs.declared.bodies.TextFields.{TextFields}
 use Rattle.boundary.specs.declared.bodies.GradientFields.{GradientFields}
 use Rattle.boundary.specs.declared.bodies.GradientBits.{GradientBits}

@@ -1,7 +1,7 @@
 // The answers of the calls as numbers: what crosses the boundary in place of a Result.
 ghost use Rattle.std.specs.Prelude.{◌≡◌};
 ghost use Rattle.bitcursor.specs.Answers.{outcome};
-ghost use Rattle.boundary.specs.Boundary.{number, place, value_or, source_number};
+ghost use Rattle.boundary.specs.Boundary.{number, place, value_or};
 ghost use Rattle.boundary.specs.Boundary.{code_answer, bool_answer, signed_answer, double_answer, handle_answer, text_answer};
 
 use crate::{CodeAnswer, DoubleAnswer, HandleAnswer, SignedAnswer, TextAnswer};
@@ -105,17 +105,6 @@ impl From<Reading<Handle>> for HandleAnswer {
     }
 }
 
-// Which payload a text lies in, as a number.
-pub fn source_number(source: Source) -> u8
-    ensures { result ≡ source_number source }
-{
-    match source {
-        Source::Absent => 0,
-        Source::Main => 1,
-        Source::String => 2,
-    }
-}
-
 // What stands for a text on a refusal, and for the name of a hatch that has none.
 pub const NO_TEXT: Text = Text {
     source: Source::Absent,
@@ -133,7 +122,7 @@ impl From<Reading<Text>> for TextAnswer {
         TextAnswer {
             refusal,
             place,
-            source: source_number(t.source),
+            source: t.source.into(),
             width: t.width,
             padded: t.padded,
             position: t.position,

@@ -6,7 +6,6 @@ ghost use Rattle.hatch_record.specs.Records.{answer_in};
 ghost use Rattle.boundary.specs.HatchBoundary.{text_fields, gradient_fields, gradient_bits, body_fields, body_with, bits_with};
 ghost use Rattle.boundary.specs.HatchBoundary.{body_answer, body_bits, lengths_answer};
 
-use crate::answers;
 use crate::answers::NO_TEXT;
 use crate::bodies::{
     BodyAnswer, BodyBitsAnswer, BodyFields, GradientBits, GradientFields, LengthsAnswer, TextFields,
@@ -27,7 +26,7 @@ impl From<Text> for TextFields {
 
     fn from(text: Text) -> TextFields {
         TextFields {
-            source: answers::source_number(text.source),
+            source: text.source.into(),
             width: text.width,
             padded: text.padded,
             position: text.position,

@@ -1,6 +1,5 @@
 // What moving a hatch's points gives.
 ghost use Rattle.std.specs.Prelude.{◌≡◌};
-ghost use Rattle.moved_hatch.specs.Moving.{move_refusal_number};
 ghost use Rattle.boundary.specs.MoveBoundary.{move_answer};
 
 use moved_hatch::MoveRefusal;
@@ -14,23 +13,13 @@ pub struct MoveAnswer {
     pub string_place: usize,
 }
 
-fn number(refusal: MoveRefusal) -> u64
-    ensures { result ≡ move_refusal_number refusal }
-{
-    match refusal {
-        MoveRefusal::ListsNotWhole => 11,
-        MoveRefusal::OtherPlane => 12,
-        MoveRefusal::CoordinateOutOfRange => 13,
-    }
-}
-
 impl From<Result<(), MoveRefusal>> for MoveAnswer {
     ghost from_gives = { λ outcome answer. answer ≡ move_answer outcome };
 
     fn from(outcome: Result<(), MoveRefusal>) -> MoveAnswer {
         let refusal = match outcome {
             Ok(()) => 0,
-            Err(refusal) => number(refusal),
+            Err(refusal) => u64::from(u8::from(refusal)),
         };
         MoveAnswer {
             refusal,

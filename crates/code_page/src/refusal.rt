@@ -1,4 +1,7 @@
 // Why a list is not converted: an entry stands for nothing in the code page, or the output is shorter than the input.
+ghost use Rattle.std.specs.Prelude.{◌≡◌};
+ghost use Rattle.code_page.specs.Conversion.{conversion_refusal_number};
+
 use std::error::Error;
 use std::fmt;
 
@@ -6,6 +9,18 @@ use std::fmt;
 pub enum ConversionRefusal {
     UndefinedCharacter,
     OutputTooShort,
+}
+
+// The numbers of document 02's table.
+impl From<ConversionRefusal> for u8 {
+    ghost from_gives = { λ refusal number. number ≡ conversion_refusal_number refusal };
+
+    fn from(refusal: ConversionRefusal) -> u8 {
+        match refusal {
+            ConversionRefusal::UndefinedCharacter => 14,
+            ConversionRefusal::OutputTooShort => 11,
+        }
+    }
 }
 
 impl fmt::Display for ConversionRefusal {

@@ -1,7 +1,7 @@
 -- The fields of a spline in front of its lists, as the code reads them, and what stands behind them. Assumes nothing.
-use Rattle.std.specs.Prelude.{◌≡◌, refl, Bool, List, [], ◌∷◌, ℕ}
+use Rattle.std.specs.Prelude.{◌≡◌, Bool, List, [], ◌∷◌, ℕ}
 use Rattle.loads.specs.Bits.{bit}
-use Rattle.bitcursor.specs.Reading.{Out, got, refused, and_then}
+use Rattle.bitcursor.specs.Reading.{chained}
 use Rattle.bitcursor.specs.Codes.{B, BL}
 use Rattle.bitcursor.specs.Format.{Format, pure, ◌>>=◌}
 use Rattle.bitcursor.specs.Inputs.{one}
@@ -30,11 +30,6 @@ abbrev pub spline_after_counts : Caps → Bool → SplineHead → Format one Ent
 spline_after_counts caps b h = do
   lists ← spline_lists_walk caps b h.rational h.knots h.controls
   pure (plus (words (head_words h)) lists)
-
--- readings one behind the other, however they are taken together
-chained : {A B C : Type 0} (o : Out ℕ A) (f : A → ℕ → Out ℕ B) (g : B → ℕ → Out ℕ C) → and_then (and_then o f) g ≡ and_then o (λ a q. and_then (f a q) g)
-chained (got a q) f g = refl
-chained (refused n q) f g = refl
 
 pub spline_reads : (xs : List ℕ) (caps : Caps) (b : Bool) (p : ℕ) → (spline_head caps >>= spline_after_counts caps b).read xs p ≡ (spline_walk caps b).read xs p
 unfolding spline_walk spline_head ◌>>=◌ pure

@@ -13,10 +13,10 @@ ghost use Rattle.hatch_format.specs.Caps.{document_caps, NowhereAbove};
 
 use crate::Rules;
 use bitcursor::values::Number;
-use bitcursor::{Reading, Refusal, refuse};
+use bitcursor::{Reading, Refusal, refuse, within};
 use hatch_format::Caps;
 use hatch_points::lists::Sizes;
-use hatch_points::{counts, flags, lists, runs, vertices};
+use hatch_points::{counts, lists, runs, vertices};
 
 // A spline's fields in front of its lists.
 #[derive(Clone, Copy, Debug, PartialEq, Eq)]
@@ -51,7 +51,7 @@ fn put_bit(s: &[u8], at: usize, words: &mut [u32], z: Sizes) -> Reading<Sizes>
     requires { Ready s.now at z }
     ensures { WordWalks s.now (bit_walk.read s.now at) words.old z words.new result }
 {
-    let (v, p) = flags::read_flag(s, at)?;
+    let (v, p) = within::read_flag(s, at)?;
     lists::put_word(words, z.words, u64::from(v));
     Ok((z.with_words(1), p))
 }
@@ -115,8 +115,8 @@ fn read_spline_head(s: &[u8], at: usize, caps: Caps) -> Reading<SplineHead>
     ensures { outcome result ≡ (spline_head caps).read s.now at }
 {
     let (degree, p) = bitcursor::within::read_bl_u(s, at)?;
-    let (rational, q) = flags::read_flag(s, p)?;
-    let (periodic, r) = flags::read_flag(s, q)?;
+    let (rational, q) = within::read_flag(s, p)?;
+    let (periodic, r) = within::read_flag(s, q)?;
     let (knots, t) = counts::read_count(s, r, caps.knots)?;
     let (controls, u) = counts::read_count(s, t, caps.control_points)?;
     let head = SplineHead {

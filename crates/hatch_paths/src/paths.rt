@@ -10,11 +10,11 @@ ghost use Rattle.hatch_points.specs.Lists.{lists, Ready, Walks, WordWalks};
 ghost use Rattle.hatch_format.specs.Caps.{document_caps, NowhereAbove};
 
 use crate::{Rules, edges};
-use bitcursor::Reading;
 use bitcursor::values::Number;
+use bitcursor::{Reading, within};
 use hatch_format::Caps;
 use hatch_points::lists::Sizes;
-use hatch_points::{counts, flags, lists, vertices};
+use hatch_points::{counts, lists, vertices};
 
 fn put_polyline_head(words: &mut [u32], at: usize, bulge: bool, closed: bool, n: u64)
     requires { (at + 3 < 2 ^ 64) × (n < 2 ^ 32) }
@@ -38,8 +38,8 @@ fn decode_polyline_path<N: Number>(
     ensures { Walks N.of_bits s.now ((polyline_walk caps).read s.now at)
         (lists numbers.old words.old) z (lists numbers.new words.new) result }
 {
-    let (bulge, p) = flags::read_flag(s, at)?;
-    let (closed, q) = flags::read_flag(s, p)?;
+    let (bulge, p) = within::read_flag(s, at)?;
+    let (closed, q) = within::read_flag(s, p)?;
     let (n, r) = counts::read_count(s, q, caps.vertices)?;
     put_polyline_head(words, z.words, bulge, closed, n);
     vertices::decode_points(s, r, n as usize, bulge, numbers, z.with_words(3))

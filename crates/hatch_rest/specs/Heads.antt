@@ -1,6 +1,6 @@
 -- The fields of a pattern in front of its lines, as the code reads them, and what stands behind them. Assumes nothing.
-use Rattle.std.specs.Prelude.{◌≡◌, refl, false, List, ℕ}
-use Rattle.bitcursor.specs.Reading.{Out, got, refused, and_then}
+use Rattle.std.specs.Prelude.{◌≡◌, false, List, ℕ}
+use Rattle.bitcursor.specs.Reading.{chained}
 use Rattle.bitcursor.specs.Codes.{B, BS}
 use Rattle.bitcursor.specs.Doubles.{BD}
 use Rattle.bitcursor.specs.Format.{Format, pure, ◌>>=◌, relay}
@@ -25,11 +25,6 @@ abbrev pub pattern_after_head : Caps → Pattern → Format one PatternValue
 pattern_after_head caps h = do
   lines ← times h.lines (pattern_line caps.dashes)
   pure (record { angle = h.angle; scale = h.scale; double = h.double; lines = lines })
-
--- readings one behind the other, however they are taken together
-chained : {A B C : Type 0} (o : Out ℕ A) (f : A → ℕ → Out ℕ B) (g : B → ℕ → Out ℕ C) → and_then (and_then o f) g ≡ and_then o (λ a q. and_then (f a q) g)
-chained (got a q) f g = refl
-chained (refused n q) f g = refl
 
 pub pattern_reads : (xs : List ℕ) (caps : Caps) (p : ℕ)
     → (pattern caps false).read xs p ≡ (pattern_head caps.pattern_lines >>= pattern_after_head caps).read xs p

@@ -15,7 +15,7 @@ use bitcursor::values::Number;
 use bitcursor::{Reading, within};
 use hatch_format::Caps;
 use hatch_points::lists::Sizes;
-use hatch_points::{counts, flags, lists, runs};
+use hatch_points::{counts, lists, runs};
 
 // What a hatch has that is not solid, with the count of its lines; zero where it is.
 #[derive(Clone, Copy, Debug, PartialEq, Eq)]
@@ -90,7 +90,7 @@ fn read_pattern_head(s: &[u8], at: usize, cap: usize) -> Reading<Pattern>
 {
     let (angle, p) = within::read_bd_bits(s, at)?;
     let (scale, p) = within::read_bd_bits(s, p)?;
-    let (double, p) = flags::read_flag(s, p)?;
+    let (double, p) = within::read_flag(s, p)?;
     let (n, p) = counts::read_short_count(s, p, cap)?;
     let pattern = Pattern {
         angle,

@@ -10,12 +10,12 @@ ghost use Rattle.hatch_rest.specs.Rests.{no_sizes, rest_of, rest_entries};
 
 use crate::patterns;
 use crate::patterns::Tail;
-use bitcursor::Reading;
 use bitcursor::values::Number;
+use bitcursor::{Reading, within};
 use hatch_format::Caps;
 use hatch_paths::{Rules, paths};
+use hatch_points::counts;
 use hatch_points::lists::Sizes;
-use hatch_points::{counts, flags};
 use text::version::Version;
 
 #[derive(Clone, Copy, Debug, PartialEq, Eq)]
@@ -39,8 +39,8 @@ pub fn decode_rest<N: Number>(
         (lists numbers.old words.old) no_sizes (lists numbers.new words.new) result }
 {
     let fits = v.is_from(Version::R2010);
-    let (solid, p) = flags::read_flag(s, at)?;
-    let (associative, p) = flags::read_flag(s, p)?;
+    let (solid, p) = within::read_flag(s, at)?;
+    let (associative, p) = within::read_flag(s, p)?;
     let (n, p) = counts::read_count(s, p, caps.paths)?;
     let count = n as usize;
     let none = Sizes {

@@ -3,6 +3,9 @@
 // specs/ have the order of refusals and every entry afterwards; they prove that a moved hatch is whole, and proofs/ how near each difference is.
 #![tactic(auto)]
 
+ghost use Rattle.std.specs.Prelude.{◌≡◌};
+ghost use Rattle.moved_hatch.specs.Moving.{move_refusal_number};
+
 use std::error::Error;
 use std::fmt;
 
@@ -12,6 +15,19 @@ pub enum MoveRefusal {
     ListsNotWhole,
     OtherPlane,
     CoordinateOutOfRange,
+}
+
+// The numbers of document 02's table.
+impl From<MoveRefusal> for u8 {
+    ghost from_gives = { λ refusal number. number ≡ move_refusal_number refusal };
+
+    fn from(refusal: MoveRefusal) -> u8 {
+        match refusal {
+            MoveRefusal::ListsNotWhole => 11,
+            MoveRefusal::OtherPlane => 12,
+            MoveRefusal::CoordinateOutOfRange => 13,
+        }
+    }
 }
 
 impl fmt::Display for MoveRefusal {

@@ -62,7 +62,7 @@ pub fn skip_graphics(s: &[u8], at: usize, bll: bool) -> Reading<bool>
     requires { length s.now ≤ limit }
     ensures { outcome result ≡ (graphics bll).read s.now at }
 {
-    let (had, p) = sequence::read_flag(s, at)?;
+    let (had, p) = within::read_flag(s, at)?;
     if !had {
         return Ok((false, p));
     }

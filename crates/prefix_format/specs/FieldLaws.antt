@@ -121,7 +121,8 @@ module _ (xs : List ℕ) where
           let b : Block = record { size = size; appid = appid } in
           (b ∷ c.0, c.1 ∙ seen_one c.0, omega (arith, c.2), (c.3.0, (t, (eqb-false size 0 e, (r, m, (s, h, y))), c.3.1), c.3.2))
 
-  chain_from : (n : ℕ) (had : Bool) (blocks : List Block) {p q : ℕ} → length blocks < n → BlocksLaid blocks p q → Laid (chain n had).codes xs (seen had blocks) p q
+  chain_from : (n : ℕ) (had : Bool) (blocks : List Block) {p q : ℕ} → length blocks < n → BlocksLaid blocks p q
+      → Laid (chain n had).codes xs (seen had blocks) p q
   unfolding chain checked
   chain_from zero had blocks h l = absurd (omega arith)
   chain_from (suc n) had [] h l = joined _ _ 0 (rw l.1 at l.2) (of_no_bits had refl refl)

@@ -27,16 +27,6 @@ pub fn held_bits(s: &[u8], at: usize, n: usize, has: bool) -> Reading<u8>
     Ok((v as u8, p))
 }
 
-// B.
-#[tactic(auto, using(bitcursor::proofs::Steps::reading), unfolding(bitcursor::specs::Codes::B, bitcursor::specs::Codes::B_read))]
-pub fn read_flag(s: &[u8], at: usize) -> Reading<bool>
-    requires { length s.now ≤ limit }
-    ensures { outcome result ≡ B.read s.now at }
-{
-    let (v, p) = within::read_bits(s, at, 1)?;
-    Ok((v == 1, p))
-}
-
 // B, if the release has it.
 #[tactic(auto, using(bitcursor::proofs::Steps::reading), unfolding(bitcursor::specs::Held::held))]
 #[inline(always)]
@@ -47,7 +37,7 @@ pub fn held_flag(s: &[u8], at: usize, has: bool, absent: bool) -> Reading<bool>
     if !has {
         return Ok((absent, at));
     }
-    read_flag(s, at)
+    within::read_flag(s, at)
 }
 
 // BL, or nothing.

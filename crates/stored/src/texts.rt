@@ -1,21 +1,13 @@
 // A text's answer as a list of numbers. The calls say where the units lie and how many they are, and no unit itself: so the units are read
 // here, one after the other, by the codes RC and RS.
 use crate::answers::Answer;
-use text::{Source, Text};
+use text::Text;
 
 // Stands for a unit that cannot be read; no unit is so large.
 const NO_UNIT: u64 = 0x1_0000;
 
 // No answer has room for so many units.
 const MOST_UNITS: usize = 1024;
-
-fn source_number(source: Source) -> u64 {
-    match source {
-        Source::Absent => 0,
-        Source::Main => 1,
-        Source::String => 2,
-    }
-}
 
 // The unit at `at` and the place after it. An RS is signed and a unit is not: its 16 bits are the unit.
 fn unit(s: &[u8], at: usize, width: u8) -> Option<(u64, usize)> {
@@ -42,7 +34,7 @@ fn put_units(answer: &mut Answer, s: &[u8], t: Text) {
 // Puts a text of the payload `s` behind the values of `answer`: its source, its width, its position, its count, 1 where it is padded,
 // and its units. A text is cut where the room ends, but its count is not, and the list has no such count.
 pub fn put(answer: &mut Answer, s: &[u8], t: Text) {
-    answer.push(source_number(t.source));
+    answer.push(u8::from(t.source));
     answer.push(t.width);
     answer.push(t.position as u64);
     answer.push(t.count as u64);

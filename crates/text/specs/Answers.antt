@@ -7,12 +7,18 @@ use Rattle.bitcursor.specs.Code.{measured}
 use Rattle.bitcursor.specs.Codes.{BS}
 use Rattle.bitcursor.specs.Inputs.{Payloads}
 use Rattle.text.specs.declared.Source.{Source}
-use Rattle.text.specs.declared.Source.TheVariants.{Main, String}
+use Rattle.text.specs.declared.Source.TheVariants.{Absent, Main, String}
 use Rattle.text.specs.declared.Text.{Text}
 use Rattle.text.specs.declared.version.Version.{Version}
 use Rattle.text.specs.Units.{units}
 use Rattle.text.specs.Texts.{UnitWidth, wide, unclosed, valid, Written, checked_units, TV}
 use Rattle.text.specs.Fields.{text_at, text_of, laid_text, width_of}
+
+-- which payload a text lies in, as a number
+abbrev pub source_number : Source → ℕ
+source_number Absent = 0
+source_number Main = 1
+source_number String = 2
 
 -- a text that was written from place `at` on
 abbrev pub placed : Source → UnitWidth → ℕ → Out ℕ Written → Out ℕ Text

@@ -6,7 +6,7 @@
 ghost use Rattle.std.specs.Prelude.{◌≡◌};
 ghost use Rattle.bitcursor.specs.Answers.{outcome, limited};
 ghost use Rattle.text.specs.Releases.{version_of};
-ghost use Rattle.text.specs.Answers.{released, inline_text, reader_text};
+ghost use Rattle.text.specs.Answers.{source_number, released, inline_text, reader_text};
 
 use bitcursor::{Reading, Refusal, refuse};
 use version::Version;
@@ -22,6 +22,18 @@ pub enum Source {
     Absent,
     Main,
     String,
+}
+
+impl From<Source> for u8 {
+    ghost from_gives = { λ source number. number ≡ source_number source };
+
+    fn from(source: Source) -> u8 {
+        match source {
+            Source::Absent => 0,
+            Source::Main => 1,
+            Source::String => 2,
+        }
+    }
 }
 
 // Document 01's text: the payload, the bits of a unit, the bit position of the first unit, and how many units there are once a

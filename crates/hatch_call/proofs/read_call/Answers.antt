@@ -12,7 +12,8 @@ returns-in_default g c =
     let γ = payloads_to a.main.now a.string.now a.reader in
     let l = lists a.numbers.now a.words.now in
     let of = g.N.Number.of_bits in
-    refused_is of a.main.now l (unknown a.caps in_payload a.words_room a.numbers_room γ a.at a.release (unknown_version a.release c.in_default.ensures)) c.refuse.ensures
+    let none = unknown_version a.release c.in_default.ensures in
+    refused_is of a.main.now l (unknown a.caps in_payload a.words_room a.numbers_room γ a.at a.release none) c.refuse.ensures
 
 pub returns-then-main-gt-LIMIT : goal.returns-then-main-gt-LIMIT
 returns-then-main-gt-LIMIT g c =
@@ -21,7 +22,8 @@ returns-then-main-gt-LIMIT g c =
     let l = lists a.numbers.now a.words.now in
     let of = g.N.Number.of_bits in
     let e = known_version a.release c.in-Ok.ensures in
-    refused_is of a.main.now l (main_long a.caps in_payload a.words_room a.numbers_room γ a.at a.release e c.if-main-gt-LIMIT.true) c.refuse-then-main-gt-LIMIT.ensures
+    let past = main_long a.caps in_payload a.words_room a.numbers_room γ a.at a.release e c.if-main-gt-LIMIT.true in
+    refused_is of a.main.now l past c.refuse-then-main-gt-LIMIT.ensures
 
 pub returns-then-string-gt-LIMIT : goal.returns-then-string-gt-LIMIT
 returns-then-string-gt-LIMIT g c =
@@ -30,7 +32,9 @@ returns-then-string-gt-LIMIT g c =
     let l = lists a.numbers.now a.words.now in
     let of = g.N.Number.of_bits in
     let e = known_version a.release c.in-Ok.ensures in
-    refused_is of a.main.now l (string_long a.caps in_payload a.words_room a.numbers_room γ a.at a.release e c.if-main-gt-LIMIT.false c.if-string-gt-LIMIT.true) c.refuse-then-string-gt-LIMIT.ensures
+    let within = c.if-main-gt-LIMIT.false in
+    let past = string_long a.caps in_payload a.words_room a.numbers_room γ a.at a.release e within c.if-string-gt-LIMIT.true in
+    refused_is of a.main.now l past c.refuse-then-string-gt-LIMIT.ensures
 
 pub returns-in-Ok-start_in : goal.returns-in-Ok-start_in
 returns-in-Ok-start_in g c =
@@ -39,7 +43,9 @@ returns-in-Ok-start_in g c =
     let l = lists a.numbers.now a.words.now in
     let of = g.N.Number.of_bits in
     let e = known_version a.release c.in-Ok.ensures in
-    let read = started a.caps in_payload a.words_room a.numbers_room γ a.at a.release e c.if-main-gt-LIMIT.false c.if-string-gt-LIMIT.false (sym c.in-Ok-start_in.ensures) in
+    let within = c.if-main-gt-LIMIT.false in
+    let also = c.if-string-gt-LIMIT.false in
+    let read = started a.caps in_payload a.words_room a.numbers_room γ a.at a.release e within also (sym c.in-Ok-start_in.ensures) in
     call_as of a.main.now l read c.read_body.ensures
 
 pub returns-in-Err : goal.returns-in-Err
@@ -49,5 +55,7 @@ returns-in-Err g c =
     let l = lists a.numbers.now a.words.now in
     let of = g.N.Number.of_bits in
     let e = known_version a.release c.in-Ok.ensures in
-    let past = not_started a.caps in_payload a.words_room a.numbers_room γ a.at a.release e c.if-main-gt-LIMIT.false c.if-string-gt-LIMIT.false (sym c.in-Err.ensures) in
+    let within = c.if-main-gt-LIMIT.false in
+    let also = c.if-string-gt-LIMIT.false in
+    let past = not_started a.caps in_payload a.words_room a.numbers_room γ a.at a.release e within also (sym c.in-Err.ensures) in
     refused_is of a.main.now l past c.refuse-in-Err.ensures

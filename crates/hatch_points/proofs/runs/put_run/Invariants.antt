@@ -1,3 +1,4 @@
+-- After i turns the list holds the first i doubles of the run, where they belong, and is as it was elsewhere.
 use mathlib.Core.Path.{◌≡◌}
 use lib.Seq.{sets}
 use Rattle.std.specs.Prelude.{map}
