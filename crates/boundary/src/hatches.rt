@@ -1,6 +1,6 @@
 // A hatch as numbers: what crosses the boundary in place of a Result.
-ghost use Rattle.std.specs.Prelude.{◌≡◌, [], map};
-ghost use Rattle.hatch_format.specs.Record.{sixteen, hatch_as, zero_record, double, color_as_doubles};
+ghost use Rattle.std.specs.Prelude.{◌≡◌};
+ghost use Rattle.hatch_format.specs.Record.{hatch_as, zero_record, double, color_as_doubles};
 ghost use Rattle.hatch_body.specs.Parts.{Readable};
 ghost use Rattle.hatch_record.specs.Records.{answer_in};
 ghost use Rattle.boundary.specs.HatchBoundary.{text_fields, gradient_fields, gradient_bits, body_fields, body_with, bits_with};
@@ -92,9 +92,8 @@ impl<N: Copy, C: Copy> From<Hatch<N, C>> for BodyFields {
     }
 }
 
-// What stands for a hatch on a refusal: zero but for the places. The caller has the colours, whose size is open here.
-fn zero_hatch<N: Number, C: Color>(colors: [C; 16], places: Places) -> Hatch<N, C>
-    requires { colors ≡ map C.of_bits (sixteen []) }
+// What stands for a hatch on a refusal: zero but for the places.
+fn zero_hatch<N: Number, C: Color>(places: Places) -> Hatch<N, C>
     ensures { result ≡ hatch_as N.of_bits C.of_bits (zero_record places) }
 {
     let zero = N::from_bits(0);
@@ -106,7 +105,7 @@ fn zero_hatch<N: Number, C: Color>(colors: [C; 16], places: Places) -> Hatch<N, 
             is_single_color: 0,
             tint: zero,
             num_colors: 0,
-            colors,
+            colors: colors::zero_colors(),
             name: NO_TEXT,
         },
         elevation: zero,
@@ -162,10 +161,7 @@ impl From<HatchRead> for BodyAnswer {
     fn from(read: HatchRead) -> BodyAnswer {
         match read {
             Ok(h) => BodyAnswer::new(0, h),
-            Err(e) => BodyAnswer::new(
-                u64::from(u8::from(e.refusal)),
-                zero_hatch(colors::zero_colors(), e.place),
-            ),
+            Err(e) => BodyAnswer::new(u64::from(u8::from(e.refusal)), zero_hatch(e.place)),
         }
     }
 }
@@ -199,10 +195,7 @@ impl From<HatchRead<u64, GradientColorBits>> for BodyBitsAnswer {
     fn from(read: HatchRead<u64, GradientColorBits>) -> BodyBitsAnswer {
         match read {
             Ok(h) => BodyBitsAnswer::new(0, h),
-            Err(e) => BodyBitsAnswer::new(
-                u64::from(u8::from(e.refusal)),
-                zero_hatch(colors::zero_colors(), e.place),
-            ),
+            Err(e) => BodyBitsAnswer::new(u64::from(u8::from(e.refusal)), zero_hatch(e.place)),
         }
     }
 }
@@ -210,26 +203,26 @@ impl From<HatchRead<u64, GradientColorBits>> for BodyBitsAnswer {
 // The answer of a call, with the colours read once more where there are some. Where there are none it is made at once; the two ways are calls of their
 // own, since one answer for both would be copied field by field.
 #[tactic(auto, using(hatch_record::proofs::RecordLaws::plain_is))]
-pub fn answer(main: &[u8], read: BodyRead) -> BodyAnswer
-    requires { Readable main.now read }
-    ensures { result ≡ body_answer (answer_in double color_as_doubles main.now read) }
+pub fn answer(main: &[u8], read: &BodyRead) -> BodyAnswer
+    requires { Readable main.now read.now }
+    ensures { result ≡ body_answer (answer_in double color_as_doubles main.now read.now) }
 {
-    if 0 < hatch_record::num_colors(read) {
-        return hatch_record::colored::<f64, GradientColor>(main, read).into();
+    if 0 < hatch_record::num_colors(*read) {
+        return hatch_record::colored::<f64, GradientColor>(main, *read).into();
     }
-    hatch_record::plain::<f64, GradientColor>(read).into()
+    hatch_record::plain::<f64, GradientColor>(*read).into()
 }
 
 // The same with each double as its 64 bits.
 #[tactic(auto, using(hatch_record::proofs::RecordLaws::plain_is))]
-pub fn answer_bits(main: &[u8], read: BodyRead) -> BodyBitsAnswer
-    requires { Readable main.now read }
-    ensures { result ≡ body_bits (answer_in (λ bits. bits) (λ color. color) main.now read) }
+pub fn answer_bits(main: &[u8], read: &BodyRead) -> BodyBitsAnswer
+    requires { Readable main.now read.now }
+    ensures { result ≡ body_bits (answer_in (λ bits. bits) (λ color. color) main.now read.now) }
 {
-    if 0 < hatch_record::num_colors(read) {
-        return hatch_record::colored::<u64, GradientColorBits>(main, read).into();
+    if 0 < hatch_record::num_colors(*read) {
+        return hatch_record::colored::<u64, GradientColorBits>(main, *read).into();
     }
-    hatch_record::plain::<u64, GradientColorBits>(read).into()
+    hatch_record::plain::<u64, GradientColorBits>(*read).into()
 }
 
 impl From<LengthsRead> for LengthsAnswer {

@@ -23,7 +23,7 @@ pub extern "C" fn dwg_hatch_decode(
         numbers.old numbers.new words.old words.new }
 {
     let read = calls::read(main, start, release, numbers, words);
-    hatches::answer(main, read)
+    hatches::answer(main, &read)
 }
 
 // The same with each double as its 64 bits.
@@ -39,7 +39,7 @@ pub extern "C" fn dwg_hatch_decode_bits(
         bits.old bits.new words.old words.new }
 {
     let read = calls::read(main, start, release, bits, words);
-    hatches::answer_bits(main, read)
+    hatches::answer_bits(main, &read)
 }
 
 // The hatch body with a string reader that stands at `string_start` of the string payload and ends at the bit `string_end`.
@@ -67,7 +67,7 @@ pub extern "C" fn dwg_hatch_decode_with_strings(
         numbers,
         words,
     );
-    hatches::answer(main, read)
+    hatches::answer(main, &read)
 }
 
 // The same with each double as its 64 bits.
@@ -95,7 +95,7 @@ pub extern "C" fn dwg_hatch_decode_with_strings_bits(
         bits,
         words,
     );
-    hatches::answer_bits(main, read)
+    hatches::answer_bits(main, &read)
 }
 
 // The lengths that the lists must have for the hatch body, whatever is lent.

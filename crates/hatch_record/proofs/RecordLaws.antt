@@ -1,6 +1,6 @@
 -- What is known of the parts where the record is made: without colours nothing is read again. Assumes nothing.
 use Rattle.std.specs.Prelude.{◌≡◌, refl, List, [], ℕ, map, Result, Ok, Err}
-use Rattle.std.proofs.Common.{sym, ap, ◌∙◌}
+use Rattle.std.proofs.Common.{sym, ap}
 use Rattle.bitcursor.specs.declared.Refused.{Refused}
 use Rattle.bitcursor.specs.Inputs.{Places}
 use Rattle.bitcursor.specs.Format.{pure, relay}
