@@ -13,7 +13,7 @@ use Rattle.hatch_format.specs.Values.{polylined}
 use Rattle.hatch_lists.specs.declared.Head.{Head}
 use Rattle.hatch_lists.specs.declared.Item.{Item}
 use Rattle.hatch_lists.specs.Items.{item, polyline_item}
-use Rattle.hatch_lists.specs.Steps.{Step, next, broken, and_next, a_switch, a_count, polyline_step, edges_step, head_by, head_step}
+use Rattle.hatch_lists.specs.Steps.{Step, next, broken, and_next, a_count, polyline_step, edges_step, head_by, head_step}
 use Rattle.list_items.specs.Found.{SmallHead, Finds, polyline_words}
 use Rattle.list_items.proofs.Words.{first_word, next_word}
 use Rattle.list_items.proofs.Finds.{found_behind}

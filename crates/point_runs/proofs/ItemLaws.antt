@@ -1,6 +1,6 @@
 -- The coordinates of an item are those of its points and of its fit points; the numbers before and behind them are none. Assumes nothing.
 use mathlib.Core.Path.{◌≡◌, sym, ap, ap₂, subst, ◌∙◌}
-use mathlib.Core.Bool.{Bool, true, ◌&&◌, and-true, and-eq-true_iff}
+use mathlib.Core.Bool.{Bool, true, false, ◌&&◌, and-true, and-eq-true_iff}
 use mathlib.Core.List.{List, ◌++◌}
 use Prim.Native.Nat.{ℕ, ◌+◌, ◌*◌, ◌≤◌}
 use native.Mathlib.Omega.{arith}
@@ -41,6 +41,14 @@ module _ (i : Item) (from : ℕ) where
         last =
             in_range_behind in_range fits_at fits (others i.behind) l
             ∙ ap (λ b. in_range_from in_range fits_at fits l && b) (others_in_range in_range i.behind _) ∙ and-true (in_range_from in_range fits_at fits l)
+
+    -- the answer for the points, and what it was found to be
+    module _ (b : Bool) (judged : b ≡ in_range_from in_range points_at points l) where
+      pub points_beyond : b ≡ false → in_range_from in_range from (item_roles i) l ≡ false
+      points_beyond t = item_in_range ∙ ap (λ c. c && in_range_from in_range fits_at fits l) (sym judged ∙ t)
+
+      pub fits_decide : b ≡ true → in_range_from in_range from (item_roles i) l ≡ in_range_from in_range fits_at fits l
+      fits_decide t = item_in_range ∙ ap (λ c. c && in_range_from in_range fits_at fits l) (sym judged ∙ t)
 
   module _ {A : Type 0} (difference : A → A → A) (x₀ y₀ : A) (two : 2 ≤ i.stride) (l : List A) (room : fits_at ≤ length l) where
     item_moved : moved_from difference x₀ y₀ from (item_roles i) l
