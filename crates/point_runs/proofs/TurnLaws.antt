@@ -48,21 +48,24 @@ point_there stride from n at i lt h = let r = reached_next stride from n at i lt
 -- ---- judged: the next point of a run, and those behind it
 module _ {A : Type 0} (in_range : A → Bool) (stride : ℕ) (two : 2 ≤ stride) (l : List A) (z : A) where
   -- of the point at an index
-  abbrev in_point : ℕ → Bool
+  abbrev pub in_point : ℕ → Bool
   in_point at = in_range (get_or l at z) && in_range (get_or l (at + 1) z)
 
-  run_one : (at : ℕ) → at + 2 ≤ length l → in_run in_range stride two l at 1 ≡ in_point at
+  pub run_one : (at : ℕ) → at + 2 ≤ length l → in_run in_range stride two l at 1 ≡ in_point at
   run_one at h =
       ap (λ rs. in_range_from in_range at (x ∷ (y ∷ rs)) l) (append-nil (others (stride - 2)))
       ∙ ap (all_in_range in_range (a_point stride)) (two_numbers z l at h)
       ∙ ap (λ b. in_range (get_or l at z) && b)
       (ap (λ b. in_range (get_or l (at + 1) z) && b) (others_in_range in_range (stride - 2) (drop (at + 2) l)) ∙ and-true (in_range (get_or l (at + 1) z)))
 
-  run_next : (at m : ℕ) → at + 2 ≤ length l → in_run in_range stride two l at (suc m) ≡ in_point at && in_run in_range stride two l (at + stride) m
+  pub run_next : (at m : ℕ) → at + 2 ≤ length l → in_run in_range stride two l at (suc m) ≡ in_point at && in_run in_range stride two l (at + stride) m
   run_next at m h =
       let e : 1 * stride ≡ stride = omega arith in
       let f : suc m ≡ 1 + m = omega arith in
       ap (in_run in_range stride two l at) f ∙ run_then in_range stride two l at 1 m ∙ ap₂ (λ b j. b && in_run in_range stride two l (at + j) m) (run_one at h) e
+
+  pub run_two : (at : ℕ) → at + 2 * stride ≤ length l → in_run in_range stride two l at 2 ≡ in_point at && in_point (at + stride)
+  run_two at h = run_next at 1 (omega arith) ∙ ap (λ b. in_point at && b) (run_one (at + stride) (omega arith))
 
 -- so many points are left, and they decide
 pub record Judged {A : Type 0} (in_range : A → Bool) (stride : ℕ) (l : List A) (from n at left : ℕ) : Type 0 where
