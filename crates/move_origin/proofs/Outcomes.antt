@@ -23,7 +23,7 @@ use Rattle.moved_hatch.specs.declared.MoveRefusal.{MoveRefusal}
 use Rattle.moved_hatch.specs.declared.MoveRefusal.TheVariants.{ListsNotWhole, OtherPlane, CoordinateOutOfRange}
 use Rattle.moved_hatch.specs.Moving.{Arithmetic, patterns, Outcome, moves, refuses, judged, outcome_of, outcome, all_in_range, moved, after, answer_of, MovesOrigin}
 use Rattle.moved_hatch.specs.MovedLists.{patterns_length}
-use Rattle.moved_hatch.specs.Parts.{moved_from, Movable}
+use Rattle.moved_hatch.specs.Parts.{moved_from, in_range_from, Movable}
 use Rattle.move_origin.specs.Walked.{Walks, roles_in, roles_of, may_move}
 
 module _ {A : Type 0} (m : Arithmetic A) (c : HatchCounts) (ws : List ℕ) (ns : List A) where
@@ -152,13 +152,6 @@ module _ {A : Type 0} (m : Arithmetic A) (c : HatchCounts) (ws : List ℕ) (ns :
             ∙ ap (λ (b : Bool). m.in_range x₀ && (m.in_range y₀ && b)) f ∙ sym (and_assoc (m.in_range x₀) (m.in_range y₀) a)
             ∙ ap (λ (b : Bool). b && a) both.1)
 
-        -- by the coordinates: the outcome itself
-        pub outcome_13 : all_in_range m.in_range (roles_of c used_of) ns ≡ false → here_outcome ≡ refuses CoordinateOutOfRange
-        outcome_13 f = judged_is f
-
-        pub outcome_moves : all_in_range m.in_range (roles_of c used_of) ns ≡ true → here_outcome ≡ moves (held_roles h.hatch)
-        outcome_moves f = judged_is f
-
         pub refused_13 : all_in_range m.in_range (roles_of c used_of) ns ≡ false → MovesOrigin m here_outcome x₀ y₀ (Err CoordinateOutOfRange) ns ns
         refused_13 f = refuses_so (judged_is f)
 
@@ -173,3 +166,12 @@ module _ {A : Type 0} (m : Arithmetic A) (c : HatchCounts) (ws : List ℕ) (ns :
               sym (ap answer_of e),
               g ∙ ap (λ (rs : List Role). moved m.difference x₀ y₀ rs ns) h.roles ∙ sym (ap (λ (k : Outcome). after m k x₀ y₀ ns) e),
             )
+
+      -- by the coordinates: the outcome itself
+      pub outcome_13 : upright ≡ true → m.in_range x₀ && m.in_range y₀ ≡ true → in_range_from m.in_range 0 (roles_of c used_of) ns ≡ false
+          → here_outcome ≡ refuses CoordinateOutOfRange
+      outcome_13 e f g = judged_is {r = may_move upright (m.in_range x₀ && m.in_range y₀)} refl (ap₂ may_move e f) g
+
+      pub outcome_moves : upright ≡ true → m.in_range x₀ && m.in_range y₀ ≡ true → in_range_from m.in_range 0 (roles_of c used_of) ns ≡ true
+          → here_outcome ≡ moves (held_roles h.hatch)
+      outcome_moves e f g = judged_is {r = may_move upright (m.in_range x₀ && m.in_range y₀)} refl (ap₂ may_move e f) g
