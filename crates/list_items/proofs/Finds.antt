@@ -24,7 +24,8 @@ module _ (ws : List ℕ) (at : ℕ) (h : at < length ws) {w : ℕ} (ew : w ≡ g
   pub edge_behind : (kind : ℕ) → w ≡ kind → (r : Option (Item × ℕ)) → Finds Small ws (at + 1) r (edge_by document_caps kind)
       → Finds Small ws at r (edge_step document_caps)
   edge_behind kind e r k =
-      found_behind Small ws at (edge_step document_caps) (edge_by document_caps kind) (edge_of ∙ ap (λ (n : ℕ). edge_by document_caps n (drop (at + 1) ws)) e) r k
+      found_behind Small ws at (edge_step document_caps) (edge_by document_caps kind)
+      (edge_of ∙ ap (λ (n : ℕ). edge_by document_caps n (drop (at + 1) ws)) e) r k
 
   pub edge_none : (w ≡ 1 → ⊥) → (w ≡ 2 → ⊥) → (w ≡ 3 → ⊥) → (w ≡ 4 → ⊥) → edge_step document_caps (drop at ws) ≡ broken
   edge_none n₁ n₂ n₃ n₄ = edge_of ∙ none w n₁ n₂ n₃ n₄

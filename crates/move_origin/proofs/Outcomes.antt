@@ -21,7 +21,8 @@ use Rattle.whole_lists.specs.Ended.{is_held, Judges}
 use Rattle.whole_lists.proofs.Judged.{items_walk}
 use Rattle.moved_hatch.specs.declared.MoveRefusal.{MoveRefusal}
 use Rattle.moved_hatch.specs.declared.MoveRefusal.TheVariants.{ListsNotWhole, OtherPlane, CoordinateOutOfRange}
-use Rattle.moved_hatch.specs.Moving.{Arithmetic, patterns, Outcome, moves, refuses, judged, outcome_of, outcome, all_in_range, moved, after, answer_of, MovesOrigin}
+use Rattle.moved_hatch.specs.Moving.{Arithmetic, patterns, Outcome, moves, refuses, judged, outcome_of, outcome, all_in_range, moved, after}
+use Rattle.moved_hatch.specs.Moving.{answer_of, MovesOrigin}
 use Rattle.moved_hatch.specs.MovedLists.{patterns_length}
 use Rattle.moved_hatch.specs.Parts.{moved_from, in_range_from, Movable}
 use Rattle.move_origin.specs.Walked.{Walks, roles_in, roles_of, may_move}

@@ -62,7 +62,8 @@ module _ {A : Type 0} (in_range : A → Bool) (stride : ℕ) (two : 2 ≤ stride
   run_next at m h =
       let e : 1 * stride ≡ stride = omega arith in
       let f : suc m ≡ 1 + m = omega arith in
-      ap (in_run in_range stride two l at) f ∙ run_then in_range stride two l at 1 m ∙ ap₂ (λ b j. b && in_run in_range stride two l (at + j) m) (run_one at h) e
+      ap (in_run in_range stride two l at) f ∙ run_then in_range stride two l at 1 m
+      ∙ ap₂ (λ b j. b && in_run in_range stride two l (at + j) m) (run_one at h) e
 
   pub run_two : (at : ℕ) → at + 2 * stride ≤ length l → in_run in_range stride two l at 2 ≡ in_point at && in_point (at + stride)
   run_two at h = run_next at 1 (omega arith) ∙ ap (λ b. in_point at && b) (run_one (at + stride) (omega arith))
