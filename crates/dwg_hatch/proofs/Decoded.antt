@@ -1,27 +1,20 @@
 -- What a hatch call across the boundary ensures, from the parts that it read and the answer that is made of them. Assumes nothing.
-use Rattle.std.specs.Prelude.{◌≡◌, refl, List, ◌++◌, ℕ, Float, length, drop, Result}
+use Rattle.std.specs.Prelude.{◌≡◌, List, ℕ, Float, Result}
 use Rattle.std.proofs.Common.{ap, ◌∙◌}
-use Rattle.std.proofs.lemmas.List.{map-id}
 use Rattle.bitcursor.specs.declared.Refused.{Refused}
-use Rattle.bitcursor.specs.Reading.{Out, got, refused}
+use Rattle.bitcursor.specs.Reading.{Out}
 use Rattle.bitcursor.specs.Inputs.{Places}
 use Rattle.hatch_format.specs.Values.{Body}
-use Rattle.hatch_format.specs.Entries.{numbers}
 use Rattle.hatch_format.specs.Record.{double, color_as_doubles}
 use Rattle.hatch_body.specs.declared.Parts.{Parts}
 use Rattle.hatch_record.specs.Records.{answer_in}
-use Rattle.hatch.specs.Calls.{filled, numbers_as, numbers_after, doubles, ReadsParts}
-use Rattle.hatch.specs.Demands.{bits_are}
+use Rattle.hatch.specs.Calls.{numbers_as, doubles, ReadsParts}
+use Rattle.hatch.specs.Demands.{bits_are, numbers_are}
 use Rattle.hatch.proofs.Filled.{answer_is}
 use Rattle.boundary.specs.declared.bodies.BodyAnswer.{BodyAnswer}
 use Rattle.boundary.specs.declared.bodies.BodyBitsAnswer.{BodyBitsAnswer}
 use Rattle.boundary.specs.HatchBoundary.{body_answer, body_bits}
 use Rattle.dwg_hatch.specs.HatchCalls.{Decodes, DecodesBits}
-
--- a list of 64 bits holds a body's numbers as they are
-same_list : (o : Out Places Body) (l : List ℕ) → filled (numbers_as (λ n. n)) o l ≡ numbers_after o l
-same_list (got a q) l = ap (λ (ns : List ℕ). ns ++ drop (length ns) l) (map-id (numbers a.rest))
-same_list (refused k q) l = refl
 
 module _ (xs : List ℕ) {o : Out Places Body} {r : Result Parts (Refused Places)} {words words' : List ℕ} where
   pub decoded : {answer : BodyAnswer} {ns ns' : List Float} → answer ≡ body_answer (answer_in double color_as_doubles xs r)
@@ -31,4 +24,4 @@ module _ (xs : List ℕ) {o : Out Places Body} {r : Result Parts (Refused Places
   pub decoded_bits : {answer : BodyBitsAnswer} {ns ns' : List ℕ} → answer ≡ body_bits (answer_in (λ n. n) (λ c. c) xs r)
       → ReadsParts (numbers_as (λ n. n)) xs o r ns ns' words words' → DecodesBits o answer ns ns' words words'
   decoded_bits {ns = ns} e h =
-      (e ∙ ap body_bits (answer_is (λ n. n) (λ c. c) xs o r h.body ∙ bits_are o), (h.numbers_then ∙ same_list o ns, h.words_then))
+      (e ∙ ap body_bits (answer_is (λ n. n) (λ c. c) xs o r h.body ∙ bits_are o), (h.numbers_then ∙ numbers_are o ns, h.words_then))

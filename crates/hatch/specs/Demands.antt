@@ -3,15 +3,17 @@
 -- answer and lists with these. Assumes nothing.
 use Rattle.std.specs.Prelude.{◌≡◌, refl, List, ◌++◌, ℕ, length, drop, Ok, Err, IsOk}
 use Rattle.std.proofs.Common.{ap, arith}
+use Rattle.std.proofs.lemmas.List.{map-id}
 use Rattle.bitcursor.specs.declared.Refusal.{Refusal}
 use Rattle.bitcursor.specs.Reading.{Out, got, refused, place}
 use Rattle.bitcursor.specs.Inputs.{Places}
 use Rattle.hatch_format.specs.Values.{Rest, Body}
+use Rattle.hatch_format.specs.Entries.{numbers}
 use Rattle.hatch_format.specs.Record.{record_of, as_doubles, hatch_as_bits}
 use Rattle.hatch_format.specs.Call.{Call, hatch_call}
 use Rattle.hatch_format.specs.Demand3.{HatchLaid, AlikeCalls}
 use Rattle.hatch_format.proofs.Demand3.{read_iff_laid, refused_none, alike_same}
-use Rattle.hatch.specs.Calls.{as_hatch, as_bits, as_data, filled}
+use Rattle.hatch.specs.Calls.{as_hatch, as_bits, as_data, filled, numbers_as, numbers_after}
 
 -- what is handed over of a reading and of a refusal, in both forms
 pub bits_read : (a : Body) (q : Places) → as_bits (got a q) ≡ Ok (record_of a q)
@@ -30,6 +32,11 @@ doubles_refused k q = refl
 pub bits_are : (o : Out Places Body) → as_hatch (λ n. n) (λ c. c) o ≡ as_bits o
 bits_are (got a q) = ap Ok (hatch_as_bits (record_of a q))
 bits_are (refused k q) = refl
+
+-- and its list holds the numbers as they are
+pub numbers_are : (o : Out Places Body) (l : List ℕ) → filled (numbers_as (λ n. n)) o l ≡ numbers_after o l
+numbers_are (got a q) l = ap (λ (ns : List ℕ). ns ++ drop (length ns) l) (map-id (numbers a.rest))
+numbers_are (refused k q) l = refl
 
 module _ (c : Call) {R : Type 0} (answer : Out Places Body → R) where
   -- the call's reading or refusal, by the definition

@@ -2,12 +2,12 @@
 use mathlib.Core.Path.{◌≡◌, refl, sym, ap, ap₂, subst, ◌∙◌}
 use mathlib.Core.Bool.{Bool, true, false, ◌&&◌}
 use mathlib.Core.List.{List, [], ◌++◌, append-nil}
-use Prim.Native.Nat.{ℕ, ◌^◌, ◌<◌}
+use Prim.Native.Nat.{ℕ, ◌^◌, ◌≤◌, ◌<◌}
 use native.Mathlib.Nat.{zero-add}
 use native.Mathlib.Omega.{arith}
 use lib.Dec.{leb}
 use lib.ListN.{length}
-use borrow.Author.Tests.{leb-true}
+use borrow.Author.Tests.{le-leb, leb-true}
 use Rattle.std.specs.Prelude.{Result, Ok, Err, map}
 use Rattle.std.specs.Result.{IsErr, IsErrAnd}
 use Rattle.bitcursor.specs.declared.Refusal.TheVariants.{ListTooShort}
@@ -85,6 +85,10 @@ rest_got p (got a n) i e =
       places = s.1;
     }
 rest_got p (refused k n) i e = never (sym (e ∙ ap (lifted main p) i))
+
+-- lists as long as what was used are long enough
+pub long_enough_lem : (nw nn : ℕ) (z : Sizes) → z.words ≤ nw → z.numbers ≤ nn → long_enough nw nn z ≡ true
+long_enough_lem nw nn z g h = rw (le-leb z.words nw g, le-leb z.numbers nn h)
 
 -- ---- the rest behind a front
 module _ (f : Front) (nw nn : ℕ) (p : Places) (o : Out ℕ RestValue) {N : Type 0} (of : ℕ → N) where

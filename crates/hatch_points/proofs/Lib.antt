@@ -5,3 +5,5 @@ pub mod VertexLaws
 pub mod NoWords
 pub mod Words
 pub mod Rows
+pub mod HeadLaws
+pub mod ListLaws

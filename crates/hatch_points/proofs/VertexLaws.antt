@@ -9,9 +9,9 @@ use Rattle.std.specs.Prelude.{map, Result, Ok, Err}
 use Rattle.bitcursor.specs.declared.Refusal.{Refusal}
 use Rattle.bitcursor.specs.declared.Refusal.TheVariants.{TooFewBits}
 use Rattle.bitcursor.specs.declared.Refused.{Refused}
-use Rattle.bitcursor.specs.Answers.{outcome}
+use Rattle.bitcursor.specs.Answers.{outcome, passing, value_as}
 use Rattle.loads.specs.Bits.{size}
-use Rattle.bitcursor.specs.Reading.{Out, got, refused, and_then, never}
+use Rattle.bitcursor.specs.Reading.{Out, got, refused, place, and_then, never}
 use Rattle.bitcursor.specs.Codes.{RD}
 use Rattle.bitcursor.specs.Doubles.{BD}
 use Rattle.bitcursor.specs.Fields.{coded}
@@ -21,7 +21,7 @@ use Rattle.hatch_format.specs.Takes.{takes_BD}
 use Rattle.hatch_points.specs.Gathered.{Entries, numbers, plus}
 use Rattle.hatch_points.specs.Runs.{times_length}
 use Rattle.hatch_points.specs.Stores.{raw_at}
-use Rattle.hatch_points.specs.Vertices.{vertex_at, Extra}
+use Rattle.hatch_points.specs.Vertices.{vertex_at, VertexThere, Extra}
 use Rattle.hatch_points.specs.Walks.{raw_run, double_run, vertex_walk}
 use Rattle.hatch_points.proofs.Laws.{onward}
 use Rattle.hatch_points.proofs.RawRuns.{raw_there, raw_short}
@@ -33,6 +33,11 @@ one_double xs p e = rw e
 no_double : (xs : List ℕ) (p : ℕ) {k : Refusal} {q : ℕ} → BD.read xs p ≡ refused k q → (double_run 1).read xs p ≡ refused k q
 unfolding double_run times times_read relay ◌>>=◌ pure
 no_double xs p e = rw e
+
+-- what a reader of a vertex's double shows that gives its place alone
+abbrev pub ExtraPassed : List ℕ → ℕ → Result ℕ (Refused ℕ) → Type 0
+ExtraPassed xs p (Ok q) = (v : ℕ) × VertexThere xs p v q
+ExtraPassed xs p (Err e) = vertex_walk.read xs p ≡ refused e.refusal e.place
 
 module _ (xs : List ℕ) (p : ℕ) where
   module _ (h : 128 ≤ size xs - p) where
@@ -58,6 +63,16 @@ module _ (xs : List ℕ) (p : ℕ) where
         let on = onward (coded BD) 2 takes_BD xs (p + 128) at_point (omega arith) in
         record { read = vertex_there (sym at_point); onward = omega (arith, on.0); inside = on.1 }
     extra_on {q} (Err x) e d = vertex_no (sym (d ∙ ap (λ (k : ℕ). BD.read xs k) e))
+
+    -- the same, where the double's value is not wanted
+    pub extra_passed : {q : ℕ} (r : Result ℕ (Refused ℕ)) → q ≡ p + 128 → passing r ≡ value_as (λ v. tt) (BD.read xs q) → ExtraPassed xs p r
+    extra_passed {q} r e d = go (BD.read xs (p + 128)) refl r (d ∙ ap (λ (k : ℕ). value_as (λ v. tt) (BD.read xs k)) e)
+      where
+        go : (o : Out ℕ ℕ) → BD.read xs (p + 128) ≡ o → (r : Result ℕ (Refused ℕ)) → passing r ≡ value_as (λ v. tt) o → ExtraPassed xs p r
+        go (got v t) i (Ok u) j = (v, extra_on (Ok (v, u)) refl ((λ k. got v (place (j k))) ∙ sym i))
+        go (got v t) i (Err x) j = never j
+        go (refused n t) i (Ok u) j = never (sym j)
+        go (refused n t) i (Err x) j = let k : ◌≡◌ {A = Out ℕ ℕ} (refused x.refusal x.place) (refused n t) = cc in extra_on (Err x) refl (k ∙ sym i)
 
   -- the point is not there
   pub extra_short : size xs - p < 128 → vertex_walk.read xs p ≡ refused TooFewBits (p + (size xs - p) / 8 * 8)

@@ -1,1 +1,4 @@
 pub mod Short
+pub mod Words
+pub mod Finds
+pub mod Heads

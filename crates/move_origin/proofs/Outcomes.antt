@@ -20,10 +20,11 @@ use Rattle.hatch_lists.specs.FollowsWhole.{items_held}
 use Rattle.whole_lists.specs.Ended.{is_held, Judges}
 use Rattle.whole_lists.proofs.Judged.{items_walk}
 use Rattle.moved_hatch.specs.declared.MoveRefusal.{MoveRefusal}
-use Rattle.moved_hatch.specs.declared.MoveRefusal.TheVariants.{ListsNotWhole, CoordinateOutOfRange}
-use Rattle.moved_hatch.specs.Moving.{Arithmetic, patterns, Outcome, refuses, judged, outcome_of, outcome, all_in_range, moved, after, answer_of, MovesOrigin}
+use Rattle.moved_hatch.specs.declared.MoveRefusal.TheVariants.{ListsNotWhole, OtherPlane, CoordinateOutOfRange}
+use Rattle.moved_hatch.specs.Moving.{Arithmetic, patterns, Outcome, moves, refuses, judged, outcome_of, outcome, all_in_range, moved, after}
+use Rattle.moved_hatch.specs.Moving.{answer_of, MovesOrigin}
 use Rattle.moved_hatch.specs.MovedLists.{patterns_length}
-use Rattle.moved_hatch.specs.Parts.{Movable}
+use Rattle.moved_hatch.specs.Parts.{moved_from, in_range_from, Movable}
 use Rattle.move_origin.specs.Walked.{Walks, roles_in, roles_of, may_move}
 
 module _ {A : Type 0} (m : Arithmetic A) (c : HatchCounts) (ws : List ℕ) (ns : List A) where
@@ -89,13 +90,16 @@ module _ {A : Type 0} (m : Arithmetic A) (c : HatchCounts) (ws : List ℕ) (ns :
     refuses_so : {k : MoveRefusal} → here_outcome ≡ refuses k → MovesOrigin m here_outcome x₀ y₀ (Err k) ns ns
     refuses_so e = (sym (ap answer_of e), sym (ap (λ (o : Outcome). after m o x₀ y₀ ns) e))
 
-    pub refused_11 : {b : Bool} → Judges c ws (length ns) b → b ≡ false → MovesOrigin m here_outcome x₀ y₀ (Err ListsNotWhole) ns ns
+    pub outcome_11 : Judges c ws (length ns) false → here_outcome ≡ refuses ListsNotWhole
     unfolding outcome
-    refused_11 {b} j e = refuses_so (go here (sym e ∙ j (patterns m.pattern ns) (patterns_length m.pattern ns)))
+    outcome_11 j = go here (j (patterns m.pattern ns) (patterns_length m.pattern ns))
       where
         go : (h : Held) → false ≡ is_held h → outcome_of m h upright ns x₀ y₀ ≡ refuses ListsNotWhole
         go (whole a) k = let z : ◌≡◌ {A = ℕ} 0 1 = cc in absurd (omega arith)
         go not_whole k = refl
+
+    pub refused_11 : {b : Bool} → Judges c ws (length ns) b → b ≡ false → MovesOrigin m here_outcome x₀ y₀ (Err ListsNotWhole) ns ns
+    refused_11 j e = refuses_so (outcome_11 (subst (Judges c ws (length ns)) e j))
 
     module _ (h : Holds) where
       abbrev range : Bool
@@ -104,6 +108,21 @@ module _ {A : Type 0} (m : Arithmetic A) (c : HatchCounts) (ws : List ℕ) (ns :
       outcome_is : here_outcome ≡ judged (held_roles h.hatch) upright range
       unfolding outcome
       outcome_is = ap (λ (k : Held). outcome_of m k upright ns x₀ y₀) h.is_held_here
+
+      pub refused_12 : upright ≡ false → here_outcome ≡ refuses OtherPlane
+      refused_12 e = outcome_is ∙ ap (λ (u : Bool). judged (held_roles h.hatch) u range) e
+
+      pub refused_origin : upright ≡ true → m.in_range x₀ && m.in_range y₀ ≡ false → here_outcome ≡ refuses CoordinateOutOfRange
+      refused_origin e f =
+          outcome_is
+          ∙ ap₂ (λ (u b : Bool). judged (held_roles h.hatch) u b) e
+          (sym (and_assoc (m.in_range x₀) (m.in_range y₀) (all_in_range m.in_range (held_roles h.hatch) ns))
+          ∙ ap (λ (b : Bool). b && all_in_range m.in_range (held_roles h.hatch) ns) f)
+
+      -- the list afterwards, by the roles that the walk finds
+      pub after_all : {o : Outcome} → o ≡ moves (held_roles h.hatch) → moved_from m.difference x₀ y₀ 0 (roles_of c used_of) ns ≡ after m o x₀ y₀ ns
+      after_all {o} e =
+          ap (λ (rs : List Role). moved m.difference x₀ y₀ rs ns) h.roles ∙ sym (ap (λ (k : Outcome). after m k x₀ y₀ ns) e)
 
       -- by the plane, or the origin
       pub refused_before : {r : Result (Unit {0}) MoveRefusal} {k : MoveRefusal} → r ≡ may_move upright (m.in_range x₀ && m.in_range y₀) → r ≡ Err k
@@ -148,3 +167,12 @@ module _ {A : Type 0} (m : Arithmetic A) (c : HatchCounts) (ws : List ℕ) (ns :
               sym (ap answer_of e),
               g ∙ ap (λ (rs : List Role). moved m.difference x₀ y₀ rs ns) h.roles ∙ sym (ap (λ (k : Outcome). after m k x₀ y₀ ns) e),
             )
+
+      -- by the coordinates: the outcome itself
+      pub outcome_13 : upright ≡ true → m.in_range x₀ && m.in_range y₀ ≡ true → in_range_from m.in_range 0 (roles_of c used_of) ns ≡ false
+          → here_outcome ≡ refuses CoordinateOutOfRange
+      outcome_13 e f g = judged_is {r = may_move upright (m.in_range x₀ && m.in_range y₀)} refl (ap₂ may_move e f) g
+
+      pub outcome_moves : upright ≡ true → m.in_range x₀ && m.in_range y₀ ≡ true → in_range_from m.in_range 0 (roles_of c used_of) ns ≡ true
+          → here_outcome ≡ moves (held_roles h.hatch)
+      outcome_moves e f g = judged_is {r = may_move upright (m.in_range x₀ && m.in_range y₀)} refl (ap₂ may_move e f) g

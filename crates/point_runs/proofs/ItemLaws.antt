@@ -1,6 +1,6 @@
 -- The coordinates of an item are those of its points and of its fit points; the numbers before and behind them are none. Assumes nothing.
 use mathlib.Core.Path.{◌≡◌, sym, ap, ap₂, subst, ◌∙◌}
-use mathlib.Core.Bool.{Bool, true, ◌&&◌, and-true, and-eq-true_iff}
+use mathlib.Core.Bool.{Bool, true, false, ◌&&◌, and-true, and-eq-true_iff}
 use mathlib.Core.List.{List, ◌++◌}
 use Prim.Native.Nat.{ℕ, ◌+◌, ◌*◌, ◌≤◌}
 use native.Mathlib.Omega.{arith}
@@ -11,6 +11,13 @@ use Rattle.hatch_lists.proofs.CoordinateLaws.{run_long}
 use Rattle.moved_hatch.specs.Moving.{all_in_range}
 use Rattle.moved_hatch.specs.Parts.{moved_from, in_range_from, Movable}
 use Rattle.point_runs.proofs.PartLaws.{others_in_range, in_range_behind, others_from, moved_from_length, moved_behind, stays_behind}
+
+-- ---- what a call answered, from the test of it
+pub refused : (b : Bool) {c : Bool} → b ≡ false → b ≡ c → c ≡ false
+refused b e f = sym f ∙ e
+
+pub passed : (b : Bool) {c : Bool} → b ≡ true → b ≡ c → c ≡ true
+passed b e f = sym f ∙ e
 
 module _ (i : Item) (from : ℕ) where
   -- where its points begin, and where its fit points do
@@ -41,6 +48,14 @@ module _ (i : Item) (from : ℕ) where
         last =
             in_range_behind in_range fits_at fits (others i.behind) l
             ∙ ap (λ b. in_range_from in_range fits_at fits l && b) (others_in_range in_range i.behind _) ∙ and-true (in_range_from in_range fits_at fits l)
+
+    -- the answer for the points, and what it was found to be
+    module _ (b : Bool) (judged : b ≡ in_range_from in_range points_at points l) where
+      pub points_beyond : b ≡ false → in_range_from in_range from (item_roles i) l ≡ false
+      points_beyond t = item_in_range ∙ ap (λ c. c && in_range_from in_range fits_at fits l) (refused b t judged)
+
+      pub fits_decide : b ≡ true → in_range_from in_range from (item_roles i) l ≡ in_range_from in_range fits_at fits l
+      fits_decide t = item_in_range ∙ ap (λ c. c && in_range_from in_range fits_at fits l) (passed b t judged)
 
   module _ {A : Type 0} (difference : A → A → A) (x₀ y₀ : A) (two : 2 ≤ i.stride) (l : List A) (room : fits_at ≤ length l) where
     item_moved : moved_from difference x₀ y₀ from (item_roles i) l

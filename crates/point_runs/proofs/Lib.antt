@@ -1,3 +1,4 @@
 pub mod PartLaws
 pub mod PointLaws
 pub mod ItemLaws
+pub mod TurnLaws
