@@ -1,14 +1,13 @@
 -- The five parts together read what the prefix's definition reads, and their numbers are as the record asks: of parts that are read one behind the
 -- other, a part that was not read with numbers of 0. Assumes nothing.
-use Rattle.std.specs.Prelude.{◌≡◌, refl, Bool, true, false, ◌&&◌, List, [], ◌∷◌, ℕ, ◌^◌, ◌<◌, ◌*◌, Option, None}
-use Rattle.std.proofs.Common.{sym, ap, ◌∙◌, arith}
+use Rattle.std.specs.Prelude.{◌≡◌, refl, Bool, true, false, ◌&&◌, List, [], ◌∷◌, ℕ, ◌^◌, ◌<◌, None}
+use Rattle.std.proofs.Common.{ap, ◌∙◌, arith}
 use Rattle.bitcursor.specs.declared.Refusal.{Refusal}
-use Rattle.bitcursor.specs.Reading.{Out, got, refused, and_then}
-use Rattle.bitcursor.specs.Code.{Code, give, ◌>>=◌}
+use Rattle.bitcursor.specs.Reading.{Out, got, refused}
+use Rattle.bitcursor.specs.Code.{give}
 use Rattle.bitcursor.specs.Codes.{signed}
 use Rattle.sequence.proofs.Steps.{then_read, value_of, resume, first, next}
 use Rattle.prefix_format.specs.declared.table.Row.{Row}
-use Rattle.prefix_format.specs.Values.{has_rgb, has_alpha}
 use Rattle.prefix_format.specs.Prefix.{prefix_by}
 use Rattle.prefix_parts.specs.declared.Head.{Head}
 use Rattle.prefix_parts.specs.declared.Modes.{Modes}

@@ -1,7 +1,6 @@
 -- What follows a part in the definition is read behind it, whatever follows; and the numbers of a part that was read. Assumes nothing.
 use Rattle.std.specs.Prelude.{◌≡◌, refl, Bool, true, false, List, [], ◌∷◌, ℕ, ℤ, Option}
-use Rattle.bitcursor.specs.declared.Refusal.{Refusal}
-use Rattle.bitcursor.specs.Reading.{Out, got, refused, and_then}
+use Rattle.bitcursor.specs.Reading.{Out, got, refused}
 use Rattle.bitcursor.specs.Code.{Code, give, ◌>>=◌}
 use Rattle.bitcursor.specs.Codes.{B, BB, RC, RL, BS, signed_BS, BL}
 use Rattle.bitcursor.specs.Doubles.{BD}
