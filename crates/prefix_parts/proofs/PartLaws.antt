@@ -1,11 +1,11 @@
--- What follows a part in the definition is read behind it, whatever follows; and the numbers of a part that was read. Assumes nothing.
-use Rattle.std.specs.Prelude.{◌≡◌, refl, Bool, true, false, List, [], ◌∷◌, ℕ, ℤ, Option}
-use Rattle.bitcursor.specs.Reading.{Out, got, refused}
+-- What follows a part in the definition is read behind it, whatever follows; and a plain colour behind any answer. Assumes nothing.
+use Rattle.std.specs.Prelude.{◌≡◌, refl, Bool, true, false, List, [], ◌∷◌, ℕ, ℤ, ◌<◌, Option, None}
+use Rattle.bitcursor.specs.Reading.{Out, got, refused, and_then}
 use Rattle.bitcursor.specs.Code.{Code, give, ◌>>=◌}
 use Rattle.bitcursor.specs.Codes.{B, BB, RC, RL, BS, signed_BS, BL}
 use Rattle.bitcursor.specs.Doubles.{BD}
 use Rattle.bitcursor.specs.Held.{held, marked}
-use Rattle.sequence.proofs.Steps.{resume, behind}
+use Rattle.sequence.proofs.Steps.{then_read, value_of, resume, first, behind}
 use Rattle.prefix_format.specs.declared.table.Row.{Row}
 use Rattle.prefix_format.specs.Values.{has_rgb, has_alpha, has_name, has_book_name}
 use Rattle.prefix_format.specs.Prefix.{extended, graphics, name}
@@ -15,6 +15,8 @@ use Rattle.prefix_parts.specs.declared.Colours.{Colours}
 use Rattle.prefix_parts.specs.declared.Styles.{Styles}
 use Rattle.prefix_parts.specs.declared.Tail.{Tail}
 use Rattle.prefix_parts.specs.Parts.{head, modes, colours, styles, tail}
+use Rattle.prefix_parts.specs.PlainColours.{plain_colours}
+use Rattle.std.proofs.Common.{sym, ap}
 
 -- K is what follows, of the part's fields and, behind another part, of an answer o before it
 module _ (row : Row) (xs : List ℕ) {C : Type 0} where
@@ -56,3 +58,18 @@ module _ (row : Row) (xs : List ℕ) {C : Type 0} where
     unfolding tail ◌>>=◌ give
     tail_reads K (got e p) = simp behind
     tail_reads K (refused r p) = refl
+
+-- the part of a colour with none of the fields behind it
+abbrev plain : ℕ → Colours
+plain colour = record { color_raw = colour; color_rgb = None; color_alpha = None }
+
+module _ (row : Row) (xs : List ℕ) where
+  plain_read : (p : ℕ) (y : Out ℕ ℕ) → y ≡ BS.read xs p → value_of 0 y < 0x2000 → (colours row).read xs p ≡ and_then y (λ c q. got (plain c) q)
+  unfolding colours
+  plain_read p (got c q) e h = plain_colours row xs p e h
+  plain_read p (refused r q) e h = first xs BS _ p e
+
+  pub plain_behind : {A : Type 0} (o : Out ℕ A) {y : Out ℕ ℕ} → y ≡ then_read (BS.read xs) o → value_of 0 y < 0x2000
+      → then_read ((colours row).read xs) o ≡ and_then y (λ c q. got (plain c) q)
+  plain_behind (got a p) {y} e h = plain_read p y e h
+  plain_behind (refused r p) e h = ap (λ y. and_then y (λ c q. got (plain c) q)) (sym e)
