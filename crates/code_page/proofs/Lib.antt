@@ -1,4 +1,5 @@
 pub mod PassLaws
+pub mod Seen
 pub mod CallLaws
 pub mod SearchLaws
 pub mod Facts

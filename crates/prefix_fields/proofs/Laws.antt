@@ -1,6 +1,6 @@
--- A colour's name that is read past, from what the text's reader answers. Assumes nothing.
-use Rattle.std.specs.Prelude.{◌≡◌, Bool, List, ℕ}
-use Rattle.std.proofs.Common.{sym}
+-- A colour's name that is read past, from what the text's reader answers; and a number of blocks that may follow, one at least. Assumes nothing.
+use Rattle.std.specs.Prelude.{◌≡◌, Bool, List, ℕ, suc, ◌-◌, ◌<◌}
+use Rattle.std.proofs.Common.{sym, arith}
 use Rattle.bitcursor.specs.declared.Refusal.{Refusal}
 use Rattle.bitcursor.specs.Reading.{Out, got, refused, and_then}
 use Rattle.bitcursor.specs.Code.{mapped, tabled, ◌>>=◌, give}
@@ -27,3 +27,6 @@ module _ (b : Bool) (xs : List ℕ) (p : ℕ) where
       go : (o : Out ℕ Written) → placed Main (width_by b) p o ≡ refused n q → and_then {B = Unit {0}} o (λ u r. got tt r) ≡ refused n q
       go (got u r) k = cc
       go (refused m r) k = cc
+
+pub less : (n : ℕ) → 0 < n → n ≡ suc (n - 1)
+less n some = omega arith
