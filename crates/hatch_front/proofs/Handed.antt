@@ -103,7 +103,7 @@ module _ (cap : ℕ) (few : cap ≤ 16) (v : Version) (γ : Payloads) where
     where
       names : (at : ℕ) (b : BlockValue) → ColorsAt γ.main at b.colors → (o : Out Places Text)
           → Handed gradient_of (λ a. a.colors) γ.main (and_then o (λ name q. got (shown b name) q))
-            (and_then o (λ name q. got (shown_of (block_of at b) name) q))
+          (and_then o (λ name q. got (shown_of (block_of at b) name) q))
       names at b h (got name q) = let s = shown_is γ.main at b name h in (s.0, ap (λ (g : Gradient). got g q) s.1, s.2)
       names at b h (refused k q) = refl
 

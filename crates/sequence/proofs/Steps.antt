@@ -39,12 +39,6 @@ module _ {A B C : Type 0} (xs : List ℕ) where
   next c k absent (got v p) e = ap (resume xs (k v)) (sym e)
   next c k absent (refused r p) e = ap (resume xs (k absent)) (sym e)
 
-module _ {A B C : Type 0} where
-  -- what follows a part is read behind its last field
-  pub behind : (o : Out ℕ A) (f : A → ℕ → Out ℕ B) (g : B → ℕ → Out ℕ C) → and_then (and_then o f) g ≡ and_then o (λ a q. and_then (f a q) g)
-  behind (got a q) f g = refl
-  behind (refused r q) f g = refl
-
 -- ---- the range of a step's number
 pub step_below : {A : Type 0} (n : ℕ) (c : Code ℕ) → 0 < n → Below n c → (xs : List ℕ) (o : Out ℕ A) {y : Out ℕ ℕ}
     → y ≡ then_read (c.read xs) o → value_of 0 y < n
