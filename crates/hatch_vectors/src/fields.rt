@@ -8,7 +8,7 @@ use text::{Source, Text};
 // Puts a text, whose units are read in the payload that it lies in.
 fn put_text(answer: &mut Answer, record: &Record, t: Text) {
     match t.source {
-        Source::String => texts::put(answer, record.strings, t),
+        Source::String => texts::put(answer, record.strings.unwrap_or(&[]), t),
         _ => texts::put(answer, record.payload, t),
     }
 }

@@ -10,6 +10,7 @@ use stored::record::Record;
 
 fn call(
     record: &Record,
+    strings: &[u8],
     words: &mut [u32],
     numbers: &mut [u64],
 ) -> Result<HatchBits, Refused<Places>> {
@@ -18,7 +19,7 @@ fn call(
         return hatch::decode_with_strings(
             main,
             record.start,
-            record.strings,
+            strings,
             record.more as usize,
             record.string_end,
             record.release,
@@ -71,8 +72,9 @@ pub fn answer(record: &Record) -> Option<Answer> {
     if !is_hatch || LENT < w || LENT < n {
         return None;
     }
+    let strings = record.strings?;
     let mut words = entries::old_words();
     let mut numbers = entries::old_numbers();
-    let called = call(record, &mut words[..w], &mut numbers[..n]);
+    let called = call(record, strings, &mut words[..w], &mut numbers[..n]);
     of_call(record, called, &words, &numbers)
 }

@@ -1,11 +1,12 @@
-// The kinds of request, numbered from 1 as oracle/pack.rs has them.
+// The kinds of request, numbered as oracle/pack.rs has them.
 use std::fmt;
 
 // The codes, each by value; BdBits, RdBits and DdBits hand over a double's 64 bits, Bd, Rd and Dd the double. Then the entity prefix, the
-// inline text, the hatch body without and with a string reader, and the text by a reader.
+// inline text, the hatch body without and with a string reader, and the text by a reader. No call answers an unknown one.
 #[derive(Clone, Copy, Debug, PartialEq, Eq)]
 pub enum Kind {
-    B = 1,
+    Unknown,
+    B,
     Bb,
     ThreeB,
     Bs,
@@ -30,13 +31,10 @@ pub enum Kind {
     Reader,
 }
 
-// A number that no kind has.
-#[derive(Clone, Copy, Debug, PartialEq, Eq)]
-pub struct UnknownKind;
-
 impl Kind {
     // Every kind, in the order of the numbers.
-    pub const ALL: [Kind; 23] = [
+    pub const ALL: [Kind; 24] = [
+        Kind::Unknown,
         Kind::B,
         Kind::Bb,
         Kind::ThreeB,
@@ -64,6 +62,7 @@ impl Kind {
 
     fn as_str(self) -> &'static str {
         match self {
+            Kind::Unknown => "unknown",
             Kind::B => "b",
             Kind::Bb => "bb",
             Kind::ThreeB => "3b",
@@ -91,16 +90,14 @@ impl Kind {
     }
 }
 
-impl TryFrom<u64> for Kind {
-    type Error = UnknownKind;
-
-    fn try_from(number: u64) -> Result<Kind, UnknownKind> {
+impl From<u64> for Kind {
+    fn from(number: u64) -> Kind {
         for kind in Kind::ALL {
             if kind as u64 == number {
-                return Ok(kind);
+                return kind;
             }
         }
-        Err(UnknownKind)
+        Kind::Unknown
     }
 }
 

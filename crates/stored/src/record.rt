@@ -11,7 +11,7 @@ use crate::kinds::Kind;
 // The first byte of the payload.
 const HEAD: usize = 80;
 
-// A record that has the bytes that it says, in its parts; `more` is item 4.
+// A record that has the payload that it says, in its parts; `more` is item 4. Where it has fewer strings than it says, it has none, and no answer.
 #[derive(Clone, Copy)]
 pub struct Record<'a> {
     pub line: u64,
@@ -23,7 +23,7 @@ pub struct Record<'a> {
     pub lent_words: usize,
     pub lent_numbers: usize,
     pub payload: &'a [u8],
-    pub strings: &'a [u8],
+    pub strings: Option<&'a [u8]>,
     pub answer: &'a [u8],
 }
 
@@ -34,10 +34,13 @@ impl<'a> Record<'a> {
             return None;
         }
         let (payload, rest) = padded(&bytes[HEAD..], item(bytes, 64) as usize)?;
-        let (strings, answer) = padded(rest, item(bytes, 72) as usize)?;
+        let (strings, answer) = match padded(rest, item(bytes, 72) as usize) {
+            Some((strings, answer)) => (Some(strings), answer),
+            None => (None, &rest[rest.len()..]),
+        };
         Some(Record {
             line: item(bytes, 0),
-            kind: Kind::try_from(item(bytes, 8)).ok()?,
+            kind: Kind::from(item(bytes, 8)),
             release: item(bytes, 16),
             start: item(bytes, 24) as usize,
             more: item(bytes, 32),
