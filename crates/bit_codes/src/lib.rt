@@ -3,33 +3,20 @@
 // refusal. Each call takes any bytes and any place; the readers of `bitcursor::within` do the work once the payload is known to be within the limit.
 #![tactic(auto, using(crate::proofs::Readings::calls))]
 
-ghost use Rattle.std.specs.Prelude.{◌≡◌, ◌≤◌, ◌<◌, length, OnOk, IfErr};
-ghost use Rattle.loads.specs.Bits.{limit};
-ghost use Rattle.bitcursor.specs.declared.Refusal.TheVariants.{PayloadTooLong};
+ghost use Rattle.std.specs.Prelude.{◌≡◌};
 ghost use Rattle.bitcursor.specs.Codes.{B, BB, «3B», RC, RS, RL, RD, BS, BL, signed_BS, signed_BL};
 ghost use Rattle.bitcursor.specs.Doubles.{BD, DD};
 ghost use Rattle.bitcursor.specs.Handles.{BLL, HANDLE};
 ghost use Rattle.bitcursor.specs.Answers.{limited, outcome, value_as};
 
 use bitcursor::values::{Number, long_of, short_of};
-use bitcursor::{Handle, LIMIT, Reading, Refusal, Refused, refuse, within};
-
-// Refusal 10 for a payload above the limit.
-fn within_limit(s: &[u8], at: usize) -> Result<(), Refused>
-    ensures within { OnOk result (length s.now ≤ limit) }
-    ensures above { IfErr result (λ e. (limit < length s.now) × (e ≡ record { refusal = PayloadTooLong; place = at })) }
-{
-    if LIMIT < s.len() {
-        return refuse(Refusal::PayloadTooLong, at);
-    }
-    Ok(())
-}
+use bitcursor::{Handle, Reading, payload, within};
 
 // B: one bit.
 pub fn read_b(s: &[u8], at: usize) -> Reading<bool>
     ensures { outcome result ≡ limited B.read s.now at }
 {
-    within_limit(s, at)?;
+    let s = &payload(s, at)?;
     within::read_flag(s, at)
 }
 
@@ -37,7 +24,7 @@ pub fn read_b(s: &[u8], at: usize) -> Reading<bool>
 pub fn read_bb(s: &[u8], at: usize) -> Reading<u64>
     ensures { outcome result ≡ limited BB.read s.now at }
 {
-    within_limit(s, at)?;
+    let s = &payload(s, at)?;
     within::read_bits(s, at, 2)
 }
 
@@ -45,7 +32,7 @@ pub fn read_bb(s: &[u8], at: usize) -> Reading<u64>
 pub fn read_3b(s: &[u8], at: usize) -> Reading<u64>
     ensures { outcome result ≡ limited «3B».read s.now at }
 {
-    within_limit(s, at)?;
+    let s = &payload(s, at)?;
     within::read_bits(s, at, 3)
 }
 
@@ -53,7 +40,7 @@ pub fn read_3b(s: &[u8], at: usize) -> Reading<u64>
 pub fn read_rc(s: &[u8], at: usize) -> Reading<u64>
     ensures { outcome result ≡ limited RC.read s.now at }
 {
-    within_limit(s, at)?;
+    let s = &payload(s, at)?;
     within::read_low(s, at, 1)
 }
 
@@ -61,7 +48,7 @@ pub fn read_rc(s: &[u8], at: usize) -> Reading<u64>
 pub fn read_rs(s: &[u8], at: usize) -> Reading<i16>
     ensures { outcome result ≡ limited RS.read s.now at }
 {
-    within_limit(s, at)?;
+    let s = &payload(s, at)?;
     let (v, p) = within::read_low(s, at, 2)?;
     Ok((short_of(v), p))
 }
@@ -70,7 +57,7 @@ pub fn read_rs(s: &[u8], at: usize) -> Reading<i16>
 pub fn read_rl(s: &[u8], at: usize) -> Reading<u64>
     ensures { outcome result ≡ limited RL.read s.now at }
 {
-    within_limit(s, at)?;
+    let s = &payload(s, at)?;
     within::read_low(s, at, 4)
 }
 
@@ -78,7 +65,7 @@ pub fn read_rl(s: &[u8], at: usize) -> Reading<u64>
 pub fn read_rd<N: Number>(s: &[u8], at: usize) -> Reading<N>
     ensures { outcome result ≡ value_as N.of_bits (limited RD.read s.now at) }
 {
-    within_limit(s, at)?;
+    let s = &payload(s, at)?;
     let (bits, p) = within::read_low(s, at, 8)?;
     Ok((N::from_bits(bits), p))
 }
@@ -87,7 +74,7 @@ pub fn read_rd<N: Number>(s: &[u8], at: usize) -> Reading<N>
 pub fn read_bs(s: &[u8], at: usize) -> Reading<i16>
     ensures { outcome result ≡ limited signed_BS.read s.now at }
 {
-    within_limit(s, at)?;
+    let s = &payload(s, at)?;
     let (v, p) = within::read_bs_u(s, at)?;
     Ok((short_of(v), p))
 }
@@ -96,7 +83,7 @@ pub fn read_bs(s: &[u8], at: usize) -> Reading<i16>
 pub fn read_bs_u(s: &[u8], at: usize) -> Reading<u64>
     ensures { outcome result ≡ limited BS.read s.now at }
 {
-    within_limit(s, at)?;
+    let s = &payload(s, at)?;
     within::read_bs_u(s, at)
 }
 
@@ -104,7 +91,7 @@ pub fn read_bs_u(s: &[u8], at: usize) -> Reading<u64>
 pub fn read_bl(s: &[u8], at: usize) -> Reading<i32>
     ensures { outcome result ≡ limited signed_BL.read s.now at }
 {
-    within_limit(s, at)?;
+    let s = &payload(s, at)?;
     let (v, p) = within::read_bl_u(s, at)?;
     Ok((long_of(v), p))
 }
@@ -113,7 +100,7 @@ pub fn read_bl(s: &[u8], at: usize) -> Reading<i32>
 pub fn read_bl_u(s: &[u8], at: usize) -> Reading<u64>
     ensures { outcome result ≡ limited BL.read s.now at }
 {
-    within_limit(s, at)?;
+    let s = &payload(s, at)?;
     within::read_bl_u(s, at)
 }
 
@@ -121,7 +108,7 @@ pub fn read_bl_u(s: &[u8], at: usize) -> Reading<u64>
 pub fn read_bll(s: &[u8], at: usize) -> Reading<u64>
     ensures { outcome result ≡ limited BLL.read s.now at }
 {
-    within_limit(s, at)?;
+    let s = &payload(s, at)?;
     within::read_bll(s, at)
 }
 
@@ -129,7 +116,7 @@ pub fn read_bll(s: &[u8], at: usize) -> Reading<u64>
 pub fn read_bd<N: Number>(s: &[u8], at: usize) -> Reading<N>
     ensures { outcome result ≡ value_as N.of_bits (limited BD.read s.now at) }
 {
-    within_limit(s, at)?;
+    let s = &payload(s, at)?;
     let (bits, p) = within::read_bd_bits(s, at)?;
     Ok((N::from_bits(bits), p))
 }
@@ -138,7 +125,7 @@ pub fn read_bd<N: Number>(s: &[u8], at: usize) -> Reading<N>
 pub fn read_dd<N: Number>(s: &[u8], at: usize, default: N) -> Reading<N>
     ensures { outcome result ≡ value_as N.of_bits (limited (DD (N.bits_of default)).read s.now at) }
 {
-    within_limit(s, at)?;
+    let s = &payload(s, at)?;
     let (bits, p) = within::read_dd_bits(s, at, default.to_bits())?;
     Ok((N::from_bits(bits), p))
 }
@@ -147,6 +134,6 @@ pub fn read_dd<N: Number>(s: &[u8], at: usize, default: N) -> Reading<N>
 pub fn read_handle(s: &[u8], at: usize) -> Reading<Handle>
     ensures { outcome result ≡ limited HANDLE.read s.now at }
 {
-    within_limit(s, at)?;
+    let s = &payload(s, at)?;
     within::read_handle(s, at)
 }

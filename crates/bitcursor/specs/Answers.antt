@@ -27,6 +27,10 @@ abbrev pub value_as : {A B P : Type 0} → (A → B) → Out P A → Out P B
 value_as f (got a p) = got (f a) p
 value_as f (refused r p) = refused r p
 
+-- bytes as a payload: refusal 10 at the place where they are above the limit
+abbrev pub payload_at : List ℕ → ℕ → Result (List ℕ) (Refused ℕ)
+payload_at xs p = elim (leb (length xs) limit) [ true ↦ Ok xs | false ↦ Err (record { refusal = PayloadTooLong; place = p }) ]
+
 -- a reading of any payload: refusal 10 at the place where the payload is above the limit
 unfoldable pub limited : {A : Type 0} → (List ℕ → ℕ → Out ℕ A) → List ℕ → ℕ → Out ℕ A
 limited f xs p = elim (leb (length xs) limit) [ true ↦ f xs p | false ↦ refused PayloadTooLong p ]

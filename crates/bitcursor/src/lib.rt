@@ -1,15 +1,17 @@
-// What the bit codes of DWG are, and their readers for callers that know the payload's limit: src/bitcursor.rs of dwg-rs, section 2 of
-// the ODA's specification. Crate `bit_codes` has the calls on any bytes.
+// What the bit codes of DWG are, and their readers of a payload within the limit: src/bitcursor.rs of dwg-rs, section 2 of the ODA's
+// specification. Crate `bit_codes` has the calls on any bytes.
 // specs/ has codes and formats and what holds of each; it promises the value and place of a layout by the code's table, or document 01's refusal.
 #![tactic(auto)]
 
 ghost use Rattle.std.specs.Prelude.{◌≡◌, Err};
+ghost use Rattle.bitcursor.specs.Answers.{payload_at};
 ghost use Rattle.bitcursor.specs.Refusals.{refusal_number};
 
 mod places;
 pub mod values;
 pub mod within;
 
+pub use loads::{LIMIT, Payload};
 pub use places::Places;
 
 // Why a reading stops: the rows of document 01's table, to which `refusal_number` of specs/Refusals gives their numbers.
@@ -77,5 +79,13 @@ pub struct Handle {
     pub value: u64,
 }
 
-// Document 01's limit: a payload above it is refusal 10.
-pub const LIMIT: usize = 268_435_456;
+// Bytes as a payload: refusal 10, at the place, above document 01's limit.
+pub fn payload(bytes: &[u8], at: usize) -> Result<Payload, Refused>
+    ensures { result ≡ payload_at bytes.now at }
+{
+    let payload = Payload::new(bytes);
+    payload.ok_or(Refused {
+        refusal: Refusal::PayloadTooLong,
+        place: at,
+    })
+}

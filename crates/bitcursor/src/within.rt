@@ -1,4 +1,4 @@
-// The readers for callers that know the payload to be within document 01's limit: raw bits and bytes, and the codes over them.
+// The readers of a payload, which is within document 01's limit: raw bits and bytes, and the codes over them.
 ghost use Rattle.std.specs.Prelude.{◌≡◌, ◌+◌, ◌/◌, ◌^◌, ◌≤◌, ◌<◌, length};
 ghost use Rattle.bitcursor.specs.Code.{raw};
 ghost use Rattle.bitcursor.specs.Bytes.{low_first, high_first, skip};
@@ -6,31 +6,30 @@ ghost use Rattle.bitcursor.specs.Codes.{by_tag, B, BS, BL};
 ghost use Rattle.bitcursor.specs.Doubles.{BD, DD, four, six};
 ghost use Rattle.bitcursor.specs.Handles.{BLL, HANDLE, HANDLE_value};
 ghost use Rattle.bitcursor.specs.Answers.{outcome, passing};
-ghost use Rattle.loads.specs.Bits.{limit};
 
-use crate::{Handle, Passing, Reading, Refusal, refuse};
+use crate::{Handle, Passing, Payload, Reading, Refusal, refuse};
 
 // The next n bits. A payload that is not empty has n bits, so that its last place for them is known, and one comparison tells. A row of flags
 // has it many times, and the compiler would leave it a call that hands its answer over by memory: so it is marked.
 #[tactic(auto, using(crate::specs::Bytes::raw_there, crate::specs::Bytes::raw_short))]
 #[inline(always)]
-pub fn read_bits(s: &[u8], at: usize, n: usize) -> Reading<u64>
-    requires { (length s.now ≤ limit) × ((1 ≤ n) × (n ≤ 8)) }
+pub fn read_bits(s: &Payload, at: usize, n: usize) -> Reading<u64>
+    requires { (1 ≤ n) × (n ≤ 8) }
     ensures { outcome result ≡ (raw n).read s.now at }
 {
-    if s.len() == 0 {
+    let end = s.size();
+    if end == 0 {
         return refuse(Refusal::TooFewBits, at);
     }
-    if s.len() * 8 - n < at {
+    if end - n < at {
         return refuse(Refusal::TooFewBits, at);
     }
-    Ok((loads::bits_at(s, at, n), at + n))
+    Ok((loads::bits_at(s.bytes(), at, n), at + n))
 }
 
 // B.
 #[tactic(auto, using(crate::proofs::Steps::reading), unfolding(crate::specs::Codes::B, crate::specs::Codes::B_read))]
-pub fn read_flag(s: &[u8], at: usize) -> Reading<bool>
-    requires { length s.now ≤ limit }
+pub fn read_flag(s: &Payload, at: usize) -> Reading<bool>
     ensures { outcome result ≡ B.read s.now at }
 {
     let (v, p) = read_bits(s, at, 1)?;
@@ -39,14 +38,13 @@ pub fn read_flag(s: &[u8], at: usize) -> Reading<bool>
 
 // Past n bytes, by one comparison.
 #[tactic(auto, using(crate::specs::Stops::skip_there, crate::specs::Stops::skip_short))]
-pub fn skip_bytes(s: &[u8], at: usize, n: usize) -> Passing
-    requires { length s.now ≤ limit }
+pub fn skip_bytes(s: &Payload, at: usize, n: usize) -> Passing
     ensures { passing result ≡ (skip n).read s.now at }
 {
     if n == 0 {
         return Ok(at);
     }
-    let end = s.len() * 8;
+    let end = s.size();
     if end <= at {
         return refuse(Refusal::TooFewBits, at);
     }
@@ -58,8 +56,8 @@ pub fn skip_bytes(s: &[u8], at: usize, n: usize) -> Passing
 }
 
 // The next n bytes, the low one first.
-pub fn read_low(s: &[u8], at: usize, n: usize) -> Reading<u64>
-    requires { (length s.now ≤ limit) × (n ≤ 8) }
+pub fn read_low(s: &Payload, at: usize, n: usize) -> Reading<u64>
+    requires { n ≤ 8 }
     ensures { outcome result ≡ (low_first n).read s.now at }
 {
     if n == 0 {
@@ -70,8 +68,8 @@ pub fn read_low(s: &[u8], at: usize, n: usize) -> Reading<u64>
 }
 
 // The next n bytes, the high one first.
-fn read_high(s: &[u8], at: usize, n: usize) -> Reading<u64>
-    requires { (length s.now ≤ limit) × (n ≤ 8) }
+fn read_high(s: &Payload, at: usize, n: usize) -> Reading<u64>
+    requires { n ≤ 8 }
     ensures { outcome result ≡ (high_first n).read s.now at }
 {
     if n == 0 {
@@ -84,8 +82,8 @@ fn read_high(s: &[u8], at: usize, n: usize) -> Reading<u64>
 // What follows the tags 00 and 01 of a BS or a BL: n bytes, or one. BS and BL share it, so that the compiler leaves it a call, and puts the
 // two, which have the codes that are a tag alone before it, into their callers.
 #[tactic(auto, using(crate::proofs::Steps::reading), unfolding(crate::specs::Codes::by_tag))]
-fn read_tagged(s: &[u8], at: usize, tag: u64, n: usize) -> Reading<u64>
-    requires { (length s.now ≤ limit) × (n ≤ 8) }
+fn read_tagged(s: &Payload, at: usize, tag: u64, n: usize) -> Reading<u64>
+    requires { n ≤ 8 }
     ensures { outcome result ≡ (by_tag (low_first n) (low_first 1) (low_first 1) (low_first 1) tag).read s.now at }
 {
     if tag == 0 {
@@ -96,8 +94,7 @@ fn read_tagged(s: &[u8], at: usize, tag: u64, n: usize) -> Reading<u64>
 
 // BS, unsigned.
 #[tactic(auto, using(crate::proofs::Steps::reading), unfolding(crate::specs::Codes::BS, crate::specs::Codes::BS_read, crate::specs::Codes::tagged, crate::specs::Codes::by_tag))]
-pub fn read_bs_u(s: &[u8], at: usize) -> Reading<u64>
-    requires { length s.now ≤ limit }
+pub fn read_bs_u(s: &Payload, at: usize) -> Reading<u64>
     ensures { outcome result ≡ BS.read s.now at }
 {
     let (tag, p) = read_bits(s, at, 2)?;
@@ -112,8 +109,7 @@ pub fn read_bs_u(s: &[u8], at: usize) -> Reading<u64>
 
 // BL, unsigned.
 #[tactic(auto, using(crate::proofs::Steps::reading), unfolding(crate::specs::Codes::BL, crate::specs::Codes::BL_read, crate::specs::Codes::tagged, crate::specs::Codes::by_tag))]
-pub fn read_bl_u(s: &[u8], at: usize) -> Reading<u64>
-    requires { length s.now ≤ limit }
+pub fn read_bl_u(s: &Payload, at: usize) -> Reading<u64>
     ensures { outcome result ≡ BL.read s.now at }
 {
     let (tag, p) = read_bits(s, at, 2)?;
@@ -128,24 +124,22 @@ pub fn read_bl_u(s: &[u8], at: usize) -> Reading<u64>
 
 // The tag of a BD, by the bits that are left. Loops over many BD have this test in them, and hold no number for it but the payload's end.
 #[tactic(auto, using(crate::specs::Bytes::raw_there, crate::specs::Bytes::raw_short))]
-fn read_tag(s: &[u8], at: usize) -> Reading<u64>
-    requires { length s.now ≤ limit }
+fn read_tag(s: &Payload, at: usize) -> Reading<u64>
     ensures { outcome result ≡ (raw 2).read s.now at }
 {
-    let end = s.len() * 8;
+    let end = s.size();
     if end <= at {
         return refuse(Refusal::TooFewBits, at);
     }
     if end - at < 2 {
         return refuse(Refusal::TooFewBits, at);
     }
-    Ok((loads::bits_at(s, at, 2), at + 2))
+    Ok((loads::bits_at(s.bytes(), at, 2), at + 2))
 }
 
 // BD, as its 64 bits.
 #[tactic(auto, using(crate::proofs::Steps::reading), unfolding(crate::specs::Doubles::BD, crate::specs::Doubles::BD_read, crate::specs::Codes::tagged, crate::specs::Codes::by_tag))]
-pub fn read_bd_bits(s: &[u8], at: usize) -> Reading<u64>
-    requires { length s.now ≤ limit }
+pub fn read_bd_bits(s: &Payload, at: usize) -> Reading<u64>
     ensures { outcome result ≡ BD.read s.now at }
 {
     let (tag, p) = read_tag(s, at)?;
@@ -159,13 +153,14 @@ pub fn read_bd_bits(s: &[u8], at: usize) -> Reading<u64>
 
 // The same where the ten bytes from the tag's on are there: no other comparison with the payload's length. For loops over many; the
 // caller makes the one comparison, so that the loop has both ways in it and no call.
-pub fn read_bd_there(s: &[u8], at: usize) -> Reading<u64>
-    requires { (length s.now ≤ limit) × (at / 8 + 10 ≤ length s.now) }
+pub fn read_bd_there(s: &Payload, at: usize) -> Reading<u64>
+    requires { at / 8 + 10 ≤ length s.now }
     ensures { outcome result ≡ BD.read s.now at }
 {
-    let top = loads::top_at(s, at);
+    let bytes = s.bytes();
+    let top = loads::top_at(bytes, at);
     match top >> 62 {
-        0 => Ok((loads::low_behind(s, at, top), at + 66)),
+        0 => Ok((loads::low_behind(bytes, at, top), at + 66)),
         1 => Ok((0x3ff0_0000_0000_0000, at + 2)),
         2 => Ok((0, at + 2)),
         _ => refuse(Refusal::ReservedTag, at + 2),
@@ -174,8 +169,7 @@ pub fn read_bd_there(s: &[u8], at: usize) -> Reading<u64>
 
 // What follows the tag 10 of a DD: two bytes over bytes 4 and 5 of the default, and four over its low four.
 #[tactic(auto, using(crate::proofs::Steps::reading), unfolding(crate::specs::Doubles::six))]
-fn read_six(s: &[u8], at: usize, default: u64) -> Reading<u64>
-    requires { length s.now ≤ limit }
+fn read_six(s: &Payload, at: usize, default: u64) -> Reading<u64>
     ensures { outcome result ≡ (six default).read s.now at }
 {
     let (middle, p) = read_low(s, at, 2)?;
@@ -186,8 +180,7 @@ fn read_six(s: &[u8], at: usize, default: u64) -> Reading<u64>
 
 // What follows the tag 01 of a DD: four bytes over the low four of the default.
 #[tactic(auto, using(crate::proofs::Steps::reading), unfolding(crate::specs::Doubles::four))]
-fn read_four(s: &[u8], at: usize, default: u64) -> Reading<u64>
-    requires { length s.now ≤ limit }
+fn read_four(s: &Payload, at: usize, default: u64) -> Reading<u64>
     ensures { outcome result ≡ (four default).read s.now at }
 {
     let (low, p) = read_low(s, at, 4)?;
@@ -197,8 +190,7 @@ fn read_four(s: &[u8], at: usize, default: u64) -> Reading<u64>
 
 // DD, as its 64 bits and its default's.
 #[tactic(auto, using(crate::proofs::Steps::reading), unfolding(crate::specs::Doubles::DD, crate::specs::Doubles::DD_read, crate::specs::Codes::tagged, crate::specs::Codes::by_tag))]
-pub fn read_dd_bits(s: &[u8], at: usize, default: u64) -> Reading<u64>
-    requires { length s.now ≤ limit }
+pub fn read_dd_bits(s: &Payload, at: usize, default: u64) -> Reading<u64>
     ensures { outcome result ≡ (DD default).read s.now at }
 {
     let (tag, p) = read_bits(s, at, 2)?;
@@ -211,8 +203,7 @@ pub fn read_dd_bits(s: &[u8], at: usize, default: u64) -> Reading<u64>
 }
 
 #[tactic(auto, using(crate::proofs::Steps::reading), unfolding(crate::specs::Handles::BLL, crate::specs::Handles::BLL_read))]
-pub fn read_bll(s: &[u8], at: usize) -> Reading<u64>
-    requires { length s.now ≤ limit }
+pub fn read_bll(s: &Payload, at: usize) -> Reading<u64>
     ensures { outcome result ≡ BLL.read s.now at }
 {
     let (count, p) = read_bits(s, at, 3)?;
@@ -221,8 +212,8 @@ pub fn read_bll(s: &[u8], at: usize) -> Reading<u64>
 
 // What follows the two nibbles of a handle.
 #[tactic(auto, using(crate::proofs::Steps::reading), unfolding(crate::specs::Handles::HANDLE_value, crate::specs::Handles::checked))]
-fn handle_value(s: &[u8], at: usize, code: u64, counter: u64) -> Reading<Handle>
-    requires { (length s.now ≤ limit) × ((code < 16) × (counter < 16)) }
+fn handle_value(s: &Payload, at: usize, code: u64, counter: u64) -> Reading<Handle>
+    requires { (code < 16) × (counter < 16) }
     ensures { outcome result ≡ (HANDLE_value code counter).read s.now at }
 {
     if 8 < counter {
@@ -238,8 +229,7 @@ fn handle_value(s: &[u8], at: usize, code: u64, counter: u64) -> Reading<Handle>
 }
 
 #[tactic(auto, using(crate::proofs::Steps::reading), unfolding(crate::specs::Handles::HANDLE, crate::specs::Handles::HANDLE_read))]
-pub fn read_handle(s: &[u8], at: usize) -> Reading<Handle>
-    requires { length s.now ≤ limit }
+pub fn read_handle(s: &Payload, at: usize) -> Reading<Handle>
     ensures { outcome result ≡ HANDLE.read s.now at }
 {
     let (code, p) = read_bits(s, at, 4)?;

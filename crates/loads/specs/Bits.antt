@@ -1,6 +1,6 @@
 -- The bits of a payload, top bit of each byte first; its size and its limit; a window of bits; the number that bits spell, and back.
 -- Assumes nothing.
-use Rattle.std.specs.Prelude.{◌≡◌, Bool, true, false, List, [], ◌∷◌, ◌++◌, ℕ, zero, suc, ◌+◌, ◌*◌, ◌/◌, ◌%◌, ◌^◌, ◌<◌, length, take, drop, get_or, eqb}
+use Rattle.std.specs.Prelude.{◌≡◌, Bool, true, false, List, [], ◌∷◌, ◌++◌, ℕ, zero, suc, ◌+◌, ◌*◌, ◌/◌, ◌%◌, ◌^◌, ◌<◌, length, take, drop, get_or, eqb, leb, Option, Some, None}
 
 -- the lowest bit of a number
 abbrev pub odd : ℕ → Bool
@@ -33,6 +33,10 @@ size xs = 8 * length xs
 -- document 01's limit of a payload, in bytes
 abbrev pub limit : ℕ
 limit = 268_435_456
+
+-- bytes as a payload: none above the limit
+abbrev pub within_limit : List ℕ → Option (List ℕ)
+within_limit xs = elim (leb (length xs) limit) [ true ↦ Some xs | false ↦ None ]
 
 -- bit i of a payload, from 0
 unfoldable pub bit_at : List ℕ → ℕ → Bool

@@ -7,6 +7,10 @@ ghost use Rattle.std.specs.Prelude.{◌≡◌, ◌+◌, ◌-◌, ◌*◌, ◌/�
 ghost use Rattle.loads.specs.Bits.{limit, number, window};
 ghost use Rattle.loads.specs.Bytes.{low_number, bytes_at};
 
+mod payload;
+
+pub use payload::{LIMIT, Payload};
+
 // The n bits at `at`.
 #[tactic(auto, using(crate::proofs::Parts::in_one, crate::proofs::Parts::in_two))]
 pub fn bits_at(s: &[u8], at: usize, n: usize) -> u64
@@ -72,20 +76,20 @@ fn last_at(s: &[u8], at: usize, n: usize) -> u64
 
 // The n bytes at `at` as a number, the high one first.
 #[tactic(auto, using(crate::proofs::LoadLaws::word_first))]
-pub fn high_at(s: &[u8], at: usize, n: usize) -> u64
-    requires { (length s.now ≤ limit) × ((1 ≤ n) × ((n ≤ 8) × (at + 8 * n ≤ 8 * length s.now))) }
+pub fn high_at(s: &Payload, at: usize, n: usize) -> u64
+    requires { (1 ≤ n) × ((n ≤ 8) × (at + 8 * n ≤ 8 * length s.now)) }
     ensures { result ≡ number (window s.now at (8 * n)) }
 {
-    if 64 <= s.len() * 8 - at {
-        return word_at(s, at) >> (64 - n * 8);
+    if 64 <= s.size() - at {
+        return word_at(s.bytes(), at) >> (64 - n * 8);
     }
-    last_at(s, at, n)
+    last_at(s.bytes(), at, n)
 }
 
 // The n bytes at `at` as a number, the low one first.
 #[tactic(auto, using(crate::proofs::Swaps::low_shift))]
-pub fn low_at(s: &[u8], at: usize, n: usize) -> u64
-    requires { (length s.now ≤ limit) × ((1 ≤ n) × ((n ≤ 8) × (at + 8 * n ≤ 8 * length s.now))) }
+pub fn low_at(s: &Payload, at: usize, n: usize) -> u64
+    requires { (1 ≤ n) × ((n ≤ 8) × (at + 8 * n ≤ 8 * length s.now)) }
     ensures { result ≡ low_number (bytes_at s.now at n) }
 {
     high_at(s, at, n).swap_bytes() >> (64 - n * 8)

@@ -41,28 +41,40 @@ module _ (s : List ℕ) (at x : ℕ) (fits : at / 8 + 10 ≤ length s) (e : x �
   unfolding BD tabled BD_read refuse
   reserved h₀ h₁ h₂ = tag_11 (low_first 8) (give one_pattern) (give 0) (refuse ReservedTag tt) s at tag_read h₀ h₁ h₂
 
+-- the same of the payload whose bytes are s
+reading_of : {xs s : List ℕ} (at : ℕ) → s ≡ xs → (BD).read s at ≡ (BD).read xs at
+reading_of at e = ap (λ (ys : List ℕ). (BD).read ys at) e
+
 pub returns-in-0 : goal.returns-in-0
 returns-in-0 c =
     let word = c.top_at-top in
     let a = c.args in
+    let s = c.bytes-bytes.result.now in
+    let is = c.bytes-bytes.ensures.all in
     ap (λ (v : ℕ). got v (a.at + 66)) c.low_behind.ensures
-    ∙ sym (full a.s.now a.at word.result (omega arith) word.ensures c.in-0.is)
+    ∙ sym (full s a.at word.result (omega (arith, ap length is)) word.ensures c.in-0.is) ∙ reading_of a.at is
 
 pub returns-in-1 : goal.returns-in-1
 returns-in-1 c =
     let word = c.top_at-top in
     let a = c.args in
-    sym (one a.s.now a.at word.result (omega arith) word.ensures c.in-1.is)
+    let s = c.bytes-bytes.result.now in
+    let is = c.bytes-bytes.ensures.all in
+    sym (one s a.at word.result (omega (arith, ap length is)) word.ensures c.in-1.is) ∙ reading_of a.at is
 
 pub returns-in-2 : goal.returns-in-2
 returns-in-2 c =
     let word = c.top_at-top in
     let a = c.args in
-    sym (none a.s.now a.at word.result (omega arith) word.ensures c.in-2.is)
+    let s = c.bytes-bytes.result.now in
+    let is = c.bytes-bytes.ensures.all in
+    sym (none s a.at word.result (omega (arith, ap length is)) word.ensures c.in-2.is) ∙ reading_of a.at is
 
 pub returns-in_default : goal.returns-in_default
 returns-in_default c =
     let word = c.top_at-top in
     let a = c.args in
+    let s = c.bytes-bytes.result.now in
+    let is = c.bytes-bytes.ensures.all in
     ap outcome c.refuse.ensures
-    ∙ sym (reserved a.s.now a.at word.result (omega arith) word.ensures (search rules) (search rules) (search rules))
+    ∙ sym (reserved s a.at word.result (omega (arith, ap length is)) word.ensures (search rules) (search rules) (search rules)) ∙ reading_of a.at is
