@@ -27,6 +27,16 @@ module _ {A B : Type 0} where
   unfolding mapped tabled ◌>>=◌ give
   mapped_read h f xs p = refl
 
+-- a reading of two parts, where the first read and where it did not
+module _ {A B : Type 0} (f : Code A) (g : A → Code B) (xs : List ℕ) (p : ℕ) where
+  pub then_got : {a : A} {q : ℕ} → f.read xs p ≡ got a q → (f >>= g).read xs p ≡ (g a).read xs q
+  unfolding ◌>>=◌
+  then_got e = rw e
+
+  pub then_refused : {r : Refusal} {q : ℕ} → f.read xs p ≡ refused r q → (f >>= g).read xs p ≡ refused r q
+  unfolding ◌>>=◌
+  then_refused e = rw e
+
 module _ {A : Type 0} where
   pub given_read : (a : A) (xs : List ℕ) (p : ℕ) → (give a).read xs p ≡ got a p
   unfolding give
@@ -59,8 +69,8 @@ last_tag a b c d xs q (suc (suc (suc t))) h₀ h₁ h₂ = refl
 -- what a code with a tag reads, once the tag was read
 module _ {A : Type 0} (a b c d : Code A) (xs : List ℕ) (p : ℕ) {t q : ℕ} (e : got t q ≡ (raw 2).read xs p) where
   on_tag : (tagged a b c d).read xs p ≡ (by_tag a b c d t).read xs q
-  unfolding tagged ◌>>=◌
-  on_tag = ap (λ (o : Out ℕ ℕ). and_then o (λ v r. (by_tag a b c d v).read xs r)) (sym e)
+  unfolding tagged
+  on_tag = then_got (raw 2) (by_tag a b c d) xs p (sym e)
 
   pub tag_00 : t ≡ 0 → (tagged a b c d).read xs p ≡ a.read xs q
   unfolding by_tag
