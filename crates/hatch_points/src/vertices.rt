@@ -1,7 +1,6 @@
 // The points of polylines and splines that have a double behind each: 2 RD and a BD, n times.
 ghost use Rattle.std.specs.Prelude.{◌≡◌, [], map, ◌+◌, ◌*◌, ◌^◌, ◌≤◌, ◌<◌, length};
 ghost use Rattle.std.proofs.lemmas.List.Edits.{sets};
-ghost use Rattle.loads.specs.Bits.{limit};
 ghost use Rattle.hatch_points.specs.Gathered.{repeated};
 ghost use Rattle.hatch_points.specs.Walks.{vertex_walk, vertices_walk};
 ghost use Rattle.hatch_points.specs.Lists.{lists, Ready, Walks, Passes};
@@ -9,35 +8,36 @@ ghost use Rattle.hatch_points.specs.Vertices.{vertex_at, Extra};
 
 use crate::lists::Sizes;
 use crate::{lists, runs};
-use bitcursor::Reading;
 use bitcursor::values::Number;
+use bitcursor::{Payload, Reading};
 
 // The double behind a point, and the place after it; the point is passed by one comparison. Each loop has it in it, as `read_knot`.
 #[inline(always)]
-fn read_extra(s: &[u8], at: usize) -> Reading<u64>
-    requires { (length s.now ≤ limit) × (at ≤ 8 * length s.now) }
+fn read_extra(s: &Payload, at: usize) -> Reading<u64>
+    requires { at ≤ 8 * length s.now }
     ensures { Extra s.now at result }
 {
     let p = bitcursor::within::skip_bytes(s, at, 16)?;
-    if s.len() < p / 8 + 10 {
+    if s.bytes().len() < p / 8 + 10 {
         return bitcursor::within::read_bd_bits(s, p);
     }
     bitcursor::within::read_bd_there(s, p)
 }
 
 // Stores the point at `at`, which is there, and the double behind it.
-fn put_vertex<N: Number>(s: &[u8], at: usize, extra: u64, numbers: &mut [N], from: usize)
-    requires { (length s.now ≤ limit) × ((at + 128 ≤ 8 * length s.now) × (from + 3 < 2 ^ 64)) }
+fn put_vertex<N: Number>(s: &Payload, at: usize, extra: u64, numbers: &mut [N], from: usize)
+    requires { (at + 128 ≤ 8 * length s.now) × (from + 3 < 2 ^ 64) }
     ensures { numbers.new ≡ sets numbers.old from (map N.of_bits (vertex_at s.now at extra)) }
 {
-    lists::put_number(numbers, from, loads::eight_at(s, at));
-    lists::put_number(numbers, from + 1, loads::eight_at(s, at + 64));
+    let bytes = s.bytes();
+    lists::put_number(numbers, from, loads::eight_at(bytes, at));
+    lists::put_number(numbers, from + 1, loads::eight_at(bytes, at + 64));
     lists::put_number(numbers, from + 2, extra);
 }
 
 // n of them, read and stored.
 fn put_vertices<N: Number>(
-    s: &[u8],
+    s: &Payload,
     at: usize,
     n: usize,
     numbers: &mut [N],
@@ -57,7 +57,7 @@ fn put_vertices<N: Number>(
 }
 
 // n of them that no list has room for: their places alone are wanted.
-fn pass_vertices(s: &[u8], at: usize, n: usize, z: Sizes) -> Reading<Sizes>
+fn pass_vertices(s: &Payload, at: usize, n: usize, z: Sizes) -> Reading<Sizes>
     requires { Ready s.now at z }
     ensures { Passes s.now ((repeated n vertex_walk).read s.now at) z result }
 {
@@ -71,7 +71,7 @@ fn pass_vertices(s: &[u8], at: usize, n: usize, z: Sizes) -> Reading<Sizes>
 
 // n of them: stored so far as there is room, and passed from there on.
 pub fn decode_vertices<N: Number>(
-    s: &[u8],
+    s: &Payload,
     at: usize,
     n: usize,
     numbers: &mut [N],
@@ -90,7 +90,7 @@ pub fn decode_vertices<N: Number>(
 // and a closure in its place would put this `if` into each of them.
 #[tactic(auto, unfolding(crate::specs::Walks::vertices_walk))]
 pub fn decode_points<N: Number>(
-    s: &[u8],
+    s: &Payload,
     at: usize,
     n: usize,
     more: bool,

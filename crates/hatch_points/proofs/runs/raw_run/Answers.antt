@@ -28,7 +28,7 @@ pub put_raw-requires : goal.put_raw-requires
 put_raw-requires g c =
     let a = c.args in
     let t = passed_there a.s.now (8 * a.n) a.at c.in_ok-p.ensures in
-    (c.requires.0.0, omega (arith, t.fits))
+    omega (arith, t.fits)
 
 pub returns : goal.returns
 returns g c =
