@@ -27,7 +27,8 @@ fn bounds_check(s: &Payload, n: u64, p: usize, cap: usize) -> Reading<u64>
     Ok((n, p))
 }
 
-// A count that is a BL.
+// A count that is a BL. One function that takes the code's reader would be no plainer: this and the next would still be here, to call it, each as
+// long as it is.
 #[tactic(auto, using(bitcursor::proofs::Steps::reading, crate::specs::Heads::bounds_bounded))]
 pub fn read_count(s: &Payload, at: usize, cap: usize) -> Reading<u64>
     ensures { outcome result ≡ (bounded cap BL).read s.now at }

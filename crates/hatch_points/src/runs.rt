@@ -51,17 +51,17 @@ pub fn raw_run<N: Number>(
     at: usize,
     n: usize,
     numbers: &mut [N],
-    z: Sizes,
+    used: Sizes,
 ) -> Reading<Sizes>
-    requires { Ready s.now at z × (n < 2 ^ 32) }
-    ensures { Walks N.of_bits s.now ((raw_run n).read s.now at) (lists numbers.old []) z (lists numbers.new []) result }
+    requires { Ready s.now at used × (n < 2 ^ 32) }
+    ensures { Walks N.of_bits s.now ((raw_run n).read s.now at) (lists numbers.old []) used (lists numbers.new []) result }
 {
     if n == 0 {
-        return Ok((z, at));
+        return Ok((used, at));
     }
     let p = bitcursor::within::skip_bytes(s, at, 8 * n)?;
-    put_raw(s, at, n, numbers, z.numbers);
-    Ok((z.with_numbers(n), p))
+    put_raw(s, at, n, numbers, used.numbers);
+    Ok((used.with_numbers(n), p))
 }
 
 // A BD: where the ten bytes from its tag's on are there, by no other comparison with the payload's length. Each loop has it in it, so that
@@ -83,32 +83,32 @@ fn put_doubles<N: Number>(
     at: usize,
     n: usize,
     numbers: &mut [N],
-    z: Sizes,
+    used: Sizes,
 ) -> Reading<Sizes>
-    requires { Ready s.now at z }
+    requires { Ready s.now at used }
     ensures { Walks N.of_bits s.now ((repeated n single_walk).read s.now at)
-        (lists numbers.old []) z (lists numbers.new []) result }
+        (lists numbers.old []) used (lists numbers.new []) result }
 {
     let mut p = at;
     for i in 0..n {
         let (v, q) = read_knot(s, p)?;
-        lists::put_number(numbers, z.numbers + i, v);
+        lists::put_number(numbers, used.numbers + i, v);
         p = q;
     }
-    Ok((z.with_numbers(n), p))
+    Ok((used.with_numbers(n), p))
 }
 
 // n BD that no list has room for: their places alone are wanted.
-fn pass_doubles(s: &Payload, at: usize, n: usize, z: Sizes) -> Reading<Sizes>
-    requires { Ready s.now at z }
-    ensures { Passes s.now ((repeated n single_walk).read s.now at) z result }
+fn pass_doubles(s: &Payload, at: usize, n: usize, used: Sizes) -> Reading<Sizes>
+    requires { Ready s.now at used }
+    ensures { Passes s.now ((repeated n single_walk).read s.now at) used result }
 {
     let mut p = at;
     for _ in 0..n {
         let (_, q) = read_knot(s, p)?;
         p = q;
     }
-    Ok((z.with_numbers(n), p))
+    Ok((used.with_numbers(n), p))
 }
 
 // n BD: stored so far as there is room, and passed from there on.
@@ -117,12 +117,12 @@ pub fn double_run<N: Number>(
     at: usize,
     n: usize,
     numbers: &mut [N],
-    z: Sizes,
+    used: Sizes,
 ) -> Reading<Sizes>
-    requires { Ready s.now at z }
-    ensures { Walks N.of_bits s.now ((double_run n).read s.now at) (lists numbers.old []) z (lists numbers.new []) result }
+    requires { Ready s.now at used }
+    ensures { Walks N.of_bits s.now ((double_run n).read s.now at) (lists numbers.old []) used (lists numbers.new []) result }
 {
-    let m = stores(n, z.numbers, numbers.len());
-    let (y, p) = put_doubles(s, at, m, numbers, z)?;
-    pass_doubles(s, p, n - m, y)
+    let m = stores(n, used.numbers, numbers.len());
+    let (used, p) = put_doubles(s, at, m, numbers, used)?;
+    pass_doubles(s, p, n - m, used)
 }

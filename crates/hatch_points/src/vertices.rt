@@ -41,32 +41,32 @@ fn put_vertices<N: Number>(
     at: usize,
     n: usize,
     numbers: &mut [N],
-    z: Sizes,
+    used: Sizes,
 ) -> Reading<Sizes>
-    requires { Ready s.now at z }
+    requires { Ready s.now at used }
     ensures { Walks N.of_bits s.now ((repeated n vertex_walk).read s.now at)
-        (lists numbers.old []) z (lists numbers.new []) result }
+        (lists numbers.old []) used (lists numbers.new []) result }
 {
     let mut p = at;
     for i in 0..n {
         let (extra, q) = read_extra(s, p)?;
-        put_vertex(s, p, extra, numbers, z.numbers + 3 * i);
+        put_vertex(s, p, extra, numbers, used.numbers + 3 * i);
         p = q;
     }
-    Ok((z.with_numbers(3 * n), p))
+    Ok((used.with_numbers(3 * n), p))
 }
 
 // n of them that no list has room for: their places alone are wanted.
-fn pass_vertices(s: &Payload, at: usize, n: usize, z: Sizes) -> Reading<Sizes>
-    requires { Ready s.now at z }
-    ensures { Passes s.now ((repeated n vertex_walk).read s.now at) z result }
+fn pass_vertices(s: &Payload, at: usize, n: usize, used: Sizes) -> Reading<Sizes>
+    requires { Ready s.now at used }
+    ensures { Passes s.now ((repeated n vertex_walk).read s.now at) used result }
 {
     let mut p = at;
     for _ in 0..n {
         let (_, q) = read_extra(s, p)?;
         p = q;
     }
-    Ok((z.with_numbers(3 * n), p))
+    Ok((used.with_numbers(3 * n), p))
 }
 
 // n of them: stored so far as there is room, and passed from there on.
@@ -75,15 +75,15 @@ pub fn decode_vertices<N: Number>(
     at: usize,
     n: usize,
     numbers: &mut [N],
-    z: Sizes,
+    used: Sizes,
 ) -> Reading<Sizes>
-    requires { Ready s.now at z × (n < 2 ^ 31) }
+    requires { Ready s.now at used × (n < 2 ^ 31) }
     ensures { Walks N.of_bits s.now ((repeated n vertex_walk).read s.now at)
-        (lists numbers.old []) z (lists numbers.new []) result }
+        (lists numbers.old []) used (lists numbers.new []) result }
 {
-    let m = (runs::stores(3 * n, z.numbers, numbers.len()) + 2) / 3;
-    let (y, p) = put_vertices(s, at, m, numbers, z)?;
-    pass_vertices(s, p, n - m, y)
+    let m = (runs::stores(3 * n, used.numbers, numbers.len()) + 2) / 3;
+    let (used, p) = put_vertices(s, at, m, numbers, used)?;
+    pass_vertices(s, p, n - m, used)
 }
 
 // n points, with a double behind each or without: without one they are a run of RD. Which of the two, the payload says: the callers have it as a flag,
@@ -95,14 +95,14 @@ pub fn decode_points<N: Number>(
     n: usize,
     more: bool,
     numbers: &mut [N],
-    z: Sizes,
+    used: Sizes,
 ) -> Reading<Sizes>
-    requires { Ready s.now at z × (n < 2 ^ 31) }
+    requires { Ready s.now at used × (n < 2 ^ 31) }
     ensures { Walks N.of_bits s.now ((vertices_walk more n).read s.now at)
-        (lists numbers.old []) z (lists numbers.new []) result }
+        (lists numbers.old []) used (lists numbers.new []) result }
 {
     if more {
-        return decode_vertices(s, at, n, numbers, z);
+        return decode_vertices(s, at, n, numbers, used);
     }
-    runs::raw_run(s, at, 2 * n, numbers, z)
+    runs::raw_run(s, at, 2 * n, numbers, used)
 }
