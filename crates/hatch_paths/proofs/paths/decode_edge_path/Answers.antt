@@ -5,6 +5,7 @@ use Rattle.hatch_format.specs.Counts.{bounded}
 use Rattle.hatch_points.specs.Gathered.{repeated}
 use Rattle.hatch_paths.specs.PathWalks.{edge_walk, edges_walk}
 use Rattle.hatch_points.proofs.Laws.{then_read, then_none, walks_as, refuses, leaves, word_then, kept_same}
+use Rattle.hatch_paths.specs.Fits.{has_fits}
 use Rattle.hatch_paths.proofs.paths.decode_edge_path.Goals as goal
 
 pub returns : goal.returns
@@ -14,7 +15,7 @@ returns g c =
     let s = a.s.now in
     let n = c.in_ok-n.n in
     walks_as
-    (word_then (repeated n (edge_walk a.rules.caps a.rules.fits)) n c.put_word.ensures (rw (← c.with_words.ensures) c.decode_edges.ensures))
+    (word_then (repeated n (edge_walk a.rules.caps (has_fits a.rules.version))) n c.put_word.ensures (rw (← c.with_words.ensures) c.decode_edges.ensures))
     (sym (then_read (bounded a.rules.caps.edges BL) _ s c.in_ok-n.ensures))
 
 pub returns-in_err-n : goal.returns-in_err-n

@@ -23,7 +23,7 @@ returns g c =
     (words_then (vertices_walk x n) (bit x ∷ (bit y ∷ (n ∷ []))) 3 refl c.put_polyline_head.ensures
     (words_kept _ c.put_polyline_head.new.words (vertices_wordless x n s _) (rw (← c.with_words.ensures) c.decode_points.ensures)))
     (sym (then_read (coded B) _ s c.in_ok-bulge.ensures ∙ then_read (coded B) _ s c.in_ok-closed.ensures
-    ∙ then_read (bounded a.caps.vertices BL) _ s c.in_ok-n.ensures))
+    ∙ then_read (bounded a.rules.caps.vertices BL) _ s c.in_ok-n.ensures))
 
 pub returns-in_err-bulge : goal.returns-in_err-bulge
 unfolding polyline_walk
@@ -44,4 +44,4 @@ returns-in_err-n g c =
     leaves _ c.from_residual-in_err-n.ensures
     (refuses
     (then_read (coded B) _ s c.in_ok-bulge.ensures ∙ then_read (coded B) _ s c.in_ok-closed.ensures
-    ∙ then_none (bounded c.args.caps.vertices BL) _ s c.in_err-n.ensures) kept_same)
+    ∙ then_none (bounded c.args.rules.caps.vertices BL) _ s c.in_err-n.ensures) kept_same)
