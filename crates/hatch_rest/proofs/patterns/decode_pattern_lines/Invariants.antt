@@ -5,5 +5,5 @@ use Rattle.hatch_rest.proofs.patterns.decode_pattern_lines.Given as goal
 
 abbrev pub invariant-loop : goal.invariant-loop
 invariant-loop g l =
-    Along g.N.Number.of_bits (line_walk l.cap) l.s l.n l.at (lists l.initial.numbers l.initial.words) l.initial.y l.counter l.p
-    (lists l.numbers l.words) l.y
+    Along g.N.Number.of_bits (line_walk l.cap) l.s l.n l.at (lists l.initial.numbers l.initial.words) l.initial.used l.counter l.p
+    (lists l.numbers l.words) l.used

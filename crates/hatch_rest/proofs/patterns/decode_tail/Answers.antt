@@ -14,7 +14,7 @@ decode_pattern-requires g c =
     let a = c.args in
     let s = a.s.now in
     let n = takes_none (coded BS) in
-    ready_on (coded BS) 0 n s _ c.in_ok-kind.ensures a.z (ready_on (coded BS) 0 n s a.at c.in_ok-style.ensures a.z c.requires)
+    ready_on (coded BS) 0 n s _ c.in_ok-kind.ensures a.used (ready_on (coded BS) 0 n s a.at c.in_ok-style.ensures a.used c.requires)
 
 pub returns : goal.returns
 unfolding tail tail_read relay pure
