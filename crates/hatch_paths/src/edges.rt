@@ -8,6 +8,7 @@ ghost use Rattle.bitcursor.specs.Answers.{outcome};
 ghost use Rattle.hatch_points.specs.Gathered.{repeated};
 ghost use Rattle.hatch_paths.specs.PathWalks.{bit_walk, curve_walk, fitted_raw, fits_walk, spline_lists_walk, spline_walk, edge_of_walk, edge_walk};
 ghost use Rattle.hatch_points.specs.Lists.{lists, Ready, Walks, WordWalks};
+ghost use Rattle.hatch_points.specs.Lent.{LentWalks};
 ghost use Rattle.hatch_paths.specs.Splines.{spline_head};
 ghost use Rattle.hatch_format.specs.Caps.{document_caps, NowhereAbove};
 
@@ -15,7 +16,7 @@ use crate::Rules;
 use bitcursor::values::Number;
 use bitcursor::{Reading, Refusal, refuse, within};
 use hatch_format::Caps;
-use hatch_points::lists::Sizes;
+use hatch_points::lists::{Lent, Sizes};
 use hatch_points::{counts, lists, runs, vertices};
 
 // A spline's fields in front of its lists.
@@ -33,17 +34,15 @@ fn decode_curve<N: Number>(
     s: &[u8],
     at: usize,
     n: usize,
-    numbers: &mut [N],
-    words: &mut [u32],
+    lent: &mut Lent<N>,
     z: Sizes,
 ) -> Reading<Sizes>
     requires { Ready s.now at z × (n < 2 ^ 32) }
-    ensures { Walks N.of_bits s.now ((curve_walk n).read s.now at)
-        (lists numbers.old words.old) z (lists numbers.new words.new) result }
+    ensures { LentWalks N.of_bits s.now ((curve_walk n).read s.now at) lent.old z lent.new result }
 {
-    let (y, p) = runs::raw_run(s, at, n, numbers, z)?;
-    let (x, q) = runs::double_run(s, p, 3, numbers, y)?;
-    put_bit(s, q, words, x)
+    let (y, p) = runs::raw_run(s, at, n, lent.numbers, z)?;
+    let (x, q) = runs::double_run(s, p, 3, lent.numbers, y)?;
+    put_bit(s, q, lent.words, x)
 }
 
 // A bit that goes to the words.
@@ -178,8 +177,8 @@ fn decode_edge_of<N: Number>(
 {
     match kind {
         1 => runs::raw_run(s, at, 4, numbers, z),
-        2 => decode_curve(s, at, 2, numbers, words, z),
-        3 => decode_curve(s, at, 4, numbers, words, z),
+        2 => decode_curve(s, at, 2, &mut Lent { numbers, words }, z),
+        3 => decode_curve(s, at, 4, &mut Lent { numbers, words }, z),
         4 => decode_spline_edge(s, at, rules, numbers, words, z),
         _ => refuse(Refusal::EdgeKind, at),
     }
