@@ -7,7 +7,7 @@ ghost use Rattle.loads.specs.Bits.{bit, limit};
 ghost use Rattle.bitcursor.specs.Answers.{outcome};
 ghost use Rattle.hatch_points.specs.Gathered.{repeated};
 ghost use Rattle.hatch_paths.specs.PathWalks.{bit_walk, curve_walk, fitted_raw, fits_walk, spline_lists_walk, spline_walk, edge_of_walk, edge_walk};
-ghost use Rattle.hatch_points.specs.Lists.{lists, Ready, Walks, WordWalks};
+ghost use Rattle.hatch_points.specs.Lists.{Ready, WordWalks};
 ghost use Rattle.hatch_points.specs.Lent.{LentWalks};
 ghost use Rattle.hatch_paths.specs.Splines.{spline_head};
 ghost use Rattle.hatch_format.specs.Caps.{document_caps, NowhereAbove};
@@ -60,20 +60,18 @@ fn decode_fits<N: Number>(
     s: &[u8],
     at: usize,
     rules: Rules,
-    numbers: &mut [N],
-    words: &mut [u32],
+    lent: &mut Lent<N>,
     z: Sizes,
 ) -> Reading<Sizes>
     requires { Ready s.now at z × ((z.words + 1 ≤ at) × (rules.caps.fit_points < 2 ^ 30)) }
-    ensures { Walks N.of_bits s.now ((fits_walk rules.caps.fit_points rules.fits).read s.now at)
-        (lists numbers.old words.old) z (lists numbers.new words.new) result }
+    ensures { LentWalks N.of_bits s.now ((fits_walk rules.caps.fit_points rules.fits).read s.now at) lent.old z lent.new result }
 {
     if rules.fits {
         let (n, p) = counts::read_count(s, at, rules.caps.fit_points)?;
-        lists::put_word(words, z.words, n);
-        return runs::raw_run(s, p, fitted_raw(n as usize), numbers, z.with_words(1));
+        lists::put_word(lent.words, z.words, n);
+        return runs::raw_run(s, p, fitted_raw(n as usize), lent.numbers, z.with_words(1));
     }
-    lists::put_word(words, z.words, 0);
+    lists::put_word(lent.words, z.words, 0);
     Ok((z.with_words(1), at))
 }
 
@@ -94,17 +92,15 @@ fn decode_spline_lists<N: Number>(
     at: usize,
     head: SplineHead,
     rules: Rules,
-    numbers: &mut [N],
-    words: &mut [u32],
+    lent: &mut Lent<N>,
     z: Sizes,
 ) -> Reading<Sizes>
     requires { Ready s.now at z × ((z.words + 1 ≤ at) × ((head.controls < 2 ^ 31) × (rules.caps.fit_points < 2 ^ 30))) }
-    ensures { Walks N.of_bits s.now ((spline_lists_walk rules.caps rules.fits head.rational head.knots head.controls).read s.now at)
-        (lists numbers.old words.old) z (lists numbers.new words.new) result }
+    ensures { LentWalks N.of_bits s.now ((spline_lists_walk rules.caps rules.fits head.rational head.knots head.controls).read s.now at) lent.old z lent.new result }
 {
-    let (y, p) = runs::double_run(s, at, head.knots as usize, numbers, z)?;
-    let (x, q) = vertices::decode_points(s, p, head.controls as usize, head.rational, numbers, y)?;
-    decode_fits(s, q, rules, numbers, words, x)
+    let (y, p) = runs::double_run(s, at, head.knots as usize, lent.numbers, z)?;
+    let (x, q) = vertices::decode_points(s, p, head.controls as usize, head.rational, lent.numbers, y)?;
+    decode_fits(s, q, rules, lent, x)
 }
 
 // The fields of a spline in front of its lists: both counts are tested before any knot is read.
@@ -146,17 +142,15 @@ fn decode_spline_edge<N: Number>(
     s: &[u8],
     at: usize,
     rules: Rules,
-    numbers: &mut [N],
-    words: &mut [u32],
+    lent: &mut Lent<N>,
     z: Sizes,
 ) -> Reading<Sizes>
     requires { Ready s.now at z × NowhereAbove rules.caps document_caps }
-    ensures { Walks N.of_bits s.now ((spline_walk rules.caps rules.fits).read s.now at)
-        (lists numbers.old words.old) z (lists numbers.new words.new) result }
+    ensures { LentWalks N.of_bits s.now ((spline_walk rules.caps rules.fits).read s.now at) lent.old z lent.new result }
 {
     let (head, p) = read_spline_head(s, at, rules.caps)?;
-    put_spline_head(words, z.words, head);
-    decode_spline_lists(s, p, head, rules, numbers, words, z.with_words(5))
+    put_spline_head(lent.words, z.words, head);
+    decode_spline_lists(s, p, head, rules, lent, z.with_words(5))
 }
 
 // What follows an edge's kind. The kinds are document 01's numbers: an enum of them would be made here and matched here, and its refusal
@@ -167,19 +161,17 @@ fn decode_edge_of<N: Number>(
     at: usize,
     kind: u64,
     rules: Rules,
-    numbers: &mut [N],
-    words: &mut [u32],
+    lent: &mut Lent<N>,
     z: Sizes,
 ) -> Reading<Sizes>
     requires { Ready s.now at z × NowhereAbove rules.caps document_caps }
-    ensures { Walks N.of_bits s.now ((edge_of_walk rules.caps rules.fits kind).read s.now at)
-        (lists numbers.old words.old) z (lists numbers.new words.new) result }
+    ensures { LentWalks N.of_bits s.now ((edge_of_walk rules.caps rules.fits kind).read s.now at) lent.old z lent.new result }
 {
     match kind {
-        1 => runs::raw_run(s, at, 4, numbers, z),
-        2 => decode_curve(s, at, 2, &mut Lent { numbers, words }, z),
-        3 => decode_curve(s, at, 4, &mut Lent { numbers, words }, z),
-        4 => decode_spline_edge(s, at, rules, numbers, words, z),
+        1 => runs::raw_run(s, at, 4, lent.numbers, z),
+        2 => decode_curve(s, at, 2, lent, z),
+        3 => decode_curve(s, at, 4, lent, z),
+        4 => decode_spline_edge(s, at, rules, lent, z),
         _ => refuse(Refusal::EdgeKind, at),
     }
 }
@@ -189,17 +181,15 @@ fn decode_edge<N: Number>(
     s: &[u8],
     at: usize,
     rules: Rules,
-    numbers: &mut [N],
-    words: &mut [u32],
+    lent: &mut Lent<N>,
     z: Sizes,
 ) -> Reading<Sizes>
     requires { Ready s.now at z × NowhereAbove rules.caps document_caps }
-    ensures { Walks N.of_bits s.now ((edge_walk rules.caps rules.fits).read s.now at)
-        (lists numbers.old words.old) z (lists numbers.new words.new) result }
+    ensures { LentWalks N.of_bits s.now ((edge_walk rules.caps rules.fits).read s.now at) lent.old z lent.new result }
 {
     let (kind, p) = bitcursor::within::read_low(s, at, 1)?;
-    lists::put_word(words, z.words, kind);
-    decode_edge_of(s, p, kind, rules, numbers, words, z.with_words(1))
+    lists::put_word(lent.words, z.words, kind);
+    decode_edge_of(s, p, kind, rules, lent, z.with_words(1))
 }
 
 pub fn decode_edges<N: Number>(
@@ -207,18 +197,16 @@ pub fn decode_edges<N: Number>(
     at: usize,
     n: usize,
     rules: Rules,
-    numbers: &mut [N],
-    words: &mut [u32],
+    lent: &mut Lent<N>,
     z: Sizes,
 ) -> Reading<Sizes>
     requires { Ready s.now at z × NowhereAbove rules.caps document_caps }
-    ensures { Walks N.of_bits s.now ((repeated n (edge_walk rules.caps rules.fits)).read s.now at)
-        (lists numbers.old words.old) z (lists numbers.new words.new) result }
+    ensures { LentWalks N.of_bits s.now ((repeated n (edge_walk rules.caps rules.fits)).read s.now at) lent.old z lent.new result }
 {
     let mut p = at;
     let mut y = z;
     for _ in 0..n {
-        (y, p) = decode_edge(s, p, rules, numbers, words, y)?;
+        (y, p) = decode_edge(s, p, rules, lent, y)?;
     }
     Ok((y, p))
 }

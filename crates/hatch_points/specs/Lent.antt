@@ -12,9 +12,8 @@ abbrev pub lent : {N : Type 0} → Lent N → Lists N
 lent l = lists l.numbers.now l.words.now
 
 -- without this a caller, whose lists these are, learns nothing of what was stored
-pub record SameLists {N : Type 0} (l l' : Lent N) : Type 0 where
-  pub numbers : l'.numbers.ghost_name ≡ l.numbers.ghost_name
-  pub words : l'.words.ghost_name ≡ l.words.ghost_name
+abbrev pub SameLists : {N : Type 0} → Lent N → Lent N → Type 0
+SameLists l l' = (l'.numbers.ghost_name ≡ l.numbers.ghost_name) × (l'.words.ghost_name ≡ l.words.ghost_name)
 
 pub record LentWalks {N : Type 0} (of : ℕ → N) (xs : List ℕ) (o : Out ℕ Entries) (l : Lent N) (z : Sizes) (l' : Lent N)
     (r : Result (Sizes × ℕ) (Refused ℕ)) : Type 0 where
