@@ -6,15 +6,16 @@ ghost use Rattle.bitcursor.specs.Doubles.{BD};
 ghost use Rattle.bitcursor.specs.Held.{held};
 ghost use Rattle.hatch_format.specs.Patterns.{pattern, ending, tail};
 ghost use Rattle.hatch_points.specs.Gathered.{repeated};
-ghost use Rattle.hatch_points.specs.Lists.{lists, Ready, Walks};
+ghost use Rattle.hatch_points.specs.Lists.{lists, Ready};
+ghost use Rattle.hatch_points.specs.Lent.{LentWalks};
 ghost use Rattle.hatch_rest.specs.Heads.{pattern_head};
 ghost use Rattle.hatch_rest.specs.LineGathers.{line_walk};
-ghost use Rattle.hatch_rest.specs.Tails.{Gives, pattern_of, pattern_entries, ending_of, ending_entries, tail_of, tail_entries};
+ghost use Rattle.hatch_rest.specs.Tails.{Gives, LentGives, pattern_of, pattern_entries, ending_of, ending_entries, tail_of, tail_entries};
 
 use bitcursor::values::Number;
 use bitcursor::{Reading, within};
 use hatch_format::Caps;
-use hatch_points::lists::Sizes;
+use hatch_points::lists::{Lent, Sizes};
 use hatch_points::{counts, lists, runs};
 
 // What a hatch has that is not solid, with the count of its lines; zero where it is.
@@ -47,18 +48,16 @@ fn decode_pattern_line<N: Number>(
     s: &[u8],
     at: usize,
     cap: usize,
-    numbers: &mut [N],
-    words: &mut [u32],
+    lent: &mut Lent<N>,
     z: Sizes,
 ) -> Reading<Sizes>
     requires { Ready s.now at z }
-    ensures { Walks N.of_bits s.now ((line_walk cap).read s.now at)
-        (lists numbers.old words.old) z (lists numbers.new words.new) result }
+    ensures { LentWalks N.of_bits s.now ((line_walk cap).read s.now at) lent.old z lent.new result }
 {
-    let (y, p) = runs::double_run(s, at, 5, numbers, z)?;
+    let (y, p) = runs::double_run(s, at, 5, lent.numbers, z)?;
     let (n, q) = counts::read_short_count(s, p, cap)?;
-    lists::put_word(words, y.words, n);
-    runs::double_run(s, q, n as usize, numbers, y.with_words(1))
+    lists::put_word(lent.words, y.words, n);
+    runs::double_run(s, q, n as usize, lent.numbers, y.with_words(1))
 }
 
 fn decode_pattern_lines<N: Number>(
@@ -66,18 +65,16 @@ fn decode_pattern_lines<N: Number>(
     at: usize,
     n: usize,
     cap: usize,
-    numbers: &mut [N],
-    words: &mut [u32],
+    lent: &mut Lent<N>,
     z: Sizes,
 ) -> Reading<Sizes>
     requires { Ready s.now at z }
-    ensures { Walks N.of_bits s.now ((repeated n (line_walk cap)).read s.now at)
-        (lists numbers.old words.old) z (lists numbers.new words.new) result }
+    ensures { LentWalks N.of_bits s.now ((repeated n (line_walk cap)).read s.now at) lent.old z lent.new result }
 {
     let mut p = at;
     let mut y = z;
     for _ in 0..n {
-        (y, p) = decode_pattern_line(s, p, cap, numbers, words, y)?;
+        (y, p) = decode_pattern_line(s, p, cap, lent, y)?;
     }
     Ok((y, p))
 }
@@ -106,16 +103,14 @@ fn decode_open_pattern<N: Number>(
     s: &[u8],
     at: usize,
     caps: Caps,
-    numbers: &mut [N],
-    words: &mut [u32],
+    lent: &mut Lent<N>,
     z: Sizes,
 ) -> Reading<(Pattern, Sizes)>
     requires { Ready s.now at z }
-    ensures { Gives N.of_bits s.now pattern_of pattern_entries ((pattern caps false).read s.now at)
-        (lists numbers.old words.old) z (lists numbers.new words.new) result }
+    ensures { LentGives N.of_bits s.now pattern_of pattern_entries ((pattern caps false).read s.now at) lent.old z lent.new result }
 {
     let (pattern, p) = read_pattern_head(s, at, caps.pattern_lines)?;
-    let (y, q) = decode_pattern_lines(s, p, pattern.lines, caps.dashes, numbers, words, z)?;
+    let (y, q) = decode_pattern_lines(s, p, pattern.lines, caps.dashes, lent, z)?;
     Ok(((pattern, y), q))
 }
 
@@ -125,13 +120,11 @@ fn decode_pattern<N: Number>(
     at: usize,
     solid: bool,
     caps: Caps,
-    numbers: &mut [N],
-    words: &mut [u32],
+    lent: &mut Lent<N>,
     z: Sizes,
 ) -> Reading<(Pattern, Sizes)>
     requires { Ready s.now at z }
-    ensures { Gives N.of_bits s.now pattern_of pattern_entries ((pattern caps solid).read s.now at)
-        (lists numbers.old words.old) z (lists numbers.new words.new) result }
+    ensures { LentGives N.of_bits s.now pattern_of pattern_entries ((pattern caps solid).read s.now at) lent.old z lent.new result }
 {
     if solid {
         let pattern = Pattern {
@@ -142,7 +135,7 @@ fn decode_pattern<N: Number>(
         };
         return Ok(((pattern, z), at));
     }
-    decode_open_pattern(s, at, caps, numbers, words, z)
+    decode_open_pattern(s, at, caps, lent, z)
 }
 
 // The pixel size is there if a path came from a boundary object.
@@ -187,18 +180,16 @@ pub fn decode_tail<N: Number>(
     solid: bool,
     has: bool,
     caps: Caps,
-    numbers: &mut [N],
-    words: &mut [u32],
+    lent: &mut Lent<N>,
     z: Sizes,
 ) -> Reading<(Tail, Sizes)>
     requires { Ready s.now at z }
-    ensures { Gives N.of_bits s.now tail_of tail_entries ((tail caps solid has).read s.now at)
-        (lists numbers.old words.old) z (lists numbers.new words.new) result }
+    ensures { LentGives N.of_bits s.now tail_of tail_entries ((tail caps solid has).read s.now at) lent.old z lent.new result }
 {
     let (style, p) = within::read_bs_u(s, at)?;
     let (kind, p) = within::read_bs_u(s, p)?;
-    let ((pattern, y), p) = decode_pattern(s, p, solid, caps, numbers, words, z)?;
-    let ((ending, x), q) = decode_ending(s, p, has, caps, numbers, y)?;
+    let ((pattern, y), p) = decode_pattern(s, p, solid, caps, lent, z)?;
+    let ((ending, x), q) = decode_ending(s, p, has, caps, lent.numbers, y)?;
     let tail = Tail {
         style,
         kind,

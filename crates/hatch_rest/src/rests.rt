@@ -4,8 +4,7 @@ ghost use Rattle.loads.specs.Bits.{limit};
 ghost use Rattle.hatch_format.specs.Caps.{document_caps, NowhereAbove};
 ghost use Rattle.hatch_format.specs.HandleRule.{in_payload};
 ghost use Rattle.hatch_format.specs.Patterns.{rest};
-ghost use Rattle.hatch_points.specs.Lists.{lists};
-ghost use Rattle.hatch_rest.specs.Tails.{Gives};
+ghost use Rattle.hatch_rest.specs.Tails.{LentGives};
 ghost use Rattle.hatch_rest.specs.Rests.{no_sizes, rest_of, rest_entries};
 
 use crate::patterns;
@@ -15,7 +14,7 @@ use bitcursor::{Reading, within};
 use hatch_format::Caps;
 use hatch_paths::{Rules, paths};
 use hatch_points::counts;
-use hatch_points::lists::Sizes;
+use hatch_points::lists::{Lent, Sizes};
 use text::version::Version;
 
 #[derive(Clone, Copy, Debug, PartialEq, Eq)]
@@ -31,12 +30,10 @@ pub fn decode_rest<N: Number>(
     at: usize,
     v: Version,
     caps: Caps,
-    numbers: &mut [N],
-    words: &mut [u32],
+    lent: &mut Lent<N>,
 ) -> Reading<(Rest, Sizes)>
     requires { (length s.now ≤ limit) × ((at ≤ 8 * length s.now) × NowhereAbove caps document_caps) }
-    ensures { Gives N.of_bits s.now rest_of rest_entries ((rest caps in_payload v).read s.now at)
-        (lists numbers.old words.old) no_sizes (lists numbers.new words.new) result }
+    ensures { LentGives N.of_bits s.now rest_of rest_entries ((rest caps in_payload v).read s.now at) lent.old no_sizes lent.new result }
 {
     let fits = v.is_from(Version::R2010);
     let (solid, p) = within::read_flag(s, at)?;
@@ -49,8 +46,8 @@ pub fn decode_rest<N: Number>(
         derived: false,
     };
     let rules = Rules { caps, fits };
-    let (y, p) = paths::decode_paths(s, p, count, rules, numbers, words, none)?;
-    let ((tail, z), q) = patterns::decode_tail(s, p, solid, y.derived, caps, numbers, words, y)?;
+    let (y, p) = paths::decode_paths(s, p, count, rules, lent, none)?;
+    let ((tail, z), q) = patterns::decode_tail(s, p, solid, y.derived, caps, lent, y)?;
     let rest = Rest {
         solid,
         associative,
