@@ -99,7 +99,14 @@ fn decode_spline_lists<N: Number>(
     ensures { LentWalks N.of_bits s.now ((spline_lists_walk rules.caps rules.fits head.rational head.knots head.controls).read s.now at) lent.old z lent.new result }
 {
     let (y, p) = runs::double_run(s, at, head.knots as usize, lent.numbers, z)?;
-    let (x, q) = vertices::decode_points(s, p, head.controls as usize, head.rational, lent.numbers, y)?;
+    let (x, q) = vertices::decode_points(
+        s,
+        p,
+        head.controls as usize,
+        head.rational,
+        lent.numbers,
+        y,
+    )?;
     decode_fits(s, q, rules, lent, x)
 }
 

@@ -17,10 +17,13 @@ returns g c =
     let s = a.s.now in
     let h = walk_finished (words_kept _ a.lent.now.words.now (raw_wordless a.n s a.at) c.in_ok-y.ensures) in
     let k = walk_finished (words_kept _ a.lent.now.words.now (double_wordless 3 s _) c.in_ok-x.ensures) in
-    record { same = (refl, refl); walk = walks_as
-    (behind bit_walk (λ e. plus h.entries (plus k.entries e)) (h.step ⊕ k.step) (λ e. plus_again h.entries k.entries e)
-    (numbers_kept _ _ (bit_numberless s _) c.put_bit.ensures))
-    (sym (then_got (raw_run a.n) _ s h.read ∙ then_got (double_run 3) _ s k.read)) }
+    record {
+      same = (refl, refl);
+      walk = walks_as
+          (behind bit_walk (λ e. plus h.entries (plus k.entries e)) (h.step ⊕ k.step) (λ e. plus_again h.entries k.entries e)
+          (numbers_kept _ _ (bit_numberless s _) c.put_bit.ensures))
+          (sym (then_got (raw_run a.n) _ s h.read ∙ then_got (double_run 3) _ s k.read));
+    }
 
 pub returns-in_err-x : goal.returns-in_err-x
 unfolding curve_walk
@@ -29,14 +32,20 @@ returns-in_err-x g c =
     let s = a.s.now in
     let h = walk_finished (words_kept _ a.lent.now.words.now (raw_wordless a.n s a.at) c.in_ok-y.ensures) in
     let walk = c.in_err-x.ensures in
-    record { same = (refl, refl); walk = leaves _ c.from_residual-in_err-x.ensures
-    (refuses (then_got (raw_run a.n) _ s h.read ∙ then_refused (double_run 3) _ s (walk_refused walk))
-    (kept_then h.step (kept_numbers a.lent.now.words.now (walk_kept walk)))) }
+    record {
+      same = (refl, refl);
+      walk = leaves _ c.from_residual-in_err-x.ensures
+          (refuses (then_got (raw_run a.n) _ s h.read ∙ then_refused (double_run 3) _ s (walk_refused walk))
+          (kept_then h.step (kept_numbers a.lent.now.words.now (walk_kept walk))));
+    }
 
 pub returns-in_err-y : goal.returns-in_err-y
 unfolding curve_walk
 returns-in_err-y g c =
     let a = c.args in
     let walk = c.in_err-y.ensures in
-    record { same = (refl, refl); walk = leaves _ c.from_residual.ensures
-    (refuses (then_refused (raw_run a.n) _ a.s.now (walk_refused walk)) (kept_numbers a.lent.now.words.now (walk_kept walk))) }
+    record {
+      same = (refl, refl);
+      walk = leaves _ c.from_residual.ensures
+          (refuses (then_refused (raw_run a.n) _ a.s.now (walk_refused walk)) (kept_numbers a.lent.now.words.now (walk_kept walk)));
+    }

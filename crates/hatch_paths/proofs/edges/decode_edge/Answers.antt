@@ -13,9 +13,12 @@ returns g c =
     let a = c.args in
     let s = a.s.now in
     let k = c.in_ok-kind.kind in
-    record { same = c.decode_edge_of.ensures.same; walk = walks_as
-    (word_then (edge_of_walk a.rules.caps a.rules.fits k) k c.put_word.ensures (rw (← c.with_words.ensures) c.decode_edge_of.ensures.walk))
-    (sym (then_read (coded (low_first 1)) _ s c.in_ok-kind.ensures)) }
+    record {
+      same = c.decode_edge_of.ensures.same;
+      walk = walks_as
+          (word_then (edge_of_walk a.rules.caps a.rules.fits k) k c.put_word.ensures (rw (← c.with_words.ensures) c.decode_edge_of.ensures.walk))
+          (sym (then_read (coded (low_first 1)) _ s c.in_ok-kind.ensures));
+    }
 
 pub returns-in_err-kind : goal.returns-in_err-kind
 unfolding edge_walk RC

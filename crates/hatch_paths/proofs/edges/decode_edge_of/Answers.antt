@@ -13,11 +13,17 @@ unfolding edge_of_walk
 returns-in-1 g c =
     let a = c.args in
     let s = a.s.now in
-    record { same = (refl, refl); walk = walks_as (words_kept _ a.lent.now.words.now (raw_wordless 4 s a.at) c.raw_run.ensures)
-    (ap (λ (k : ℕ). (edge_of_walk a.rules.caps a.rules.fits k).read s a.at) (sym c.in-1.is)) }
+    record {
+      same = (refl, refl);
+      walk = walks_as (words_kept _ a.lent.now.words.now (raw_wordless 4 s a.at) c.raw_run.ensures)
+          (ap (λ (k : ℕ). (edge_of_walk a.rules.caps a.rules.fits k).read s a.at) (sym c.in-1.is));
+    }
 
 pub returns-in_default : goal.returns-in_default
 returns-in_default g c =
     let a = c.args in
-    record { same = (refl, refl); walk = rw c.refuse.ensures
-    (refuses (other_kind a.rules.caps a.rules.fits a.kind a.s.now a.at (search rules) (search rules) (search rules) (search rules)) kept_same) }
+    record {
+      same = (refl, refl);
+      walk = rw c.refuse.ensures
+          (refuses (other_kind a.rules.caps a.rules.fits a.kind a.s.now a.at (search rules) (search rules) (search rules) (search rules)) kept_same);
+    }

@@ -31,10 +31,13 @@ returns g c =
     let s = a.s.now in
     let h = walk_finished (words_kept _ a.lent.now.words.now (double_wordless a.head.knots s a.at) c.in_ok-y.ensures) in
     let k = walk_finished (words_kept _ a.lent.now.words.now (vertices_wordless a.head.rational a.head.controls s _) c.in_ok-x.ensures) in
-    record { same = c.decode_fits.ensures.same; walk = walks_as
-    (behind (fits_walk a.rules.caps.fit_points a.rules.fits) (λ e. plus h.entries (plus k.entries e)) (h.step ⊕ k.step)
-    (λ e. plus_again h.entries k.entries e) c.decode_fits.ensures.walk)
-    (sym (then_got (double_run a.head.knots) _ s h.read ∙ then_got (vertices_walk a.head.rational a.head.controls) _ s k.read)) }
+    record {
+      same = c.decode_fits.ensures.same;
+      walk = walks_as
+          (behind (fits_walk a.rules.caps.fit_points a.rules.fits) (λ e. plus h.entries (plus k.entries e)) (h.step ⊕ k.step)
+          (λ e. plus_again h.entries k.entries e) c.decode_fits.ensures.walk)
+          (sym (then_got (double_run a.head.knots) _ s h.read ∙ then_got (vertices_walk a.head.rational a.head.controls) _ s k.read));
+    }
 
 pub returns-in_err-x : goal.returns-in_err-x
 unfolding spline_lists_walk
@@ -43,15 +46,21 @@ returns-in_err-x g c =
     let s = a.s.now in
     let h = walk_finished (words_kept _ a.lent.now.words.now (double_wordless a.head.knots s a.at) c.in_ok-y.ensures) in
     let walk = c.in_err-x.ensures in
-    record { same = (refl, refl); walk = leaves _ c.from_residual-in_err-x.ensures
-    (refuses
-    (then_got (double_run a.head.knots) _ s h.read ∙ then_refused (vertices_walk a.head.rational a.head.controls) _ s (walk_refused walk))
-    (kept_then h.step (kept_numbers a.lent.now.words.now (walk_kept walk)))) }
+    record {
+      same = (refl, refl);
+      walk = leaves _ c.from_residual-in_err-x.ensures
+          (refuses
+          (then_got (double_run a.head.knots) _ s h.read ∙ then_refused (vertices_walk a.head.rational a.head.controls) _ s (walk_refused walk))
+          (kept_then h.step (kept_numbers a.lent.now.words.now (walk_kept walk))));
+    }
 
 pub returns-in_err-y : goal.returns-in_err-y
 unfolding spline_lists_walk
 returns-in_err-y g c =
     let a = c.args in
     let walk = c.in_err-y.ensures in
-    record { same = (refl, refl); walk = leaves _ c.from_residual.ensures
-    (refuses (then_refused (double_run a.head.knots) _ a.s.now (walk_refused walk)) (kept_numbers a.lent.now.words.now (walk_kept walk))) }
+    record {
+      same = (refl, refl);
+      walk = leaves _ c.from_residual.ensures
+          (refuses (then_refused (double_run a.head.knots) _ a.s.now (walk_refused walk)) (kept_numbers a.lent.now.words.now (walk_kept walk)));
+    }

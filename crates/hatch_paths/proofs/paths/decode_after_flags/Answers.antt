@@ -14,13 +14,19 @@ returns g c =
     let s = a.s.now in
     let cap = a.rules.caps.boundary_handles in
     let t = walk_finished c.in_ok-y.ensures.walk in
-    record { same = c.in_ok-y.ensures.same; walk = walks_as (behind (handles_walk cap) (plus t.entries) t.step (λ e. refl) (numbers_kept _ _ (handles_numberless cap s _) c.put_handle_count.ensures))
-    (sym (then_got (segments_walk a.rules.caps a.rules.fits a.polyline) _ s t.read)) }
+    record {
+      same = c.in_ok-y.ensures.same;
+      walk = walks_as (behind (handles_walk cap) (plus t.entries) t.step (λ e. refl) (numbers_kept _ _ (handles_numberless cap s _) c.put_handle_count.ensures))
+          (sym (then_got (segments_walk a.rules.caps a.rules.fits a.polyline) _ s t.read));
+    }
 
 pub returns-in_err-y : goal.returns-in_err-y
 unfolding after_flags_walk
 returns-in_err-y g c =
     let a = c.args in
     let walk = c.in_err-y.ensures.walk in
-    record { same = c.in_err-y.ensures.same; walk = leaves _ c.from_residual.ensures
-    (refuses (then_refused (segments_walk a.rules.caps a.rules.fits a.polyline) _ a.s.now (walk_refused walk)) (walk_kept walk)) }
+    record {
+      same = c.in_err-y.ensures.same;
+      walk = leaves _ c.from_residual.ensures
+          (refuses (then_refused (segments_walk a.rules.caps a.rules.fits a.polyline) _ a.s.now (walk_refused walk)) (walk_kept walk));
+    }

@@ -13,9 +13,12 @@ returns g c =
     let a = c.args in
     let s = a.s.now in
     let n = c.in_ok-n.n in
-    record { same = c.decode_edges.ensures.same; walk = walks_as
-    (word_then (repeated n (edge_walk a.rules.caps a.rules.fits)) n c.put_word.ensures (rw (← c.with_words.ensures) c.decode_edges.ensures.walk))
-    (sym (then_read (bounded a.rules.caps.edges BL) _ s c.in_ok-n.ensures)) }
+    record {
+      same = c.decode_edges.ensures.same;
+      walk = walks_as
+          (word_then (repeated n (edge_walk a.rules.caps a.rules.fits)) n c.put_word.ensures (rw (← c.with_words.ensures) c.decode_edges.ensures.walk))
+          (sym (then_read (bounded a.rules.caps.edges BL) _ s c.in_ok-n.ensures));
+    }
 
 pub returns-in_err-n : goal.returns-in_err-n
 unfolding edges_walk

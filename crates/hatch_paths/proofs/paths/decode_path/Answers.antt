@@ -15,10 +15,13 @@ returns g c =
     let s = a.s.now in
     let f = c.in_ok-flags.flags in
     let rest = rw c.with_words.ensures at c.decode_after_flags.ensures.walk in
-    record { same = c.decode_after_flags.ensures.same; walk = walks_as
-    (flags_then (after_flags_walk a.rules.caps a.rules.fits (odd (f / 2))) f c.put_word.ensures
-    (walks_by (after_flags_walk a.rules.caps a.rules.fits) a.z.derived c.has_flag-2.ensures c.has_flag.ensures rest))
-    (sym (then_read (coded BL) _ s c.in_ok-flags.ensures)) }
+    record {
+      same = c.decode_after_flags.ensures.same;
+      walk = walks_as
+          (flags_then (after_flags_walk a.rules.caps a.rules.fits (odd (f / 2))) f c.put_word.ensures
+          (walks_by (after_flags_walk a.rules.caps a.rules.fits) a.z.derived c.has_flag-2.ensures c.has_flag.ensures rest))
+          (sym (then_read (coded BL) _ s c.in_ok-flags.ensures));
+    }
 
 pub returns-in_err-flags : goal.returns-in_err-flags
 unfolding path_walk

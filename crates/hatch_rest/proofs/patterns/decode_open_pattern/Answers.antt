@@ -30,10 +30,13 @@ returns g c =
     let t = value_read (all line_entries) ((times h.lines line).read s p)
     (walks_as walk (sym (times_gather line s line_entries (line_walk a.caps.dashes) (line_gathers s a.caps.dashes) h.lines p))) in
     let m = times_length line s h.lines p t.read in
-    record { same = c.in_ok-y.ensures.same; gives = gives_ends (record { angle = h.angle; scale = h.scale; double = h.double; lines = t.value })
-    (pattern_reads s a.caps a.at ∙ read_on (pattern_head a.caps.pattern_lines) (pattern_after_head a.caps) s c.in_ok-pattern.ensures
-    ∙ then_got (times h.lines line) _ s t.read)
-    (λ i. record { angle = h.angle; scale = h.scale; double = h.double; lines = sym m i }) t.step walk.ready }
+    record {
+      same = c.in_ok-y.ensures.same;
+      gives = gives_ends (record { angle = h.angle; scale = h.scale; double = h.double; lines = t.value })
+          (pattern_reads s a.caps a.at ∙ read_on (pattern_head a.caps.pattern_lines) (pattern_after_head a.caps) s c.in_ok-pattern.ensures
+          ∙ then_got (times h.lines line) _ s t.read)
+          (λ i. record { angle = h.angle; scale = h.scale; double = h.double; lines = sym m i }) t.step walk.ready;
+    }
 
 pub returns-in_err-y : goal.returns-in_err-y
 returns-in_err-y g c =
@@ -45,15 +48,21 @@ returns-in_err-y g c =
     let walk = c.in_err-y.ensures.walk in
     let no = value_refused (all line_entries) ((times h.lines line).read s p)
     (walks_as walk (sym (times_gather line s line_entries (line_walk a.caps.dashes) (line_gathers s a.caps.dashes) h.lines p))) in
-    record { same = c.in_err-y.ensures.same; gives = gives_leaves _ c.from_residual-in_err-y.ensures
-    (gives_refused
-    (pattern_reads s a.caps a.at ∙ read_on (pattern_head a.caps.pattern_lines) (pattern_after_head a.caps) s c.in_ok-pattern.ensures
-    ∙ then_refused (times h.lines line) _ s no) (walk_kept walk)) }
+    record {
+      same = c.in_err-y.ensures.same;
+      gives = gives_leaves _ c.from_residual-in_err-y.ensures
+          (gives_refused
+          (pattern_reads s a.caps a.at ∙ read_on (pattern_head a.caps.pattern_lines) (pattern_after_head a.caps) s c.in_ok-pattern.ensures
+          ∙ then_refused (times h.lines line) _ s no) (walk_kept walk));
+    }
 
 pub returns-in_err-pattern : goal.returns-in_err-pattern
 returns-in_err-pattern g c =
     let a = c.args in
     let s = a.s.now in
-    record { same = (refl, refl); gives = gives_leaves _ c.from_residual.ensures
-    (gives_refused
-    (pattern_reads s a.caps a.at ∙ read_not (pattern_head a.caps.pattern_lines) (pattern_after_head a.caps) s c.in_err-pattern.ensures) kept_same) }
+    record {
+      same = (refl, refl);
+      gives = gives_leaves _ c.from_residual.ensures
+          (gives_refused
+          (pattern_reads s a.caps a.at ∙ read_not (pattern_head a.caps.pattern_lines) (pattern_after_head a.caps) s c.in_err-pattern.ensures) kept_same);
+    }

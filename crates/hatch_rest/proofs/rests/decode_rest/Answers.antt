@@ -76,18 +76,21 @@ returns g c =
     let o = (tail a.caps c.in_ok-solid.solid c.in_ok-y.y.derived).read s c.in_ok-y.p in
     let u = given o c.in_ok-tail.ensures.gives in
     let m = times_length item s n p t.read in
-    record { same = (c.in_ok-tail.ensures.same.0 ∙ c.in_ok-y.ensures.same.0, c.in_ok-tail.ensures.same.1 ∙ c.in_ok-y.ensures.same.1); gives = gives_ends
-    (record { solid = c.in_ok-solid.solid; associative = c.in_ok-associative.associative; paths = t.value; tail = u.0.value })
-    (read_on (coded B) _ s c.in_ok-solid.ensures ∙ read_on (coded B) _ s c.in_ok-associative.ensures ∙ paths_row s a.caps a.v _ _
-    ∙ read_on (bounded a.caps.paths BL) _ s c.in_ok-n.ensures ∙ then_got (times n item) _ s t.read
-    ∙ then_got (tail a.caps c.in_ok-solid.solid (derived t.value)) _ s
-    (ap (λ (b : Bool). (tail a.caps c.in_ok-solid.solid b).read s c.in_ok-y.p) (sym (has t)) ∙ u.0.read))
-    (λ i. record {
-      solid = c.in_ok-solid.solid;
-      associative = c.in_ok-associative.associative;
-      paths = sym m i;
-      tail = u.1 i;
-    }) (t.step ⊕ u.0.step) c.in_ok-tail.ensures.gives.ready }
+    record {
+      same = (c.in_ok-tail.ensures.same.0 ∙ c.in_ok-y.ensures.same.0, c.in_ok-tail.ensures.same.1 ∙ c.in_ok-y.ensures.same.1);
+      gives = gives_ends
+          (record { solid = c.in_ok-solid.solid; associative = c.in_ok-associative.associative; paths = t.value; tail = u.0.value })
+          (read_on (coded B) _ s c.in_ok-solid.ensures ∙ read_on (coded B) _ s c.in_ok-associative.ensures ∙ paths_row s a.caps a.v _ _
+          ∙ read_on (bounded a.caps.paths BL) _ s c.in_ok-n.ensures ∙ then_got (times n item) _ s t.read
+          ∙ then_got (tail a.caps c.in_ok-solid.solid (derived t.value)) _ s
+          (ap (λ (b : Bool). (tail a.caps c.in_ok-solid.solid b).read s c.in_ok-y.p) (sym (has t)) ∙ u.0.read))
+          (λ i. record {
+            solid = c.in_ok-solid.solid;
+            associative = c.in_ok-associative.associative;
+            paths = sym m i;
+            tail = u.1 i;
+          }) (t.step ⊕ u.0.step) c.in_ok-tail.ensures.gives.ready;
+    }
 
 pub returns-in_err-tail : goal.returns-in_err-tail
 unfolding rest rest_read
@@ -100,13 +103,16 @@ returns-in_err-tail g c =
     let t = value_read (all path_entries) ((times n item).read s p) (paths_walk s a.caps a.v n p c.is_from-fits.ensures c.in_ok-y.ensures.walk) in
     let o = (tail a.caps c.in_ok-solid.solid c.in_ok-y.y.derived).read s c.in_ok-y.p in
     let no = c.in_err-tail.ensures.gives in
-    record { same = (c.in_err-tail.ensures.same.0 ∙ c.in_ok-y.ensures.same.0, c.in_err-tail.ensures.same.1 ∙ c.in_ok-y.ensures.same.1); gives = gives_leaves _ c.from_residual-in_err-tail.ensures
-    (gives_refused
-    (read_on (coded B) _ s c.in_ok-solid.ensures ∙ read_on (coded B) _ s c.in_ok-associative.ensures ∙ paths_row s a.caps a.v _ _
-    ∙ read_on (bounded a.caps.paths BL) _ s c.in_ok-n.ensures ∙ then_got (times n item) _ s t.read
-    ∙ then_refused (tail a.caps c.in_ok-solid.solid (derived t.value)) _ s
-    (ap (λ (b : Bool). (tail a.caps c.in_ok-solid.solid b).read s c.in_ok-y.p) (sym (has t)) ∙ not_given o no))
-    (kept_then t.step (given_kept o no))) }
+    record {
+      same = (c.in_err-tail.ensures.same.0 ∙ c.in_ok-y.ensures.same.0, c.in_err-tail.ensures.same.1 ∙ c.in_ok-y.ensures.same.1);
+      gives = gives_leaves _ c.from_residual-in_err-tail.ensures
+          (gives_refused
+          (read_on (coded B) _ s c.in_ok-solid.ensures ∙ read_on (coded B) _ s c.in_ok-associative.ensures ∙ paths_row s a.caps a.v _ _
+          ∙ read_on (bounded a.caps.paths BL) _ s c.in_ok-n.ensures ∙ then_got (times n item) _ s t.read
+          ∙ then_refused (tail a.caps c.in_ok-solid.solid (derived t.value)) _ s
+          (ap (λ (b : Bool). (tail a.caps c.in_ok-solid.solid b).read s c.in_ok-y.p) (sym (has t)) ∙ not_given o no))
+          (kept_then t.step (given_kept o no)));
+    }
 
 pub returns-in_err-y : goal.returns-in_err-y
 unfolding rest rest_read
@@ -117,28 +123,37 @@ returns-in_err-y g c =
     let p = c.in_ok-n.p in
     let item = path a.caps in_payload a.v 0 in
     let walk = paths_walk s a.caps a.v n p c.is_from-fits.ensures c.in_err-y.ensures.walk in
-    record { same = c.in_err-y.ensures.same; gives = gives_leaves _ c.from_residual-in_err-y.ensures
-    (gives_refused
-    (read_on (coded B) _ s c.in_ok-solid.ensures ∙ read_on (coded B) _ s c.in_ok-associative.ensures ∙ paths_row s a.caps a.v _ _
-    ∙ read_on (bounded a.caps.paths BL) _ s c.in_ok-n.ensures
-    ∙ then_refused (times n item) _ s (value_refused (all path_entries) ((times n item).read s p) walk)) (walk_kept walk)) }
+    record {
+      same = c.in_err-y.ensures.same;
+      gives = gives_leaves _ c.from_residual-in_err-y.ensures
+          (gives_refused
+          (read_on (coded B) _ s c.in_ok-solid.ensures ∙ read_on (coded B) _ s c.in_ok-associative.ensures ∙ paths_row s a.caps a.v _ _
+          ∙ read_on (bounded a.caps.paths BL) _ s c.in_ok-n.ensures
+          ∙ then_refused (times n item) _ s (value_refused (all path_entries) ((times n item).read s p) walk)) (walk_kept walk));
+    }
 
 pub returns-in_err-n : goal.returns-in_err-n
 unfolding rest rest_read
 returns-in_err-n g c =
     let a = c.args in
     let s = a.s.now in
-    record { same = (refl, refl); gives = gives_leaves _ c.from_residual-in_err-n.ensures
-    (gives_refused
-    (read_on (coded B) _ s c.in_ok-solid.ensures ∙ read_on (coded B) _ s c.in_ok-associative.ensures ∙ paths_row s a.caps a.v _ _
-    ∙ read_not (bounded a.caps.paths BL) _ s c.in_err-n.ensures) kept_same) }
+    record {
+      same = (refl, refl);
+      gives = gives_leaves _ c.from_residual-in_err-n.ensures
+          (gives_refused
+          (read_on (coded B) _ s c.in_ok-solid.ensures ∙ read_on (coded B) _ s c.in_ok-associative.ensures ∙ paths_row s a.caps a.v _ _
+          ∙ read_not (bounded a.caps.paths BL) _ s c.in_err-n.ensures) kept_same);
+    }
 
 pub returns-in_err-associative : goal.returns-in_err-associative
 unfolding rest rest_read
 returns-in_err-associative g c =
     let s = c.args.s.now in
-    record { same = (refl, refl); gives = gives_leaves _ c.from_residual-in_err-associative.ensures
-    (gives_refused (read_on (coded B) _ s c.in_ok-solid.ensures ∙ read_not (coded B) _ s c.in_err-associative.ensures) kept_same) }
+    record {
+      same = (refl, refl);
+      gives = gives_leaves _ c.from_residual-in_err-associative.ensures
+          (gives_refused (read_on (coded B) _ s c.in_ok-solid.ensures ∙ read_not (coded B) _ s c.in_err-associative.ensures) kept_same);
+    }
 
 pub returns-in_err-solid : goal.returns-in_err-solid
 unfolding rest rest_read
