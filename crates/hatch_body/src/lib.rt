@@ -18,7 +18,7 @@ use bitcursor::values::Number;
 use bitcursor::{Places, Reading, Refusal, Refused, refuse};
 use hatch_format::Caps;
 use hatch_front::Front;
-use hatch_points::lists::Sizes;
+use hatch_points::lists::{Lent, Sizes};
 use hatch_rest::rests;
 use hatch_rest::rests::Rest;
 use text::version::Version;
@@ -40,9 +40,11 @@ fn measure_rest(s: &[u8], at: usize, v: Version, caps: Caps) -> Reading<(Rest, S
     requires { (length s.now ≤ limit) × ((at ≤ 8 * length s.now) × NowhereAbove caps document_caps) }
     ensures { outcome result ≡ value_as rest_walk ((rest caps in_payload v).read s.now at) }
 {
-    let mut numbers: [u64; 0] = [];
-    let mut words: [u32; 0] = [];
-    rests::decode_rest(s, at, v, caps, &mut numbers, &mut words)
+    let mut none = Lent::<u64> {
+        numbers: &mut [],
+        words: &mut [],
+    };
+    rests::decode_rest(s, at, v, caps, &mut none)
 }
 
 // Whether both lists are empty.
@@ -68,7 +70,7 @@ fn fill_lists<N: Number>(
     if none_lent(numbers, words) {
         return;
     }
-    let _ = rests::decode_rest(s, at, v, caps, numbers, words);
+    let _ = rests::decode_rest(s, at, v, caps, &mut Lent { numbers, words });
 }
 
 // How long the two lists of a caller are, or are taken to be where a call only measures.
