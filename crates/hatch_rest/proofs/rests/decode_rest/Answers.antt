@@ -66,7 +66,7 @@ unfolding rest rest_read
 returns-then-size-at g c =
     let s = c.args.s.now in
     let past = B_past s c.args.at (omega (arith, c.size.ensures.all)) in
-    rw c.refuse.ensures (gives_refused (then_refused (coded B) _ s past) kept_same)
+    record { same = (refl, refl); gives = rw c.refuse.ensures (gives_refused (then_refused (coded B) _ s past) kept_same) }
 
 pub decode_paths-requires : goal.decode_paths-requires
 decode_paths-requires g c =
