@@ -3,10 +3,8 @@
 // specs/ promise the parts or the refusal, and the lists afterwards, as hatch_format's `rest` reads them.
 #![tactic(auto)]
 
-ghost use Rattle.std.specs.Prelude.{◌≡◌, ◌*◌, ◌≤◌, length};
-ghost use Rattle.loads.specs.Bits.{limit};
+ghost use Rattle.std.specs.Prelude.{◌≡◌, length};
 ghost use Rattle.bitcursor.specs.Answers.{outcome, value_as};
-ghost use Rattle.hatch_format.specs.Caps.{document_caps, NowhereAbove};
 ghost use Rattle.hatch_format.specs.HandleRule.{in_payload};
 ghost use Rattle.hatch_format.specs.Patterns.{rest};
 ghost use Rattle.hatch_points.specs.Gathered.{gathered};
@@ -15,13 +13,12 @@ ghost use Rattle.hatch_rest.specs.Rests.{no_sizes, rest_entries, rest_walk};
 ghost use Rattle.hatch_body.specs.Parts.{none_lent, long_enough, rest_read, rest_lists};
 
 use bitcursor::values::Number;
-use bitcursor::{Places, Reading, Refusal, Refused, refuse};
-use hatch_format::Caps;
+use bitcursor::{Payload, Places, Reading, Refusal, Refused, refuse};
 use hatch_front::Front;
-use hatch_points::lists::Sizes;
+use hatch_paths::Rules;
+use hatch_points::lists::{Lent, Sizes};
 use hatch_rest::rests;
 use hatch_rest::rests::Rest;
-use text::version::Version;
 
 // What a readable body gives but for its list entries: its parts, the lengths used of the lists and its final places.
 #[derive(Clone, Copy, Debug, PartialEq, Eq)]
@@ -36,13 +33,14 @@ pub struct Parts {
 pub type BodyRead = Result<Parts, Refused<Places>>;
 
 // The rest, walked over no lists: that only measures.
-fn measure_rest(s: &[u8], at: usize, v: Version, caps: Caps) -> Reading<(Rest, Sizes)>
-    requires { (length s.now ≤ limit) × ((at ≤ 8 * length s.now) × NowhereAbove caps document_caps) }
-    ensures { outcome result ≡ value_as rest_walk ((rest caps in_payload v).read s.now at) }
+fn measure_rest(s: &Payload, at: usize, rules: Rules) -> Reading<(Rest, Sizes)>
+    ensures { outcome result ≡ value_as rest_walk ((rest rules.caps in_payload rules.version).read s.now at) }
 {
-    let mut numbers: [u64; 0] = [];
-    let mut words: [u32; 0] = [];
-    rests::decode_rest(s, at, v, caps, &mut numbers, &mut words)
+    let mut none = Lent::<u64> {
+        numbers: &mut [],
+        words: &mut [],
+    };
+    rests::decode_rest(s, at, rules, &mut none)
 }
 
 // Whether both lists are empty.
@@ -53,22 +51,14 @@ fn none_lent<N: Number>(numbers: &[N], words: &[u32]) -> bool
 }
 
 // Fills the lists with the rest. Empty lists take nothing, so a call that is lent none, as a measuring call is, does not walk again.
-fn fill_lists<N: Number>(
-    s: &[u8],
-    at: usize,
-    v: Version,
-    caps: Caps,
-    numbers: &mut [N],
-    words: &mut [u32],
-)
-    requires { (length s.now ≤ limit) × ((at ≤ 8 * length s.now) × NowhereAbove caps document_caps) }
-    ensures { Stored N.of_bits (gathered rest_entries ((rest caps in_payload v).read s.now at))
+fn fill_lists<N: Number>(s: &Payload, at: usize, rules: Rules, numbers: &mut [N], words: &mut [u32])
+    ensures { Stored N.of_bits (gathered rest_entries ((rest rules.caps in_payload rules.version).read s.now at))
         (lists numbers.old words.old) no_sizes (lists numbers.new words.new) }
 {
     if none_lent(numbers, words) {
         return;
     }
-    let _ = rests::decode_rest(s, at, v, caps, numbers, words);
+    let _ = rests::decode_rest(s, at, rules, &mut Lent { numbers, words });
 }
 
 // How long the two lists of a caller are, or are taken to be where a call only measures.
@@ -87,27 +77,25 @@ fn long_enough(room: Room, used: Sizes) -> bool
 
 // What follows a front: measured, and filled only where both lists are long enough.
 pub fn fill_rest<N: Number>(
-    main: &[u8],
+    main: &Payload,
     p: Places,
-    v: Version,
-    caps: Caps,
+    rules: Rules,
     front: Front,
     room: Room,
     numbers: &mut [N],
     words: &mut [u32],
 ) -> BodyRead
-    requires { (length main.now ≤ limit) × ((p.main ≤ 8 * length main.now) × NowhereAbove caps document_caps) }
-    ensures { (result ≡ rest_read front room.words room.numbers p ((rest caps in_payload v).read main.now p.main)) ×
+    ensures { (result ≡ rest_read front room.words room.numbers p ((rest rules.caps in_payload rules.version).read main.now p.main)) ×
         (lists numbers.new words.new ≡ rest_lists N.of_bits
         (lists numbers.old words.old) room.words room.numbers
-        ((rest caps in_payload v).read main.now p.main)) }
+        ((rest rules.caps in_payload rules.version).read main.now p.main)) }
 {
-    let measured = measure_rest(main, p.main, v, caps);
+    let measured = measure_rest(main, p.main, rules);
     let ((rest, used), places) = p.after_main(measured)?;
     if !long_enough(room, used) {
         return refuse(Refusal::ListTooShort, places);
     }
-    fill_lists(main, p.main, v, caps, numbers, words);
+    fill_lists(main, p.main, rules, numbers, words);
     Ok(Parts {
         front,
         rest,

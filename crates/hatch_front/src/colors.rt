@@ -1,13 +1,12 @@
 // A gradient's colours: passed over where they stand, or read into the record's sixteen.
-ghost use Rattle.std.specs.Prelude.{◌≡◌, [], ◌≤◌, length, map};
-ghost use Rattle.loads.specs.Bits.{limit};
+ghost use Rattle.std.specs.Prelude.{◌≡◌, [], ◌≤◌, map};
 ghost use Rattle.bitcursor.specs.Answers.{outcome, passing};
 ghost use Rattle.hatch_format.specs.Counts.{times};
 ghost use Rattle.hatch_format.specs.Gradients.{color};
 ghost use Rattle.hatch_format.specs.Record.{zero_color, sixteen};
 ghost use Rattle.hatch_front.specs.Answers.{passed_of, sixteen_of};
 
-use bitcursor::{Passing, Reading, values, within};
+use bitcursor::{Passing, Payload, Reading, values, within};
 use hatch_format::{Color, GradientColorBits};
 
 fn zero_color() -> GradientColorBits
@@ -29,8 +28,7 @@ pub fn zero_colors<C: Color>() -> [C; 16]
 }
 
 #[tactic(auto, using(bitcursor::proofs::FormatSteps::fields, bitcursor::proofs::Smalls::smalls, crate::proofs::Steps::colors), unfolding(hatch_format::specs::Gradients::color, hatch_format::specs::Gradients::color_read))]
-fn read_color(s: &[u8], at: usize) -> Reading<GradientColorBits>
-    requires { length s.now ≤ limit }
+fn read_color(s: &Payload, at: usize) -> Reading<GradientColorBits>
     ensures { outcome result ≡ color.read s.now at }
 {
     let (double, p) = within::read_bd_bits(s, at)?;
@@ -47,8 +45,7 @@ fn read_color(s: &[u8], at: usize) -> Reading<GradientColorBits>
 }
 
 // The place behind n colours.
-pub fn pass_colors(s: &[u8], at: usize, n: usize) -> Passing
-    requires { length s.now ≤ limit }
+pub fn pass_colors(s: &Payload, at: usize, n: usize) -> Passing
     ensures { passing result ≡ passed_of ((times n color).read s.now at) }
 {
     let mut p = at;
@@ -60,8 +57,8 @@ pub fn pass_colors(s: &[u8], at: usize, n: usize) -> Passing
 }
 
 // n colours, and zero behind them; zero throughout where they are refused.
-pub fn read_colors<C: Color>(s: &[u8], at: usize, n: usize) -> [C; 16]
-    requires { (length s.now ≤ limit) × (n ≤ 16) }
+pub fn read_colors<C: Color>(s: &Payload, at: usize, n: usize) -> [C; 16]
+    requires { n ≤ 16 }
     ensures { result ≡ map C.of_bits (sixteen_of ((times n color).read s.now at)) }
 {
     let mut colors = zero_colors();

@@ -1,17 +1,15 @@
 // The gradient: its block of fields, its colours passed over, and its name.
-ghost use Rattle.std.specs.Prelude.{◌≡◌, ◌≤◌, leb, length};
-ghost use Rattle.loads.specs.Bits.{limit};
+ghost use Rattle.std.specs.Prelude.{◌≡◌, ◌≤◌, leb};
 ghost use Rattle.bitcursor.specs.Answers.{outcome};
-ghost use Rattle.text.specs.Answers.{payloads_to};
 ghost use Rattle.text.specs.Releases.{release_number};
 ghost use Rattle.hatch_front.specs.Passed.{block_passed, gradient_passed};
 ghost use Rattle.hatch_front.specs.Answers.{no_gradient_read, shown_of};
 
 use crate::{Gradient, colors};
-use bitcursor::{Places, Reading, within};
+use bitcursor::{Payload, Places, Reading, within};
 use hatch_points::counts;
 use text::version::Version;
-use text::{Source, Text};
+use text::{Payloads, Source, Text};
 
 // The fields of a gradient in front of its name, without its colours, which stand from `colors_at` on.
 #[derive(Clone, Copy, Debug, PartialEq, Eq)]
@@ -27,8 +25,8 @@ pub struct Block {
 
 // The block; its colours are at most 16.
 #[tactic(auto, using(bitcursor::proofs::FormatSteps::fields, bitcursor::proofs::Smalls::smalls, crate::proofs::Steps::steps), unfolding(crate::specs::Passed::block_passed))]
-fn read_block(s: &[u8], at: usize, cap: usize) -> Reading<Block>
-    requires { (length s.now ≤ limit) × (cap ≤ 16) }
+fn read_block(s: &Payload, at: usize, cap: usize) -> Reading<Block>
+    requires { cap ≤ 16 }
     ensures { outcome result ≡ (block_passed cap).read s.now at }
 {
     let (flag, p) = within::read_bl_u(s, at)?;
@@ -95,20 +93,18 @@ fn shown(b: Block, name: Text) -> Gradient
 // The gradient: its block and its name are read with flag 0 too; releases 1 and 2 have neither.
 #[tactic(auto, using(bitcursor::proofs::FormatSteps::fields), unfolding(crate::specs::Passed::gradient_passed))]
 pub fn decode_gradient(
-    main: &[u8],
-    string: &[u8],
+    payloads: &Payloads,
     at: Places,
-    reader: Option<usize>,
     v: Version,
     cap: usize,
 ) -> Reading<Gradient, Places>
-    requires { (length main.now ≤ limit) × ((length string.now ≤ limit) × (cap ≤ 16)) }
-    ensures { outcome result ≡ (gradient_passed cap v (leb 3 (release_number v))).read (payloads_to main.now string.now reader) at }
+    requires { cap ≤ 16 }
+    ensures { outcome result ≡ (gradient_passed cap v (leb 3 (release_number v))).read payloads.now at }
 {
     if !v.is_from(Version::R2004) {
         return Ok((no_gradient(), at));
     }
-    let (block, p) = at.after_main(read_block(main, at.main, cap))?;
-    let (name, q) = text::within::read_tv_field(main, string, p, reader, v)?;
+    let (block, p) = at.after_main(read_block(&payloads.main, at.main, cap))?;
+    let (name, q) = text::within::read_tv_field(payloads, p, v)?;
     Ok((shown(block, name), q))
 }

@@ -3,18 +3,16 @@
 // specs/ promise that the front is read as hatch_format's `hatch` reads it, and that its colours stand where it says, so that they can be read again.
 #![tactic(auto)]
 
-ghost use Rattle.std.specs.Prelude.{◌≡◌, ◌≤◌, length};
-ghost use Rattle.loads.specs.Bits.{limit};
+ghost use Rattle.std.specs.Prelude.{◌≡◌, ◌≤◌};
 ghost use Rattle.bitcursor.specs.Answers.{outcome, value_as};
-ghost use Rattle.text.specs.Answers.{payloads_to};
 ghost use Rattle.hatch_format.specs.Hatch.{plane};
 ghost use Rattle.hatch_front.specs.Fronts.{front};
 ghost use Rattle.hatch_front.specs.Answers.{plane_as, FrontIs};
 
-use bitcursor::{Places, Reading, within};
+use bitcursor::{Payload, Places, Reading, within};
 use hatch_format::Caps;
-use text::Text;
 use text::version::Version;
+use text::{Payloads, Text};
 
 pub mod colors;
 mod gradients;
@@ -49,8 +47,7 @@ pub struct Front {
 
 // The elevation and the extrusion.
 #[tactic(auto, using(bitcursor::proofs::FormatSteps::fields), unfolding(hatch_format::specs::Hatch::plane, hatch_format::specs::Hatch::plane_read))]
-fn read_plane(s: &[u8], at: usize) -> Reading<Plane>
-    requires { length s.now ≤ limit }
+fn read_plane(s: &Payload, at: usize) -> Reading<Plane>
     ensures { outcome result ≡ value_as plane_as (plane.read s.now at) }
 {
     let (elevation, p) = within::read_bd_bits(s, at)?;
@@ -61,20 +58,13 @@ fn read_plane(s: &[u8], at: usize) -> Reading<Plane>
 }
 
 // A body up to its pattern's name.
-pub fn read_front(
-    main: &[u8],
-    string: &[u8],
-    at: Places,
-    reader: Option<usize>,
-    v: Version,
-    caps: Caps,
-) -> Reading<Front, Places>
-    requires { (length main.now ≤ limit) × ((length string.now ≤ limit) × (caps.colors ≤ 16)) }
-    ensures { FrontIs main.now ((front caps v).read (payloads_to main.now string.now reader) at) result }
+pub fn read_front(payloads: &Payloads, at: Places, v: Version, caps: Caps) -> Reading<Front, Places>
+    requires { caps.colors ≤ 16 }
+    ensures { FrontIs payloads.now.main ((front caps v).read payloads.now at) result }
 {
-    let (gradient, p) = gradients::decode_gradient(main, string, at, reader, v, caps.colors)?;
-    let (plane, q) = p.after_main(read_plane(main, p.main))?;
-    let (name, r) = text::within::read_tv_field(main, string, q, reader, v)?;
+    let (gradient, p) = gradients::decode_gradient(payloads, at, v, caps.colors)?;
+    let (plane, q) = p.after_main(read_plane(&payloads.main, p.main))?;
+    let (name, r) = text::within::read_tv_field(payloads, q, v)?;
     let front = Front {
         gradient,
         plane,

@@ -1,8 +1,8 @@
--- The small walks of edges and paths: a bit and a handle count as words, the RD of fit points, and kinds that are none. Assumes nothing.
+-- The small walks of edges and paths: a bit and a handle count as words, and kinds that are none. Assumes nothing.
 use mathlib.Core.Path.{◌≡◌, refl}
 use mathlib.Core.Bool.{Bool}
 use mathlib.Core.List.{List}
-use Prim.Native.Nat.{ℕ, zero, suc, ◌+◌, ◌*◌}
+use Prim.Native.Nat.{ℕ, zero, suc}
 use Rattle.bitcursor.specs.declared.Refused.{Refused}
 use Rattle.bitcursor.specs.declared.Refusal.TheVariants.{EdgeKind}
 use Rattle.loads.specs.Bits.{bit}
@@ -17,7 +17,7 @@ use Rattle.hatch_format.proofs.Paths.{handles_bounded}
 use Rattle.hatch_points.specs.Gathered.{word}
 use Rattle.hatch_points.proofs.Laws.{Numberless}
 use Rattle.hatch_points.proofs.NoWords.{numberless}
-use Rattle.hatch_paths.specs.PathWalks.{bit_walk, fitted_raw, edge_of_walk, handles_walk}
+use Rattle.hatch_paths.specs.PathWalks.{bit_walk, edge_of_walk, handles_walk}
 
 -- a bit that is a word
 pub bit_read : (xs : List ℕ) (p : ℕ) {b : Bool} {q : ℕ} → got b q ≡ B.read xs p → bit_walk.read xs p ≡ got (word (bit b)) q
@@ -31,10 +31,6 @@ bit_refused xs p e = rw (← e)
 pub bit_numberless : (xs : List ℕ) (p : ℕ) → Numberless (bit_walk.read xs p)
 unfolding bit_walk ◌>>=◌ pure
 bit_numberless xs p = numberless (λ (b : Bool). word (bit b)) (λ b. refl) (B.read xs p)
-
-pub fitted_some : (n : ℕ) → (n ≡ 0 → ⊥) → fitted_raw n ≡ 2 * n + 4
-fitted_some zero h = absurd (h refl)
-fitted_some (suc n) h = refl
 
 -- a kind that is not 1 to 4
 pub other_kind : (caps : Caps) (b : Bool) (k : ℕ) (xs : List ℕ) (p : ℕ) → (k ≡ 1 → ⊥) → (k ≡ 2 → ⊥) → (k ≡ 3 → ⊥) → (k ≡ 4 → ⊥)

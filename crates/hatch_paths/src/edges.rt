@@ -3,20 +3,22 @@
 
 ghost use Rattle.std.specs.Prelude.{◌≡◌, [], ◌∷◌, ◌+◌, ◌*◌, ◌^◌, ◌≤◌, ◌<◌, length};
 ghost use Rattle.std.proofs.lemmas.List.Edits.{sets};
-ghost use Rattle.loads.specs.Bits.{bit, limit};
+ghost use Rattle.loads.specs.Bits.{bit};
 ghost use Rattle.bitcursor.specs.Answers.{outcome};
 ghost use Rattle.hatch_points.specs.Gathered.{repeated};
 ghost use Rattle.hatch_paths.specs.PathWalks.{bit_walk, curve_walk, fitted_raw, fits_walk, spline_lists_walk, spline_walk, edge_of_walk, edge_walk};
-ghost use Rattle.hatch_points.specs.Lists.{lists, Ready, Walks, WordWalks};
+ghost use Rattle.hatch_points.specs.Lists.{Ready, WordWalks};
+ghost use Rattle.hatch_points.specs.Lent.{LentWalks};
 ghost use Rattle.hatch_paths.specs.Splines.{spline_head};
-ghost use Rattle.hatch_format.specs.Caps.{document_caps, NowhereAbove};
+ghost use Rattle.hatch_paths.specs.Fits.{has_fits};
 
 use crate::Rules;
 use bitcursor::values::Number;
-use bitcursor::{Reading, Refusal, refuse, within};
+use bitcursor::{Payload, Reading, Refusal, refuse, within};
 use hatch_format::Caps;
-use hatch_points::lists::Sizes;
+use hatch_points::lists::{Lent, Sizes};
 use hatch_points::{counts, lists, runs, vertices};
+use text::version::Version;
 
 // A spline's fields in front of its lists.
 #[derive(Clone, Copy, Debug, PartialEq, Eq)]
@@ -30,52 +32,54 @@ pub struct SplineHead {
 
 // What follows the kind of an arc, which has 2 RD, or of an ellipse, which has 4: then 3 BD, and a B for counterclockwise.
 fn decode_curve<N: Number>(
-    s: &[u8],
+    s: &Payload,
     at: usize,
     n: usize,
-    numbers: &mut [N],
-    words: &mut [u32],
-    z: Sizes,
+    lent: &mut Lent<N>,
+    used: Sizes,
 ) -> Reading<Sizes>
-    requires { Ready s.now at z × (n < 2 ^ 32) }
-    ensures { Walks N.of_bits s.now ((curve_walk n).read s.now at)
-        (lists numbers.old words.old) z (lists numbers.new words.new) result }
+    requires { Ready s.now at used × (n < 2 ^ 32) }
+    ensures { LentWalks N.of_bits s.now ((curve_walk n).read s.now at) lent.old used lent.new result }
 {
-    let (y, p) = runs::raw_run(s, at, n, numbers, z)?;
-    let (x, q) = runs::double_run(s, p, 3, numbers, y)?;
-    put_bit(s, q, words, x)
+    let (used, p) = runs::raw_run(s, at, n, lent.numbers, used)?;
+    let (used, p) = runs::double_run(s, p, 3, lent.numbers, used)?;
+    put_bit(s, p, lent.words, used)
 }
 
-// A bit that goes to the words.
-fn put_bit(s: &[u8], at: usize, words: &mut [u32], z: Sizes) -> Reading<Sizes>
-    requires { Ready s.now at z }
-    ensures { WordWalks s.now (bit_walk.read s.now at) words.old z words.new result }
+// A bit that goes to the words. Lent the words alone: all of Lent would ask its caller for numbers that it never touches.
+fn put_bit(s: &Payload, at: usize, words: &mut [u32], used: Sizes) -> Reading<Sizes>
+    requires { Ready s.now at used }
+    ensures { WordWalks s.now (bit_walk.read s.now at) words.old used words.new result }
 {
     let (v, p) = within::read_flag(s, at)?;
-    lists::put_word(words, z.words, u64::from(v));
-    Ok((z.with_words(1), p))
+    lists::put_word(words, used.words, u64::from(v));
+    Ok((used.with_words(1), p))
 }
 
 // The fit points and tangents of a spline, behind their count; releases before 5 have none, and the count's word is 0.
 fn decode_fits<N: Number>(
-    s: &[u8],
+    s: &Payload,
     at: usize,
     rules: Rules,
-    numbers: &mut [N],
-    words: &mut [u32],
-    z: Sizes,
+    lent: &mut Lent<N>,
+    used: Sizes,
 ) -> Reading<Sizes>
-    requires { Ready s.now at z × ((z.words + 1 ≤ at) × (rules.caps.fit_points < 2 ^ 30)) }
-    ensures { Walks N.of_bits s.now ((fits_walk rules.caps.fit_points rules.fits).read s.now at)
-        (lists numbers.old words.old) z (lists numbers.new words.new) result }
+    requires { Ready s.now at used × (used.words + 1 ≤ at) }
+    ensures { LentWalks N.of_bits s.now ((fits_walk rules.caps.fit_points (has_fits rules.version)).read s.now at) lent.old used lent.new result }
 {
-    if rules.fits {
+    if rules.version.is_from(Version::R2010) {
         let (n, p) = counts::read_count(s, at, rules.caps.fit_points)?;
-        lists::put_word(words, z.words, n);
-        return runs::raw_run(s, p, fitted_raw(n as usize), numbers, z.with_words(1));
+        lists::put_word(lent.words, used.words, n);
+        return runs::raw_run(
+            s,
+            p,
+            fitted_raw(n as usize),
+            lent.numbers,
+            used.with_words(1),
+        );
     }
-    lists::put_word(words, z.words, 0);
-    Ok((z.with_words(1), at))
+    lists::put_word(lent.words, used.words, 0);
+    Ok((used.with_words(1), at))
 }
 
 // How many RD n fit points and their tangents are: without points there are no tangents.
@@ -91,30 +95,35 @@ fn fitted_raw(n: usize) -> usize
 
 // The lists of a spline: knots, control points, fit points.
 fn decode_spline_lists<N: Number>(
-    s: &[u8],
+    s: &Payload,
     at: usize,
     head: SplineHead,
     rules: Rules,
-    numbers: &mut [N],
-    words: &mut [u32],
-    z: Sizes,
+    lent: &mut Lent<N>,
+    used: Sizes,
 ) -> Reading<Sizes>
-    requires { Ready s.now at z × ((z.words + 1 ≤ at) × ((head.controls < 2 ^ 31) × (rules.caps.fit_points < 2 ^ 30))) }
-    ensures { Walks N.of_bits s.now ((spline_lists_walk rules.caps rules.fits head.rational head.knots head.controls).read s.now at)
-        (lists numbers.old words.old) z (lists numbers.new words.new) result }
+    requires { Ready s.now at used × ((used.words + 1 ≤ at) × (head.controls < 2 ^ 31)) }
+    ensures { LentWalks N.of_bits s.now ((spline_lists_walk rules.caps (has_fits rules.version) head.rational head.knots head.controls).read s.now at)
+        lent.old used lent.new result }
 {
-    let (y, p) = runs::double_run(s, at, head.knots as usize, numbers, z)?;
-    let (x, q) = vertices::decode_points(s, p, head.controls as usize, head.rational, numbers, y)?;
-    decode_fits(s, q, rules, numbers, words, x)
+    let (used, p) = runs::double_run(s, at, head.knots as usize, lent.numbers, used)?;
+    let (used, p) = vertices::decode_points(
+        s,
+        p,
+        head.controls as usize,
+        head.rational,
+        lent.numbers,
+        used,
+    )?;
+    decode_fits(s, p, rules, lent, used)
 }
 
 // The fields of a spline in front of its lists: both counts are tested before any knot is read.
 #[tactic(auto, using(bitcursor::proofs::FormatSteps::fields), unfolding(crate::specs::Splines::spline_head))]
-fn read_spline_head(s: &[u8], at: usize, caps: Caps) -> Reading<SplineHead>
-    requires { length s.now ≤ limit }
+fn read_spline_head(s: &Payload, at: usize, caps: Caps) -> Reading<SplineHead>
     ensures { outcome result ≡ (spline_head caps).read s.now at }
 {
-    let (degree, p) = bitcursor::within::read_bl_u(s, at)?;
+    let (degree, p) = within::read_bl_u(s, at)?;
     let (rational, q) = within::read_flag(s, p)?;
     let (periodic, r) = within::read_flag(s, q)?;
     let (knots, t) = counts::read_count(s, r, caps.knots)?;
@@ -144,82 +153,74 @@ fn put_spline_head(words: &mut [u32], at: usize, head: SplineHead)
 // A spline, behind its kind.
 #[tactic(auto, using(crate::proofs::SplineHeads::head_end))]
 fn decode_spline_edge<N: Number>(
-    s: &[u8],
+    s: &Payload,
     at: usize,
     rules: Rules,
-    numbers: &mut [N],
-    words: &mut [u32],
-    z: Sizes,
+    lent: &mut Lent<N>,
+    used: Sizes,
 ) -> Reading<Sizes>
-    requires { Ready s.now at z × NowhereAbove rules.caps document_caps }
-    ensures { Walks N.of_bits s.now ((spline_walk rules.caps rules.fits).read s.now at)
-        (lists numbers.old words.old) z (lists numbers.new words.new) result }
+    requires { Ready s.now at used }
+    ensures { LentWalks N.of_bits s.now ((spline_walk rules.caps (has_fits rules.version)).read s.now at) lent.old used lent.new result }
 {
     let (head, p) = read_spline_head(s, at, rules.caps)?;
-    put_spline_head(words, z.words, head);
-    decode_spline_lists(s, p, head, rules, numbers, words, z.with_words(5))
+    put_spline_head(lent.words, used.words, head);
+    decode_spline_lists(s, p, head, rules, lent, used.with_words(5))
 }
 
 // What follows an edge's kind. The kinds are document 01's numbers: an enum of them would be made here and matched here, and its refusal
 // would still need the place.
 #[tactic(auto, using(crate::proofs::EdgeLaws::other_kind), unfolding(crate::specs::PathWalks::edge_of_walk))]
 fn decode_edge_of<N: Number>(
-    s: &[u8],
+    s: &Payload,
     at: usize,
     kind: u64,
     rules: Rules,
-    numbers: &mut [N],
-    words: &mut [u32],
-    z: Sizes,
+    lent: &mut Lent<N>,
+    used: Sizes,
 ) -> Reading<Sizes>
-    requires { Ready s.now at z × NowhereAbove rules.caps document_caps }
-    ensures { Walks N.of_bits s.now ((edge_of_walk rules.caps rules.fits kind).read s.now at)
-        (lists numbers.old words.old) z (lists numbers.new words.new) result }
+    requires { Ready s.now at used }
+    ensures { LentWalks N.of_bits s.now ((edge_of_walk rules.caps (has_fits rules.version) kind).read s.now at) lent.old used lent.new result }
 {
     match kind {
-        1 => runs::raw_run(s, at, 4, numbers, z),
-        2 => decode_curve(s, at, 2, numbers, words, z),
-        3 => decode_curve(s, at, 4, numbers, words, z),
-        4 => decode_spline_edge(s, at, rules, numbers, words, z),
+        1 => runs::raw_run(s, at, 4, lent.numbers, used),
+        2 => decode_curve(s, at, 2, lent, used),
+        3 => decode_curve(s, at, 4, lent, used),
+        4 => decode_spline_edge(s, at, rules, lent, used),
         _ => refuse(Refusal::EdgeKind, at),
     }
 }
 
 // An edge: its kind, and what the kind has.
 fn decode_edge<N: Number>(
-    s: &[u8],
+    s: &Payload,
     at: usize,
     rules: Rules,
-    numbers: &mut [N],
-    words: &mut [u32],
-    z: Sizes,
+    lent: &mut Lent<N>,
+    used: Sizes,
 ) -> Reading<Sizes>
-    requires { Ready s.now at z × NowhereAbove rules.caps document_caps }
-    ensures { Walks N.of_bits s.now ((edge_walk rules.caps rules.fits).read s.now at)
-        (lists numbers.old words.old) z (lists numbers.new words.new) result }
+    requires { Ready s.now at used }
+    ensures { LentWalks N.of_bits s.now ((edge_walk rules.caps (has_fits rules.version)).read s.now at) lent.old used lent.new result }
 {
-    let (kind, p) = bitcursor::within::read_low(s, at, 1)?;
-    lists::put_word(words, z.words, kind);
-    decode_edge_of(s, p, kind, rules, numbers, words, z.with_words(1))
+    let (kind, p) = within::read_low(s, at, 1)?;
+    lists::put_word(lent.words, used.words, kind);
+    decode_edge_of(s, p, kind, rules, lent, used.with_words(1))
 }
 
 pub fn decode_edges<N: Number>(
-    s: &[u8],
+    s: &Payload,
     at: usize,
     n: usize,
     rules: Rules,
-    numbers: &mut [N],
-    words: &mut [u32],
-    z: Sizes,
+    lent: &mut Lent<N>,
+    used: Sizes,
 ) -> Reading<Sizes>
-    requires { Ready s.now at z × NowhereAbove rules.caps document_caps }
-    ensures { Walks N.of_bits s.now ((repeated n (edge_walk rules.caps rules.fits)).read s.now at)
-        (lists numbers.old words.old) z (lists numbers.new words.new) result }
+    requires { Ready s.now at used }
+    ensures { LentWalks N.of_bits s.now ((repeated n (edge_walk rules.caps (has_fits rules.version))).read s.now at) lent.old used lent.new result }
 {
     let mut p = at;
-    let mut y = z;
+    let mut used = used;
     for _ in 0..n {
-        (y, p) = decode_edge(s, p, rules, numbers, words, y)?;
+        (used, p) = decode_edge(s, p, rules, lent, used)?;
     }
-    Ok((y, p))
+    Ok((used, p))
 }

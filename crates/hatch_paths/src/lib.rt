@@ -3,14 +3,18 @@
 // specs/ promises that each walk gathers for the lists what the path, edge or spline that hatch_format reads there holds.
 #![tactic(auto)]
 
+ghost use Rattle.hatch_format.specs.Caps.{document_caps, NowhereAbove};
+
 use hatch_format::Caps;
+use text::version::Version;
 
 pub mod edges;
 pub mod paths;
 
-// What holds of every path of a hatch: the greatest counts, and whether its release has fit points behind a spline's control points.
+// What holds of every path of a hatch: the greatest counts, nowhere above document 01's, and its release.
 #[derive(Clone, Copy)]
 pub struct Rules {
     pub caps: Caps,
-    pub fits: bool,
+    pub version: Version,
+    pub ghost in_document: { NowhereAbove caps document_caps },
 }

@@ -6,14 +6,14 @@ ghost use Rattle.std.proofs.lemmas.List.Edits.{sets};
 ghost use Rattle.loads.specs.Bits.{bit, odd};
 ghost use Rattle.hatch_points.specs.Gathered.{repeated};
 ghost use Rattle.hatch_paths.specs.PathWalks.{polyline_walk, edges_walk, segments_walk, handles_walk, after_flags_walk, path_walk};
-ghost use Rattle.hatch_points.specs.Lists.{lists, Ready, Walks, WordWalks};
-ghost use Rattle.hatch_format.specs.Caps.{document_caps, NowhereAbove};
+ghost use Rattle.hatch_points.specs.Lists.{Ready, WordWalks};
+ghost use Rattle.hatch_points.specs.Lent.{LentWalks};
+ghost use Rattle.hatch_paths.specs.Fits.{has_fits};
 
 use crate::{Rules, edges};
 use bitcursor::values::Number;
-use bitcursor::{Reading, within};
-use hatch_format::Caps;
-use hatch_points::lists::Sizes;
+use bitcursor::{Payload, Reading, within};
+use hatch_points::lists::{Lent, Sizes};
 use hatch_points::{counts, lists, vertices};
 
 fn put_polyline_head(words: &mut [u32], at: usize, bulge: bool, closed: bool, n: u64)
@@ -27,59 +27,53 @@ fn put_polyline_head(words: &mut [u32], at: usize, bulge: bool, closed: bool, n:
 
 // A polyline: whether its vertices have bulges, whether it is closed, and the vertices.
 fn decode_polyline_path<N: Number>(
-    s: &[u8],
+    s: &Payload,
     at: usize,
-    caps: Caps,
-    numbers: &mut [N],
-    words: &mut [u32],
-    z: Sizes,
+    rules: Rules,
+    lent: &mut Lent<N>,
+    used: Sizes,
 ) -> Reading<Sizes>
-    requires { Ready s.now at z × NowhereAbove caps document_caps }
-    ensures { Walks N.of_bits s.now ((polyline_walk caps).read s.now at)
-        (lists numbers.old words.old) z (lists numbers.new words.new) result }
+    requires { Ready s.now at used }
+    ensures { LentWalks N.of_bits s.now ((polyline_walk rules.caps).read s.now at) lent.old used lent.new result }
 {
     let (bulge, p) = within::read_flag(s, at)?;
     let (closed, q) = within::read_flag(s, p)?;
-    let (n, r) = counts::read_count(s, q, caps.vertices)?;
-    put_polyline_head(words, z.words, bulge, closed, n);
-    vertices::decode_points(s, r, n as usize, bulge, numbers, z.with_words(3))
+    let (n, r) = counts::read_count(s, q, rules.caps.vertices)?;
+    put_polyline_head(lent.words, used.words, bulge, closed, n);
+    vertices::decode_points(s, r, n as usize, bulge, lent.numbers, used.with_words(3))
 }
 
 fn decode_edge_path<N: Number>(
-    s: &[u8],
+    s: &Payload,
     at: usize,
     rules: Rules,
-    numbers: &mut [N],
-    words: &mut [u32],
-    z: Sizes,
+    lent: &mut Lent<N>,
+    used: Sizes,
 ) -> Reading<Sizes>
-    requires { Ready s.now at z × NowhereAbove rules.caps document_caps }
-    ensures { Walks N.of_bits s.now ((edges_walk rules.caps rules.fits).read s.now at)
-        (lists numbers.old words.old) z (lists numbers.new words.new) result }
+    requires { Ready s.now at used }
+    ensures { LentWalks N.of_bits s.now ((edges_walk rules.caps (has_fits rules.version)).read s.now at) lent.old used lent.new result }
 {
     let (n, p) = counts::read_count(s, at, rules.caps.edges)?;
-    lists::put_word(words, z.words, n);
-    edges::decode_edges(s, p, n as usize, rules, numbers, words, z.with_words(1))
+    lists::put_word(lent.words, used.words, n);
+    edges::decode_edges(s, p, n as usize, rules, lent, used.with_words(1))
 }
 
 #[tactic(auto, unfolding(crate::specs::PathWalks::segments_walk))]
 fn decode_segments<N: Number>(
-    s: &[u8],
+    s: &Payload,
     at: usize,
     polyline: bool,
     rules: Rules,
-    numbers: &mut [N],
-    words: &mut [u32],
-    z: Sizes,
+    lent: &mut Lent<N>,
+    used: Sizes,
 ) -> Reading<Sizes>
-    requires { Ready s.now at z × NowhereAbove rules.caps document_caps }
-    ensures { Walks N.of_bits s.now ((segments_walk rules.caps rules.fits polyline).read s.now at)
-        (lists numbers.old words.old) z (lists numbers.new words.new) result }
+    requires { Ready s.now at used }
+    ensures { LentWalks N.of_bits s.now ((segments_walk rules.caps (has_fits rules.version) polyline).read s.now at) lent.old used lent.new result }
 {
     if polyline {
-        return decode_polyline_path(s, at, rules.caps, numbers, words, z);
+        return decode_polyline_path(s, at, rules, lent, used);
     }
-    decode_edge_path(s, at, rules, numbers, words, z)
+    decode_edge_path(s, at, rules, lent, used)
 }
 
 // A value in the flags, 2 or 4, as a test.
@@ -91,72 +85,73 @@ fn has_flag(flags: u64, value: u64) -> bool
 }
 
 // The count of boundary handles, behind a path's segments: the handles are not here.
-fn put_handle_count(s: &[u8], at: usize, cap: usize, words: &mut [u32], z: Sizes) -> Reading<Sizes>
-    requires { Ready s.now at z × (cap < 2 ^ 30) }
-    ensures { WordWalks s.now ((handles_walk cap).read s.now at) words.old z words.new result }
+// Lent the words alone: all of Lent would ask its caller for numbers that it never touches.
+fn put_handle_count(
+    s: &Payload,
+    at: usize,
+    rules: Rules,
+    words: &mut [u32],
+    used: Sizes,
+) -> Reading<Sizes>
+    requires { Ready s.now at used }
+    ensures { WordWalks s.now ((handles_walk rules.caps.boundary_handles).read s.now at) words.old used words.new result }
 {
-    let (n, p) = counts::read_count(s, at, cap)?;
-    lists::put_word(words, z.words, n);
-    Ok((z.with_words(1), p))
+    let (n, p) = counts::read_count(s, at, rules.caps.boundary_handles)?;
+    lists::put_word(words, used.words, n);
+    Ok((used.with_words(1), p))
 }
 
 // What follows a path's flags: segments and handle count.
 fn decode_after_flags<N: Number>(
-    s: &[u8],
+    s: &Payload,
     at: usize,
     polyline: bool,
     rules: Rules,
-    numbers: &mut [N],
-    words: &mut [u32],
-    z: Sizes,
+    lent: &mut Lent<N>,
+    used: Sizes,
 ) -> Reading<Sizes>
-    requires { Ready s.now at z × NowhereAbove rules.caps document_caps }
-    ensures { Walks N.of_bits s.now ((after_flags_walk rules.caps rules.fits polyline).read s.now at)
-        (lists numbers.old words.old) z (lists numbers.new words.new) result }
+    requires { Ready s.now at used }
+    ensures { LentWalks N.of_bits s.now ((after_flags_walk rules.caps (has_fits rules.version) polyline).read s.now at) lent.old used lent.new result }
 {
-    let (y, p) = decode_segments(s, at, polyline, rules, numbers, words, z)?;
-    put_handle_count(s, p, rules.caps.boundary_handles, words, y)
+    let (used, p) = decode_segments(s, at, polyline, rules, lent, used)?;
+    put_handle_count(s, p, rules, lent.words, used)
 }
 
 // A path: its flags, a polyline where they say so and else edges, and its handle count.
 fn decode_path<N: Number>(
-    s: &[u8],
+    s: &Payload,
     at: usize,
     rules: Rules,
-    numbers: &mut [N],
-    words: &mut [u32],
-    z: Sizes,
+    lent: &mut Lent<N>,
+    used: Sizes,
 ) -> Reading<Sizes>
-    requires { Ready s.now at z × NowhereAbove rules.caps document_caps }
-    ensures { Walks N.of_bits s.now ((path_walk rules.caps rules.fits).read s.now at)
-        (lists numbers.old words.old) z (lists numbers.new words.new) result }
+    requires { Ready s.now at used }
+    ensures { LentWalks N.of_bits s.now ((path_walk rules.caps (has_fits rules.version)).read s.now at) lent.old used lent.new result }
 {
-    let (flags, p) = bitcursor::within::read_bl_u(s, at)?;
-    lists::put_word(words, z.words, flags);
-    let y = Sizes {
-        derived: z.derived | has_flag(flags, 4),
-        ..z.with_words(1)
+    let (flags, p) = within::read_bl_u(s, at)?;
+    lists::put_word(lent.words, used.words, flags);
+    let used = Sizes {
+        derived: used.derived | has_flag(flags, 4),
+        ..used.with_words(1)
     };
-    decode_after_flags(s, p, has_flag(flags, 2), rules, numbers, words, y)
+    decode_after_flags(s, p, has_flag(flags, 2), rules, lent, used)
 }
 
 pub fn decode_paths<N: Number>(
-    s: &[u8],
+    s: &Payload,
     at: usize,
     n: usize,
     rules: Rules,
-    numbers: &mut [N],
-    words: &mut [u32],
-    z: Sizes,
+    lent: &mut Lent<N>,
+    used: Sizes,
 ) -> Reading<Sizes>
-    requires { Ready s.now at z × NowhereAbove rules.caps document_caps }
-    ensures { Walks N.of_bits s.now ((repeated n (path_walk rules.caps rules.fits)).read s.now at)
-        (lists numbers.old words.old) z (lists numbers.new words.new) result }
+    requires { Ready s.now at used }
+    ensures { LentWalks N.of_bits s.now ((repeated n (path_walk rules.caps (has_fits rules.version))).read s.now at) lent.old used lent.new result }
 {
     let mut p = at;
-    let mut y = z;
+    let mut used = used;
     for _ in 0..n {
-        (y, p) = decode_path(s, p, rules, numbers, words, y)?;
+        (used, p) = decode_path(s, p, rules, lent, used)?;
     }
-    Ok((y, p))
+    Ok((used, p))
 }

@@ -15,7 +15,7 @@ use Rattle.hatch_points.specs.declared.lists.Sizes.{Sizes}
 use Rattle.hatch_points.specs.Gathered.{Entries, none, numbers, plus, repeated}
 use Rattle.hatch_points.specs.Walks.{single_walk}
 use Rattle.hatch_points.specs.Lists.{Lists, lists, with_numbers, store, grow, Kept, Ready, Walks, Passes}
-use Rattle.hatch_points.proofs.Laws.{Step, no_step, ◌⊕◌, plus_none, plus_again, kept_step, kept_then, walk_finished, walk_refused, walk_kept}
+use Rattle.hatch_points.proofs.Laws.{Step, no_step, ◌⊕◌, plus_none, plus_again, kept_then, walk_finished, walk_refused, walk_kept}
 use Rattle.hatch_points.proofs.Laws.{walks_as, walks_unstored, refuses, ends, behind, sets_out, no_numbers}
 
 -- the entries a, and then what the rest has
@@ -194,10 +194,6 @@ module _ {N : Type 0} {of : ℕ → N} {d : Format one Entries} {xs : List ℕ} 
 
       pub walk_refuses : {e : Refused ℕ} → Walks of xs (d.read xs p) l z l' (Err e) → Walks of xs ((repeated n d).read xs p₀) l₀ z₀ l' (Err e)
       walk_refuses w = loop_refuses lt (walk_refused w) (walk_kept w)
-
-    -- what the lists keep, their lengths among it
-    pub along_kept : Kept l₀ z₀ l
-    along_kept = kept_step h.step
 
 -- a walk that was lent no lists, said of a list of numbers that has no room for what it gathers
 module _ {N : Type 0} {of : ℕ → N} (d : Format one Entries) (xs : List ℕ) (n p : ℕ) {z : Sizes} {r : Result (Sizes × ℕ) (Refused ℕ)} (a : List N) where

@@ -10,8 +10,7 @@ use Rattle.hatch_format.specs.Counts.{times_read, times}
 use Rattle.hatch_format.specs.Gradients.{color}
 use Rattle.hatch_front.specs.Answers.{sixteen_of}
 use Rattle.hatch_body.specs.declared.Parts.{Parts}
-use Rattle.hatch_body.specs.Parts.{Readable}
-use Rattle.hatch_record.specs.Records.{num_colors, colors_in, answer_with, answer_in, record_by, SmallIn}
+use Rattle.hatch_record.specs.Records.{num_colors, colors_in, answer_with, answer_in, record_by}
 
 -- without colours nothing is read again
 pub plain_is : {N C : Type 0} (of : ℕ → N) (make : GradientColorBits → C) (xs : List ℕ) (r : Result Parts (Refused Places)) → num_colors r ≡ 0
@@ -22,7 +21,3 @@ plain_is of make xs (Ok a) e =
     let none : sixteen [] ≡ colors_in xs g = sym (ap (λ (n : ℕ). sixteen_of ((times n color).read xs g.colors_at)) e) in
     ap (λ (cs : List GradientColorBits). Ok (record_by of (map make cs) a)) none
 plain_is of make xs (Err e) n = refl
-
-pub small_in : (xs : List ℕ) (r : Result Parts (Refused Places)) → Readable xs r → SmallIn r
-small_in xs (Ok a) h = h.1
-small_in xs (Err e) h = tt

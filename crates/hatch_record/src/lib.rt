@@ -9,7 +9,7 @@ ghost use Rattle.hatch_body.specs.Parts.{Small, Readable};
 ghost use Rattle.hatch_record.specs.Records.{fill_by, record_by, SmallIn, num_colors, answer_with, answer_in, lengths_of};
 
 use bitcursor::values::Number;
-use bitcursor::{Places, Refused};
+use bitcursor::{Payload, Places, Refused};
 use hatch_body::{BodyRead, Parts};
 use hatch_format::{Color, GradientColor, GradientFill, Hatch, Vec3D};
 use hatch_front::{Gradient, colors};
@@ -96,14 +96,15 @@ pub fn plain<N: Number, C: Color>(r: BodyRead) -> HatchRead<N, C>
     Ok(record(a, colors::zero_colors()))
 }
 
-// The answer with the colours read once more, from where they stand.
+// The answer with the colours read once more, from where they stand; what parts were read of is within the limit.
 pub fn colored<N: Number, C: Color>(main: &[u8], r: BodyRead) -> HatchRead<N, C>
     requires { Readable main.now r }
     ensures { result ≡ answer_in N.of_bits C.of_bits main.now r }
 {
     let a = r?;
     let g = a.front.gradient;
-    Ok(record(a, colors::read_colors(main, g.colors_at, g.num_colors)))
+    let main = Payload::new(main).unwrap();
+    Ok(record(a, colors::read_colors(&main, g.colors_at, g.num_colors)))
 }
 
 // Colours are read again only where there are some.

@@ -1,20 +1,20 @@
 // What follows the paths: the pattern with its lines, and the last fields.
-ghost use Rattle.std.specs.Prelude.{◌≡◌, false, [], ◌≤◌, length};
+ghost use Rattle.std.specs.Prelude.{◌≡◌, false, []};
 ghost use Rattle.bitcursor.specs.Answers.{outcome};
-ghost use Rattle.loads.specs.Bits.{limit};
 ghost use Rattle.bitcursor.specs.Doubles.{BD};
 ghost use Rattle.bitcursor.specs.Held.{held};
 ghost use Rattle.hatch_format.specs.Patterns.{pattern, ending, tail};
 ghost use Rattle.hatch_points.specs.Gathered.{repeated};
-ghost use Rattle.hatch_points.specs.Lists.{lists, Ready, Walks};
+ghost use Rattle.hatch_points.specs.Lists.{lists, Ready};
+ghost use Rattle.hatch_points.specs.Lent.{LentWalks};
 ghost use Rattle.hatch_rest.specs.Heads.{pattern_head};
 ghost use Rattle.hatch_rest.specs.LineGathers.{line_walk};
-ghost use Rattle.hatch_rest.specs.Tails.{Gives, pattern_of, pattern_entries, ending_of, ending_entries, tail_of, tail_entries};
+ghost use Rattle.hatch_rest.specs.Tails.{Gives, LentGives, pattern_of, pattern_entries, ending_of, ending_entries, tail_of, tail_entries};
 
 use bitcursor::values::Number;
-use bitcursor::{Reading, within};
+use bitcursor::{Payload, Reading, within};
 use hatch_format::Caps;
-use hatch_points::lists::Sizes;
+use hatch_points::lists::{Lent, Sizes};
 use hatch_points::{counts, lists, runs};
 
 // What a hatch has that is not solid, with the count of its lines; zero where it is.
@@ -44,48 +44,43 @@ pub struct Tail {
 
 // A pattern line: angle, origin and offset, the count of dashes as a word, and the dashes.
 fn decode_pattern_line<N: Number>(
-    s: &[u8],
+    s: &Payload,
     at: usize,
     cap: usize,
-    numbers: &mut [N],
-    words: &mut [u32],
-    z: Sizes,
+    lent: &mut Lent<N>,
+    used: Sizes,
 ) -> Reading<Sizes>
-    requires { Ready s.now at z }
-    ensures { Walks N.of_bits s.now ((line_walk cap).read s.now at)
-        (lists numbers.old words.old) z (lists numbers.new words.new) result }
+    requires { Ready s.now at used }
+    ensures { LentWalks N.of_bits s.now ((line_walk cap).read s.now at) lent.old used lent.new result }
 {
-    let (y, p) = runs::double_run(s, at, 5, numbers, z)?;
-    let (n, q) = counts::read_short_count(s, p, cap)?;
-    lists::put_word(words, y.words, n);
-    runs::double_run(s, q, n as usize, numbers, y.with_words(1))
+    let (used, p) = runs::double_run(s, at, 5, lent.numbers, used)?;
+    let (n, p) = counts::read_short_count(s, p, cap)?;
+    lists::put_word(lent.words, used.words, n);
+    runs::double_run(s, p, n as usize, lent.numbers, used.with_words(1))
 }
 
 fn decode_pattern_lines<N: Number>(
-    s: &[u8],
+    s: &Payload,
     at: usize,
     n: usize,
     cap: usize,
-    numbers: &mut [N],
-    words: &mut [u32],
-    z: Sizes,
+    lent: &mut Lent<N>,
+    used: Sizes,
 ) -> Reading<Sizes>
-    requires { Ready s.now at z }
-    ensures { Walks N.of_bits s.now ((repeated n (line_walk cap)).read s.now at)
-        (lists numbers.old words.old) z (lists numbers.new words.new) result }
+    requires { Ready s.now at used }
+    ensures { LentWalks N.of_bits s.now ((repeated n (line_walk cap)).read s.now at) lent.old used lent.new result }
 {
     let mut p = at;
-    let mut y = z;
+    let mut used = used;
     for _ in 0..n {
-        (y, p) = decode_pattern_line(s, p, cap, numbers, words, y)?;
+        (used, p) = decode_pattern_line(s, p, cap, lent, used)?;
     }
-    Ok((y, p))
+    Ok((used, p))
 }
 
 // The fields of a pattern in front of its lines, with their count.
 #[tactic(auto, using(bitcursor::proofs::FormatSteps::fields), unfolding(crate::specs::Heads::pattern_head))]
-fn read_pattern_head(s: &[u8], at: usize, cap: usize) -> Reading<Pattern>
-    requires { length s.now ≤ limit }
+fn read_pattern_head(s: &Payload, at: usize, cap: usize) -> Reading<Pattern>
     ensures { outcome result ≡ (pattern_head cap).read s.now at }
 {
     let (angle, p) = within::read_bd_bits(s, at)?;
@@ -103,35 +98,31 @@ fn read_pattern_head(s: &[u8], at: usize, cap: usize) -> Reading<Pattern>
 
 // The pattern of a hatch that is not solid.
 fn decode_open_pattern<N: Number>(
-    s: &[u8],
+    s: &Payload,
     at: usize,
     caps: Caps,
-    numbers: &mut [N],
-    words: &mut [u32],
-    z: Sizes,
+    lent: &mut Lent<N>,
+    used: Sizes,
 ) -> Reading<(Pattern, Sizes)>
-    requires { Ready s.now at z }
-    ensures { Gives N.of_bits s.now pattern_of pattern_entries ((pattern caps false).read s.now at)
-        (lists numbers.old words.old) z (lists numbers.new words.new) result }
+    requires { Ready s.now at used }
+    ensures { LentGives N.of_bits s.now pattern_of pattern_entries ((pattern caps false).read s.now at) lent.old used lent.new result }
 {
     let (pattern, p) = read_pattern_head(s, at, caps.pattern_lines)?;
-    let (y, q) = decode_pattern_lines(s, p, pattern.lines, caps.dashes, numbers, words, z)?;
-    Ok(((pattern, y), q))
+    let (used, p) = decode_pattern_lines(s, p, pattern.lines, caps.dashes, lent, used)?;
+    Ok(((pattern, used), p))
 }
 
 // A solid hatch has no pattern, and nothing is read.
 fn decode_pattern<N: Number>(
-    s: &[u8],
+    s: &Payload,
     at: usize,
     solid: bool,
     caps: Caps,
-    numbers: &mut [N],
-    words: &mut [u32],
-    z: Sizes,
+    lent: &mut Lent<N>,
+    used: Sizes,
 ) -> Reading<(Pattern, Sizes)>
-    requires { Ready s.now at z }
-    ensures { Gives N.of_bits s.now pattern_of pattern_entries ((pattern caps solid).read s.now at)
-        (lists numbers.old words.old) z (lists numbers.new words.new) result }
+    requires { Ready s.now at used }
+    ensures { LentGives N.of_bits s.now pattern_of pattern_entries ((pattern caps solid).read s.now at) lent.old used lent.new result }
 {
     if solid {
         let pattern = Pattern {
@@ -140,15 +131,14 @@ fn decode_pattern<N: Number>(
             double: false,
             lines: 0,
         };
-        return Ok(((pattern, z), at));
+        return Ok(((pattern, used), at));
     }
-    decode_open_pattern(s, at, caps, numbers, words, z)
+    decode_open_pattern(s, at, caps, lent, used)
 }
 
 // The pixel size is there if a path came from a boundary object.
 #[tactic(auto, using(bitcursor::proofs::Steps::reading), unfolding(bitcursor::specs::Held::held))]
-fn read_pixel_size(s: &[u8], at: usize, has: bool) -> Reading<u64>
-    requires { length s.now ≤ limit }
+fn read_pixel_size(s: &Payload, at: usize, has: bool) -> Reading<u64>
     ensures { outcome result ≡ (held has BD 0).read s.now at }
 {
     if has {
@@ -157,53 +147,52 @@ fn read_pixel_size(s: &[u8], at: usize, has: bool) -> Reading<u64>
     Ok((0, at))
 }
 
+// The last fields. Lent the numbers alone: all of Lent would ask its callers for words that it never touches.
 fn decode_ending<N: Number>(
-    s: &[u8],
+    s: &Payload,
     at: usize,
     has: bool,
     caps: Caps,
     numbers: &mut [N],
-    z: Sizes,
+    used: Sizes,
 ) -> Reading<(Ending, Sizes)>
-    requires { Ready s.now at z }
+    requires { Ready s.now at used }
     ensures { Gives N.of_bits s.now ending_of ending_entries ((ending caps has).read s.now at)
-        (lists numbers.old []) z (lists numbers.new []) result }
+        (lists numbers.old []) used (lists numbers.new []) result }
 {
     let (pixel_size, p) = read_pixel_size(s, at, has)?;
     let (n, p) = counts::read_count(s, p, caps.seed_points)?;
     let seed_points = n as usize;
-    let (y, q) = runs::raw_run(s, p, 2 * seed_points, numbers, z)?;
+    let (used, p) = runs::raw_run(s, p, 2 * seed_points, numbers, used)?;
     let ending = Ending {
         pixel_size,
         seed_points,
     };
-    Ok(((ending, y), q))
+    Ok(((ending, used), p))
 }
 
 // What follows the paths: style, type, the pattern and the last fields.
 pub fn decode_tail<N: Number>(
-    s: &[u8],
+    s: &Payload,
     at: usize,
     solid: bool,
     has: bool,
     caps: Caps,
-    numbers: &mut [N],
-    words: &mut [u32],
-    z: Sizes,
+    lent: &mut Lent<N>,
+    used: Sizes,
 ) -> Reading<(Tail, Sizes)>
-    requires { Ready s.now at z }
-    ensures { Gives N.of_bits s.now tail_of tail_entries ((tail caps solid has).read s.now at)
-        (lists numbers.old words.old) z (lists numbers.new words.new) result }
+    requires { Ready s.now at used }
+    ensures { LentGives N.of_bits s.now tail_of tail_entries ((tail caps solid has).read s.now at) lent.old used lent.new result }
 {
     let (style, p) = within::read_bs_u(s, at)?;
     let (kind, p) = within::read_bs_u(s, p)?;
-    let ((pattern, y), p) = decode_pattern(s, p, solid, caps, numbers, words, z)?;
-    let ((ending, x), q) = decode_ending(s, p, has, caps, numbers, y)?;
+    let ((pattern, used), p) = decode_pattern(s, p, solid, caps, lent, used)?;
+    let ((ending, used), p) = decode_ending(s, p, has, caps, lent.numbers, used)?;
     let tail = Tail {
         style,
         kind,
         pattern,
         ending,
     };
-    Ok(((tail, x), q))
+    Ok(((tail, used), p))
 }

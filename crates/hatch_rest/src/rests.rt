@@ -1,22 +1,16 @@
 // What follows the pattern's name: switches, paths, pattern, pixel size and seeds. It measures where the lists are empty, and fills them else.
-ghost use Rattle.std.specs.Prelude.{◌≡◌, ◌*◌, ◌≤◌, length};
-ghost use Rattle.loads.specs.Bits.{limit};
-ghost use Rattle.hatch_format.specs.Caps.{document_caps, NowhereAbove};
 ghost use Rattle.hatch_format.specs.HandleRule.{in_payload};
 ghost use Rattle.hatch_format.specs.Patterns.{rest};
-ghost use Rattle.hatch_points.specs.Lists.{lists};
-ghost use Rattle.hatch_rest.specs.Tails.{Gives};
+ghost use Rattle.hatch_rest.specs.Tails.{LentGives};
 ghost use Rattle.hatch_rest.specs.Rests.{no_sizes, rest_of, rest_entries};
 
 use crate::patterns;
 use crate::patterns::Tail;
 use bitcursor::values::Number;
-use bitcursor::{Reading, within};
-use hatch_format::Caps;
+use bitcursor::{Payload, Reading, Refusal, refuse, within};
 use hatch_paths::{Rules, paths};
 use hatch_points::counts;
-use hatch_points::lists::Sizes;
-use text::version::Version;
+use hatch_points::lists::{Lent, Sizes};
 
 #[derive(Clone, Copy, Debug, PartialEq, Eq)]
 pub struct Rest {
@@ -26,36 +20,37 @@ pub struct Rest {
     pub tail: Tail,
 }
 
+// A place at the payload's end, or past it, is refused as the first field would be: behind that test it is known that the place lies in the
+// payload, and the payload within the limit.
 pub fn decode_rest<N: Number>(
-    s: &[u8],
+    s: &Payload,
     at: usize,
-    v: Version,
-    caps: Caps,
-    numbers: &mut [N],
-    words: &mut [u32],
+    rules: Rules,
+    lent: &mut Lent<N>,
 ) -> Reading<(Rest, Sizes)>
-    requires { (length s.now ≤ limit) × ((at ≤ 8 * length s.now) × NowhereAbove caps document_caps) }
-    ensures { Gives N.of_bits s.now rest_of rest_entries ((rest caps in_payload v).read s.now at)
-        (lists numbers.old words.old) no_sizes (lists numbers.new words.new) result }
+    ensures { LentGives N.of_bits s.now rest_of rest_entries ((rest rules.caps in_payload rules.version).read s.now at) lent.old no_sizes lent.new result }
 {
-    let fits = v.is_from(Version::R2010);
+    if s.size() <= at {
+        return refuse(Refusal::TooFewBits, at);
+    }
     let (solid, p) = within::read_flag(s, at)?;
     let (associative, p) = within::read_flag(s, p)?;
-    let (n, p) = counts::read_count(s, p, caps.paths)?;
+    let (n, p) = counts::read_count(s, p, rules.caps.paths)?;
     let count = n as usize;
     let none = Sizes {
         numbers: 0,
         words: 0,
         derived: false,
     };
-    let rules = Rules { caps, fits };
-    let (y, p) = paths::decode_paths(s, p, count, rules, numbers, words, none)?;
-    let ((tail, z), q) = patterns::decode_tail(s, p, solid, y.derived, caps, numbers, words, y)?;
+    let (used, p) = paths::decode_paths(s, p, count, rules, lent, none)?;
+    let has = used.derived;
+    let caps = rules.caps;
+    let ((tail, used), p) = patterns::decode_tail(s, p, solid, has, caps, lent, used)?;
     let rest = Rest {
         solid,
         associative,
         paths: count,
         tail,
     };
-    Ok(((rest, z), q))
+    Ok(((rest, used), p))
 }

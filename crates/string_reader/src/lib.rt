@@ -7,7 +7,7 @@ ghost use Rattle.std.specs.Prelude.{◌≡◌, ◌-◌, leb};
 ghost use Rattle.bitcursor.specs.Answers.{passing};
 ghost use Rattle.string_reader.specs.Readers.{start_at, Opens, ReadsText};
 
-use bitcursor::{LIMIT, Passing, Refusal, Refused, refuse};
+use bitcursor::{Passing, Refusal, Refused};
 use text::Text;
 
 pub mod readings;
@@ -25,10 +25,8 @@ pub struct StringReader<'a> {
 pub fn start_at(payload: &[u8], start_bit: usize) -> Passing
     ensures { passing result ≡ start_at payload.now start_bit }
 {
-    if LIMIT < payload.len() {
-        return refuse(Refusal::PayloadTooLong, start_bit);
-    }
-    string_start::start_in(payload.len(), start_bit)
+    let payload = bitcursor::payload(payload, start_bit)?;
+    string_start::start_in(payload.size(), start_bit)
 }
 
 impl<'a> StringReader<'a> {

@@ -2,6 +2,7 @@
 use Rattle.std.specs.Prelude.{ℕ, zero, suc, Option, Some, None, Result, Ok, Err}
 use Rattle.bitcursor.specs.declared.Refusal.{Refusal}
 use Rattle.bitcursor.specs.declared.Refusal.TheVariants.{UnknownRelease}
+use Rattle.bitcursor.specs.declared.Refused.{Refused}
 use Rattle.text.specs.declared.version.Version.{Version}
 use Rattle.text.specs.declared.version.Version.TheVariants.{R14, R2000, R2004, R2007, R2010, R2013, R2018}
 
@@ -30,3 +31,8 @@ version_of (suc (suc (suc (suc (suc (suc (suc (suc n)))))))) = None
 abbrev pub known : Option Version → Result Version Refusal
 known (Some v) = Ok v
 known None = Err UnknownRelease
+
+-- the same at a place
+abbrev pub known_at : {P : Type 0} → Option Version → P → Result Version (Refused P)
+known_at (Some v) p = Ok v
+known_at None p = Err (record { refusal = UnknownRelease; place = p })

@@ -8,13 +8,16 @@ ghost use Rattle.bitcursor.specs.Answers.{outcome, limited};
 ghost use Rattle.text.specs.Releases.{version_of};
 ghost use Rattle.text.specs.Answers.{source_number, released, inline_text, reader_text};
 
-use bitcursor::{Reading, Refusal, refuse};
+use bitcursor::{Reading, payload};
 use version::Version;
 
 mod padding;
+mod payloads;
 mod utf16;
 pub mod version;
 pub mod within;
+
+pub use payloads::Payloads;
 
 // Which payload a text lies in; an absent gradient's name lies in none.
 #[derive(Clone, Copy, Debug, PartialEq, Eq)]
@@ -53,12 +56,8 @@ pub struct Text {
 pub fn read_tv(s: &[u8], at: usize, release: u64) -> Reading<Text>
     ensures { outcome result ≡ released (λ v. limited (inline_text v)) (version_of release) s.now at }
 {
-    let Ok(version) = Version::try_from(release) else {
-        return refuse(Refusal::UnknownRelease, at);
-    };
-    if bitcursor::LIMIT < s.len() {
-        return refuse(Refusal::PayloadTooLong, at);
-    }
+    let version = Version::known_at(release, at)?;
+    let s = &payload(s, at)?;
     within::read_tv(s, at, version)
 }
 
@@ -67,8 +66,6 @@ pub fn read_tv(s: &[u8], at: usize, release: u64) -> Reading<Text>
 pub fn read_string_tv(s: &[u8], at: usize, end: usize) -> Reading<Text>
     ensures { outcome result ≡ limited (reader_text end) s.now at }
 {
-    if bitcursor::LIMIT < s.len() {
-        return refuse(Refusal::PayloadTooLong, at);
-    }
+    let s = &payload(s, at)?;
     within::read_string_tv(s, at, end)
 }

@@ -1,8 +1,8 @@
 // The seven releases that document 01 knows, and the test for "this release or a later one".
 ghost use Rattle.std.specs.Prelude.{◌≡◌, leb};
-ghost use Rattle.text.specs.Releases.{release_number, known, version_of};
+ghost use Rattle.text.specs.Releases.{release_number, known, known_at, version_of};
 
-use bitcursor::Refusal;
+use bitcursor::{Refusal, Refused};
 
 // src/version.rs of dwg-rs; document 01's release numbers are 1 to 7 in this order.
 #[derive(Clone, Copy, Debug, PartialEq, Eq)]
@@ -50,6 +50,13 @@ impl Version {
             Version::R2013 => 6,
             Version::R2018 => 7,
         }
+    }
+
+    // The version of a release number; refusal 9 at the place if it is none of the seven.
+    pub fn known_at<P: Copy>(release: u64, place: P) -> Result<Version, Refused<P>>
+        ensures { result ≡ known_at (version_of release) place }
+    {
+        Version::try_from(release).map_err(|refusal| Refused { refusal, place })
     }
 
     // Whether this is the release or a later one: the Rust's `is_r2004_plus`, `is_r2007_plus` and `is_r2010_plus`.

@@ -8,5 +8,5 @@ use Rattle.hatch_body.proofs.fill_lists.Goals as goal
 pub returns-then-none_lent : goal.returns-then-none_lent
 returns-then-none_lent g c =
     let a = c.args in
-    none_laid g.N.Number.of_bits ((rest a.caps in_payload a.v).read a.s.now a.at) a.numbers.now a.words.now
+    none_laid g.N.Number.of_bits ((rest a.rules.caps in_payload a.rules.version).read a.s.now a.at) a.numbers.now a.words.now
     (sym c.none_lent.ensures ∙ c.if-none_lent.true)

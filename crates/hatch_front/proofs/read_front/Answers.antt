@@ -2,7 +2,6 @@
 use Rattle.std.proofs.Common.{rules, subst}
 use Rattle.bitcursor.specs.Format.{◌>>=◌, pure}
 use Rattle.bitcursor.specs.Fields.{part_in}
-use Rattle.text.specs.Answers.{payloads_to}
 use Rattle.hatch_front.specs.Fronts.{front}
 use Rattle.hatch_front.specs.Answers.{Handed, front_of}
 use Rattle.hatch_front.specs.Passed.{front_passed}
@@ -13,26 +12,26 @@ pub returns : goal.returns
 unfolding front_passed ◌>>=◌ pure part_in
 returns c =
     let a = c.args in
-    let γ = payloads_to a.main.now a.string.now a.reader in
-    subst (Handed front_of (λ b. b.gradient.colors) a.main.now ((front a.caps a.v).read γ a.at)) (search rules) (front_handed a.caps c.requires.1.1 a.v γ a.at)
+    let γ = a.payloads.now in
+    subst (Handed front_of (λ b. b.gradient.colors) γ.main ((front a.caps a.v).read γ a.at)) (search rules) (front_handed a.caps c.requires a.v γ a.at)
 
 pub returns-in_err-gradient : goal.returns-in_err-gradient
 unfolding front_passed ◌>>=◌ pure part_in
 returns-in_err-gradient c =
     let a = c.args in
-    let γ = payloads_to a.main.now a.string.now a.reader in
-    subst (Handed front_of (λ b. b.gradient.colors) a.main.now ((front a.caps a.v).read γ a.at)) (search rules) (front_handed a.caps c.requires.1.1 a.v γ a.at)
+    let γ = a.payloads.now in
+    subst (Handed front_of (λ b. b.gradient.colors) γ.main ((front a.caps a.v).read γ a.at)) (search rules) (front_handed a.caps c.requires a.v γ a.at)
 
 pub returns-in_err-plane : goal.returns-in_err-plane
 unfolding front_passed ◌>>=◌ pure part_in
 returns-in_err-plane c =
     let a = c.args in
-    let γ = payloads_to a.main.now a.string.now a.reader in
-    subst (Handed front_of (λ b. b.gradient.colors) a.main.now ((front a.caps a.v).read γ a.at)) (search rules) (front_handed a.caps c.requires.1.1 a.v γ a.at)
+    let γ = a.payloads.now in
+    subst (Handed front_of (λ b. b.gradient.colors) γ.main ((front a.caps a.v).read γ a.at)) (search rules) (front_handed a.caps c.requires a.v γ a.at)
 
 pub returns-in_err-name : goal.returns-in_err-name
 unfolding front_passed ◌>>=◌ pure part_in
 returns-in_err-name c =
     let a = c.args in
-    let γ = payloads_to a.main.now a.string.now a.reader in
-    subst (Handed front_of (λ b. b.gradient.colors) a.main.now ((front a.caps a.v).read γ a.at)) (search rules) (front_handed a.caps c.requires.1.1 a.v γ a.at)
+    let γ = a.payloads.now in
+    subst (Handed front_of (λ b. b.gradient.colors) γ.main ((front a.caps a.v).read γ a.at)) (search rules) (front_handed a.caps c.requires a.v γ a.at)

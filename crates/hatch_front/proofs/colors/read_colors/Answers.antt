@@ -16,7 +16,7 @@ loop-i-preserved g c =
     let l = c.loop-i in
     let h = l.invariant.0 in
     let got = sym c.in-Ok.ensures in
-    let fits : l.i < 16 = omega (arith, c.requires.1, c.loop-i-test.true) in
+    let fits : l.i < 16 = omega (arith, c.requires, c.loop-i-test.true) in
     let stored = ap₂ (λ (m : List _) (v : _). set m l.i v) l.invariant.1 c.from_bits.ensures in
     (one_read h got, stored ∙ set_as g.C.Color.of_bits (filled h) l.i c.in-Ok.color ∙ ap (map g.C.Color.of_bits) (filled_more h got fits))
 

@@ -21,9 +21,9 @@ returns c =
     let v = c.in_ok-v.v in
     let h = c.requires in
     let on = onward (coded B) 1 takes_flag s a.at c.in_ok-v.ensures h.1.0 in
-    let put : c.put_word.new.words ≡ set a.words.now a.z.words (bit v) = search rules in
+    let put : c.put_word.new.words ≡ set a.words.now a.used.words (bit v) = search rules in
     ends (word (bit v)) (bit_read s a.at c.in_ok-v.ensures)
-    (record { lists = λ i. lists [] (put i); sizes = c.with_words.ensures ∙ one_word a.z (bit v) })
+    (record { lists = λ i. lists [] (put i); sizes = c.with_words.ensures ∙ one_word a.used (bit v) })
     (h.0, (on.1, (omega (arith, on.0, h.1.1.0), omega (arith, on.0, h.1.1.1))))
 
 pub returns-in_err-v : goal.returns-in_err-v

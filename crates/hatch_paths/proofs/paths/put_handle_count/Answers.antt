@@ -14,14 +14,17 @@ use Rattle.hatch_paths.proofs.paths.put_handle_count.Goals as goal
 pub returns : goal.returns
 returns c =
     let a = c.args in
-    let h = c.requires.0 in
+    let h = c.requires in
+    let cap = a.rules.caps.boundary_handles in
     let n = c.in_ok-n.n in
     let e = c.in_ok-n.ensures in
-    let on = onward (bounded a.cap BL) 2 (takes_bounded a.cap BL 2 takes_BL) a.s.now a.at e h.1.0 in
-    ends (word n) (handles_read a.cap a.s.now a.at e)
-    (record { lists = λ i. lists [] (c.put_word.ensures i); sizes = c.with_words.ensures ∙ one_word a.z n })
+    let on = onward (bounded cap BL) 2 (takes_bounded cap BL 2 takes_BL) a.s.now a.at e h.1.0 in
+    ends (word n) (handles_read cap a.s.now a.at e)
+    (record { lists = λ i. lists [] (c.put_word.ensures i); sizes = c.with_words.ensures ∙ one_word a.used n })
     (h.0, (on.1, (omega (arith, on.0, h.1.1.0), omega (arith, on.0, h.1.1.1))))
 
 pub returns-in_err-n : goal.returns-in_err-n
 returns-in_err-n c =
-    let a = c.args in leaves _ c.from_residual.ensures (refuses (handles_refused a.cap a.s.now a.at c.in_err-n.ensures) kept_same)
+    let a = c.args in
+    let cap = a.rules.caps.boundary_handles in
+    leaves _ c.from_residual.ensures (refuses (handles_refused cap a.s.now a.at c.in_err-n.ensures) kept_same)

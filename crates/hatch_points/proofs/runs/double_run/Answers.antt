@@ -14,7 +14,7 @@ returns g c =
     let s = a.s.now in
     let m = c.stores-m.result in
     let room = c.stores-m.ensures in
-    let put = c.in_ok-y.ensures in
+    let put = c.in_ok-used.ensures in
     let u = used_after single_walk s 1 (single_long s) m a.at put in
     walks_as
     (parts_walk single_walk a.n m a.at (omega (arith, room)) put
@@ -22,10 +22,10 @@ returns g c =
     (λ h. omega (arith, u, many_1 m, room, h, c.put_doubles.auto.numbers)) c.pass_doubles.ensures))
     (sym (double_repeated s a.n a.at))
 
-pub returns-in_err-y : goal.returns-in_err-y
-returns-in_err-y g c =
+pub returns-in_err-used : goal.returns-in_err-used
+returns-in_err-used g c =
     let a = c.args in
     let s = a.s.now in
     let m = c.stores-m.result in
     leaves _ c.from_residual.ensures
-    (walks_as (parts_refuse single_walk a.n m a.at (omega (arith, c.stores-m.ensures)) c.in_err-y.ensures) (sym (double_repeated s a.n a.at)))
+    (walks_as (parts_refuse single_walk a.n m a.at (omega (arith, c.stores-m.ensures)) c.in_err-used.ensures) (sym (double_repeated s a.n a.at)))

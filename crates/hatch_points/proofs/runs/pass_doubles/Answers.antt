@@ -20,7 +20,7 @@ loop-preserved c =
     let h = l.invariant.ready in
     let on = onward (coded BD) 2 takes_BD s l.p c.in_ok-q.ensures h.1.0 in
     next l.invariant _ c.loop-test.true (single_read s l.p c.in_ok-q.ensures)
-    (record { lists = refl; sizes = numbers_again c.args.z l.counter (c.in_ok-q.field-0-0 ∷ []) (omega arith) })
+    (record { lists = refl; sizes = numbers_again c.args.used l.counter (c.in_ok-q.field-0-0 ∷ []) (omega arith) })
     (h.0, (on.1, (omega (arith, on.0, h.1.1.0), omega (arith, on.0, h.1.1.1))))
 
 pub returns-in_err-q : goal.returns-in_err-q
@@ -30,4 +30,4 @@ returns-in_err-q c =
     (loop_refuses l.invariant c.loop-test.true (single_refused c.args.s.now l.p c.in_err-q.ensures) kept_same)
 
 pub returns : goal.returns
-returns c = loop_ends_as c.loop.invariant (c.with_numbers.ensures ∙ ap (with_numbers c.args.z) (omega arith)) c.loop-test.false
+returns c = loop_ends_as c.loop.invariant (c.with_numbers.ensures ∙ ap (with_numbers c.args.used) (omega arith)) c.loop-test.false

@@ -6,4 +6,4 @@ use Rattle.hatch_points.proofs.runs.pass_doubles.Given as goal
 
 abbrev pub invariant-loop : goal.invariant-loop
 invariant-loop l =
-    Along (λ n. n) single_walk l.s l.n l.at (lists [] []) l.z l.counter l.p (lists [] []) (with_numbers l.z l.counter)
+    Along (λ n. n) single_walk l.s l.n l.at (lists [] []) l.used l.counter l.p (lists [] []) (with_numbers l.used l.counter)

@@ -22,7 +22,7 @@ loop-i-preserved g c =
     let h = l.invariant.ready in
     let on = onward (coded BD) 2 takes_BD s l.p c.in_ok-v.ensures h.1.0 in
     next l.invariant (numbers (v ∷ [])) c.loop-i-test.true (single_read s l.p c.in_ok-v.ensures)
-    (record { lists = λ i. lists (c.put_number.ensures i) []; sizes = numbers_again c.args.z l.i (v ∷ []) (omega arith) })
+    (record { lists = λ i. lists (c.put_number.ensures i) []; sizes = numbers_again c.args.used l.i (v ∷ []) (omega arith) })
     (h.0, (on.1, (omega (arith, on.0, h.1.1.0), omega (arith, on.0, h.1.1.1))))
 
 pub returns-in_err-v : goal.returns-in_err-v
@@ -32,4 +32,4 @@ returns-in_err-v g c =
     (loop_refuses l.invariant c.loop-i-test.true (single_refused c.args.s.now l.p c.in_err-v.ensures) kept_same)
 
 pub returns : goal.returns
-returns g c = loop_ends_as c.loop-i.invariant (c.with_numbers.ensures ∙ ap (with_numbers c.args.z) (omega arith)) c.loop-i-test.false
+returns g c = loop_ends_as c.loop-i.invariant (c.with_numbers.ensures ∙ ap (with_numbers c.args.used) (omega arith)) c.loop-i-test.false

@@ -6,4 +6,4 @@ use Rattle.hatch_points.proofs.runs.put_doubles.Given as goal
 
 abbrev pub invariant-loop-i : goal.invariant-loop-i
 invariant-loop-i g l =
-    Along g.N.Number.of_bits single_walk l.s l.n l.at (lists l.initial.numbers []) l.z l.i l.p (lists l.numbers []) (with_numbers l.z l.i)
+    Along g.N.Number.of_bits single_walk l.s l.n l.at (lists l.initial.numbers []) l.used l.i l.p (lists l.numbers []) (with_numbers l.used l.i)

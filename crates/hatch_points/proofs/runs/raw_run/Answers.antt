@@ -16,7 +16,7 @@ use Rattle.hatch_points.proofs.runs.raw_run.Goals as goal
 pub returns-then-n-eq0 : goal.returns-then-n-eq0
 returns-then-n-eq0 g c =
     let a = c.args in
-    let z = a.z in
+    let z = a.used in
     ends (numbers []) (raw_zero a.s.now a.n a.at c.if-n-eq0.true)
     (record {
       lists = refl;
@@ -28,13 +28,13 @@ pub put_raw-requires : goal.put_raw-requires
 put_raw-requires g c =
     let a = c.args in
     let t = passed_there a.s.now (8 * a.n) a.at c.in_ok-p.ensures in
-    (c.requires.0.0, omega (arith, t.fits))
+    omega (arith, t.fits)
 
 pub returns : goal.returns
 returns g c =
     let a = c.args in
     let s = a.s.now in
-    let z = a.z in
+    let z = a.used in
     let t = passed_there s (8 * a.n) a.at c.in_ok-p.ensures in
     let h = c.requires.0 in
     let e : a.at + 64 * a.n ≡ c.in_ok-p.p = omega (arith, t.next) in

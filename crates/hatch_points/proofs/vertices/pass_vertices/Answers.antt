@@ -18,11 +18,11 @@ loop-preserved c =
     let v = vertex_at c.args.s.now l.p c.in_ok-q.field-0-0 in
     let h = l.invariant.ready in
     next l.invariant _ c.loop-test.true t.read
-    (record { lists = refl; sizes = numbers_again c.args.z (3 * l.counter) v (omega arith) })
+    (record { lists = refl; sizes = numbers_again c.args.used (3 * l.counter) v (omega arith) })
     (h.0, (t.inside, (omega (arith, t.onward, h.1.1.0), omega (arith, t.onward, h.1.1.1))))
 
 pub returns-in_err-q : goal.returns-in_err-q
 returns-in_err-q c = leaves _ c.from_residual.ensures (loop_refuses c.loop.invariant c.loop-test.true c.in_err-q.ensures kept_same)
 
 pub returns : goal.returns
-returns c = loop_ends_as c.loop.invariant (c.with_numbers.ensures ∙ ap (with_numbers c.args.z) (omega arith)) c.loop-test.false
+returns c = loop_ends_as c.loop.invariant (c.with_numbers.ensures ∙ ap (with_numbers c.args.used) (omega arith)) c.loop-test.false

@@ -7,4 +7,4 @@ use Rattle.hatch_points.proofs.vertices.pass_vertices.Given as goal
 
 abbrev pub invariant-loop : goal.invariant-loop
 invariant-loop l =
-    Along (λ n. n) vertex_walk l.s l.n l.at (lists [] []) l.z l.counter l.p (lists [] []) (with_numbers l.z (3 * l.counter))
+    Along (λ n. n) vertex_walk l.s l.n l.at (lists [] []) l.used l.counter l.p (lists [] []) (with_numbers l.used (3 * l.counter))

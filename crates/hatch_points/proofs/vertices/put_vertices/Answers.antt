@@ -21,7 +21,7 @@ loop-i-preserved g c =
     let v = vertex_at s l.p c.in_ok-extra.extra in
     let h = l.invariant.ready in
     next l.invariant (numbers v) c.loop-i-test.true t.read
-    (record { lists = λ i. lists (c.put_vertex.ensures i) []; sizes = numbers_again c.args.z (3 * l.i) v (omega arith) })
+    (record { lists = λ i. lists (c.put_vertex.ensures i) []; sizes = numbers_again c.args.used (3 * l.i) v (omega arith) })
     (h.0, (t.inside, (omega (arith, t.onward, h.1.1.0), omega (arith, t.onward, h.1.1.1))))
 
 pub returns-in_err-extra : goal.returns-in_err-extra
@@ -29,4 +29,4 @@ returns-in_err-extra g c =
     leaves _ c.from_residual.ensures (loop_refuses c.loop-i.invariant c.loop-i-test.true c.in_err-extra.ensures kept_same)
 
 pub returns : goal.returns
-returns g c = loop_ends_as c.loop-i.invariant (c.with_numbers.ensures ∙ ap (with_numbers c.args.z) (omega arith)) c.loop-i-test.false
+returns g c = loop_ends_as c.loop-i.invariant (c.with_numbers.ensures ∙ ap (with_numbers c.args.used) (omega arith)) c.loop-i-test.false

@@ -8,8 +8,8 @@ use Rattle.hatch_points.proofs.Laws.{stays}
 use Rattle.hatch_points.proofs.VertexLaws.{extra_on, extra_short}
 use Rattle.hatch_points.proofs.vertices.read_extra.Goals as goal
 
-pub returns-then-s-p : goal.returns-then-s-p
-returns-then-s-p c =
+pub returns-then-bytes-p : goal.returns-then-bytes-p
+returns-then-bytes-p c =
     let a = c.args in
     let t = passed_there a.s.now 16 a.at c.in_ok-p.ensures in
     extra_on a.s.now a.at (omega (arith, t.fits)) _ (omega (arith, t.next)) c.read_bd_bits.ensures

@@ -46,8 +46,8 @@ raw_run-requires g c =
     let s = a.s.now in
     let size = coded (held a.has BD 0) in
     let count = bounded a.caps.seed_points BL in
-    let r = ready_on size 0 (takes_none size) s a.at c.in_ok-pixel_size.ensures a.z c.requires in
-    (ready_on count 0 (takes_none count) s _ c.in_ok-n.ensures a.z r, few a.caps.seed_points s _ c.in_ok-n.ensures r.0 r.1.0)
+    let r = ready_on size 0 (takes_none size) s a.at c.in_ok-pixel_size.ensures a.used c.requires in
+    (ready_on count 0 (takes_none count) s _ c.in_ok-n.ensures a.used r, few a.caps.seed_points s _ c.in_ok-n.ensures r.0 r.1.0)
 
 pub returns : goal.returns
 unfolding ending ending_read relay with_seeds pure
@@ -58,7 +58,7 @@ returns g c =
     let pixel = c.in_ok-pixel_size.pixel_size in
     let n = c.in_ok-n.n in
     let p = c.in_ok-n.p in
-    let walk = c.in_ok-y.ensures in
+    let walk = c.in_ok-used.ensures in
     let t = value_read (all (point_entries s)) ((times n point).read s p) (walks_as walk (sym (points_gather s n p))) in
     let m = times_length point s n p t.read in
     gives_ends (record { pixel_size = pixel; seed_points = t.value })
@@ -66,18 +66,18 @@ returns g c =
     ∙ read_on (bounded cap BL) _ s c.in_ok-n.ensures ∙ then_got (times n point) (with_seeds pixel) s t.read)
     (λ i. record { pixel_size = pixel; seed_points = sym m i }) (step_as (all_numbers point_numbers t.value) t.step) walk.ready
 
-pub returns-in_err-y : goal.returns-in_err-y
+pub returns-in_err-used : goal.returns-in_err-used
 unfolding ending ending_read relay with_seeds
-returns-in_err-y g c =
+returns-in_err-used g c =
     let a = c.args in
     let s = a.s.now in
     let cap = a.caps.seed_points in
     let pixel = c.in_ok-pixel_size.pixel_size in
     let n = c.in_ok-n.n in
     let p = c.in_ok-n.p in
-    let walk = c.in_err-y.ensures in
+    let walk = c.in_err-used.ensures in
     let no = value_refused (all (point_entries s)) ((times n point).read s p) (walks_as walk (sym (points_gather s n p))) in
-    gives_leaves _ c.from_residual-in_err-y.ensures
+    gives_leaves _ c.from_residual-in_err-used.ensures
     (gives_refused
     (read_on (coded (held a.has BD 0)) _ s c.in_ok-pixel_size.ensures ∙ listed_row s cap BL point takes_point (with_seeds pixel) _
     ∙ read_on (bounded cap BL) _ s c.in_ok-n.ensures ∙ then_refused (times n point) (with_seeds pixel) s no) (walk_kept walk))

@@ -15,7 +15,7 @@ pub unit_at-requires : goal.unit_at-requires
 unit_at-requires c =
     let a = c.args in
     let pre = c.requires in
-    (pre.0, (pre.1.0, (pre.1.1.0, unit_within a.k a.n (omega arith) pre.1.1.1)))
+    (pre.0, (pre.1.0, unit_within a.k a.n (omega arith) pre.1.1))
 
 pub returns : goal.returns
 returns c =

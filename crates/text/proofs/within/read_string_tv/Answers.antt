@@ -38,7 +38,7 @@ pub wide_units-requires-2 : goal.wide_units-requires-2
 wide_units-requires-2 c =
     let a = c.args in
     let code = length_code a.s.now a.at c.in_ok-n.ensures in
-    (omega arith, code.small)
+    code.small
 
 pub returns : goal.returns
 returns c =

@@ -1,6 +1,5 @@
 -- The length code comes first, and the units behind it.
 use mathlib.Core.Path.{sym, ap, ◌∙◌}
-use native.Mathlib.Omega.{arith}
 use mathlib.Core.Bool.{Bool}
 use Rattle.bitcursor.proofs.Steps.{left}
 use Rattle.text.specs.declared.Source.TheVariants.{Main}
@@ -15,7 +14,7 @@ pub wide_units-requires : goal.wide_units-requires
 wide_units-requires c =
     let a = c.args in
     let code = length_code a.s.now a.at c.in_ok-n.ensures in
-    (omega arith, code.small)
+    code.small
 
 pub returns-then-two_bytes : goal.returns-then-two_bytes
 returns-then-two_bytes c =
@@ -28,7 +27,7 @@ pub narrow_units-requires : goal.narrow_units-requires
 narrow_units-requires c =
     let a = c.args in
     let code = length_code a.s.now a.at c.in_ok-n.ensures in
-    (omega arith, code.small)
+    code.small
 
 pub returns : goal.returns
 returns c =
