@@ -21,20 +21,19 @@ const NO_ITEM: Item = Item {
     behind: 0,
 };
 
-// A word as a count.
-fn word(words: &[u32], at: usize) -> usize
-    requires { at < length words.now }
-    ensures { Reads IsWord words.now at (Some result) a_word }
+// The word at an index, if there is one, as a count.
+fn word(words: &[u32], at: usize) -> Option<usize>
+    ensures { Reads IsWord words.now at result a_word }
 {
-    words[at] as usize
+    let n = words.get(at)?;
+    Some(*n as usize)
 }
 
 // A word that is at most so much.
 fn count(words: &[u32], at: usize, most: usize) -> Option<usize>
-    requires { at < length words.now }
     ensures { Reads (IsCount most) words.now at result (a_count most) }
 {
-    let n = word(words, at);
+    let n = word(words, at)?;
     if most < n {
         return None;
     }
@@ -43,7 +42,6 @@ fn count(words: &[u32], at: usize, most: usize) -> Option<usize>
 
 // A word that is 0 or 1.
 fn switch(words: &[u32], at: usize) -> Option<bool>
-    requires { at < length words.now }
     ensures { Reads IsSwitch words.now at result a_switch }
 {
     let n = count(words, at, 1)?;
@@ -69,9 +67,6 @@ fn turned_item(words: &[u32], at: usize, points: usize, behind: usize) -> Option
     requires { (at ≤ length words.now) × ((points ≤ 2) × (behind ≤ 8)) }
     ensures { Finds Small words.now at result (turned_step points behind) }
 {
-    if at == words.len() {
-        return None;
-    }
     switch(words, at)?;
     let item = Item {
         points,
@@ -91,7 +86,7 @@ fn spline_item(words: &[u32], at: usize) -> Option<(Item, usize)>
     if words.len() - at < 6 {
         return None;
     }
-    let _degree = word(words, at);
+    let _degree = word(words, at)?;
     let rational = switch(words, at + 1)?;
     let _periodic = switch(words, at + 2)?;
     let knots = count(words, at + 3, 100_000)?;
@@ -112,10 +107,7 @@ pub fn edge_item(words: &[u32], at: usize) -> Option<(Item, usize)>
     requires { at ≤ length words.now }
     ensures { Finds Small words.now at result (edge_step document_caps) }
 {
-    if at == words.len() {
-        return None;
-    }
-    match word(words, at) {
+    match word(words, at)? {
         1 => Some((
             Item {
                 points: 2,
@@ -135,9 +127,6 @@ pub fn handles_item(words: &[u32], at: usize) -> Option<(Item, usize)>
     requires { at ≤ length words.now }
     ensures { Finds Small words.now at result (handles_step document_caps) }
 {
-    if at == words.len() {
-        return None;
-    }
     let _handles = count(words, at, 1_024)?;
     Some((NO_ITEM, at + 1))
 }
@@ -147,9 +136,6 @@ pub fn line_item(words: &[u32], at: usize) -> Option<(Item, usize)>
     requires { at ≤ length words.now }
     ensures { Finds Small words.now at result (line_step document_caps) }
 {
-    if at == words.len() {
-        return None;
-    }
     let dashes = count(words, at, 64)?;
     let item = Item {
         before: 1,
@@ -177,10 +163,10 @@ fn polyline_head(words: &[u32], at: usize) -> Option<(Head, usize)>
     if words.len() - at < 4 {
         return None;
     }
-    let bulge = word(words, at);
-    let closed = word(words, at + 1);
-    let vertices = word(words, at + 2);
-    let handles = word(words, at + 3);
+    let bulge = word(words, at)?;
+    let closed = word(words, at + 1)?;
+    let vertices = word(words, at + 2)?;
+    let handles = word(words, at + 3)?;
     if !is_polyline(bulge, closed, vertices, handles) {
         return None;
     }
@@ -197,9 +183,6 @@ fn edges_head(words: &[u32], at: usize) -> Option<(Head, usize)>
     requires { at ≤ length words.now }
     ensures { Finds SmallHead words.now at result (edges_step document_caps) }
 {
-    if at == words.len() {
-        return None;
-    }
     let edges = count(words, at, 100_000)?;
     let head = Head {
         item: NO_ITEM,
@@ -213,10 +196,7 @@ pub fn path_head(words: &[u32], at: usize) -> Option<(Head, usize)>
     requires { at ≤ length words.now }
     ensures { Finds SmallHead words.now at result (head_step document_caps) }
 {
-    if at == words.len() {
-        return None;
-    }
-    if word(words, at) / 2 % 2 == 1 {
+    if word(words, at)? / 2 % 2 == 1 {
         polyline_head(words, at + 1)
     } else {
         edges_head(words, at + 1)
