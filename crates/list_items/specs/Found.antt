@@ -44,3 +44,8 @@ SmallHead h = Small h.item × (h.parts ≤ 100_001)
 -- the words of a polyline behind its flags are those of a hatch
 abbrev pub polyline_words : ℕ → ℕ → ℕ → ℕ → Bool
 polyline_words bulge closed vertices handles = leb bulge 1 && (leb closed 1 && (leb vertices 100_000 && leb handles 1_024))
+
+-- and so are those of a spline behind its degree
+abbrev pub spline_words : ℕ → ℕ → ℕ → ℕ → ℕ → Bool
+spline_words rational periodic knots controls fits =
+    leb rational 1 && (leb periodic 1 && (leb knots 100_000 && (leb controls 100_000 && leb fits 100_000)))
