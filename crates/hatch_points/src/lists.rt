@@ -1,5 +1,6 @@
 // The lent lists: how far they are used, and a store where there is room.
-// A walk takes the lists one by one, and not in a struct that borrows both: it would be no plainer, since most walks lend one of the two.
+// A walk takes the lists one by one. Most lend both, but a struct that borrows both would make each of those also promise that the references in it
+// are the same ones afterwards, without which a caller learns nothing of what was stored.
 ghost use Rattle.std.specs.Prelude.{◌≡◌, ◌+◌, ◌^◌, ◌<◌, set};
 ghost use Rattle.hatch_points.specs.Lists.{with_numbers, with_words};
 

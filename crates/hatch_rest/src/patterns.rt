@@ -4,8 +4,7 @@ ghost use Rattle.bitcursor.specs.Answers.{outcome};
 ghost use Rattle.bitcursor.specs.Doubles.{BD};
 ghost use Rattle.bitcursor.specs.Held.{held};
 ghost use Rattle.hatch_format.specs.Patterns.{pattern, ending, tail};
-ghost use Rattle.hatch_points.specs.Gathered.{repeated};
-ghost use Rattle.hatch_points.specs.Lists.{lists, Ready, Walks};
+ghost use Rattle.hatch_points.specs.Lists.{lists, Ready};
 ghost use Rattle.hatch_rest.specs.Heads.{pattern_head};
 ghost use Rattle.hatch_rest.specs.LineGathers.{line_walk};
 ghost use Rattle.hatch_rest.specs.Tails.{Gives, pattern_of, pattern_entries, ending_of, ending_entries, tail_of, tail_entries};
@@ -14,7 +13,8 @@ use bitcursor::values::Number;
 use bitcursor::{Payload, Reading, within};
 use hatch_format::Caps;
 use hatch_points::lists::Sizes;
-use hatch_points::{counts, lists, runs};
+use hatch_points::turns::Turn;
+use hatch_points::{counts, lists, runs, turns};
 
 // What a hatch has that is not solid, with the count of its lines; zero where it is.
 #[derive(Clone, Copy, Debug, PartialEq, Eq)]
@@ -41,44 +41,26 @@ pub struct Tail {
     pub ending: Ending,
 }
 
-// A pattern line: angle, origin and offset, the count of dashes as a word, and the dashes.
-fn decode_pattern_line<N: Number>(
-    s: &Payload,
-    at: usize,
-    cap: usize,
-    numbers: &mut [N],
-    words: &mut [u32],
-    used: Sizes,
-) -> Reading<Sizes>
-    requires { Ready s.now at used }
-    ensures { Walks N.of_bits s.now ((line_walk cap).read s.now at)
-        (lists numbers.old words.old) used (lists numbers.new words.new) result }
-{
-    let (used, p) = runs::double_run(s, at, 5, numbers, used)?;
-    let (n, p) = counts::read_short_count(s, p, cap)?;
-    lists::put_word(words, used.words, n);
-    runs::double_run(s, p, n as usize, numbers, used.with_words(1))
-}
+// A pattern line, with the cap of its dashes: angle, origin and offset, the count of dashes as a word, and the dashes.
+#[derive(Clone, Copy)]
+struct Line(usize);
 
-fn decode_pattern_lines<N: Number>(
-    s: &Payload,
-    at: usize,
-    n: usize,
-    cap: usize,
-    numbers: &mut [N],
-    words: &mut [u32],
-    used: Sizes,
-) -> Reading<Sizes>
-    requires { Ready s.now at used }
-    ensures { Walks N.of_bits s.now ((repeated n (line_walk cap)).read s.now at)
-        (lists numbers.old words.old) used (lists numbers.new words.new) result }
-{
-    let mut p = at;
-    let mut used = used;
-    for _ in 0..n {
-        (used, p) = decode_pattern_line(s, p, cap, numbers, words, used)?;
+impl Turn for Line {
+    ghost walk = { λ line. line_walk line.0 };
+
+    fn take<N: Number>(
+        self,
+        s: &Payload,
+        at: usize,
+        numbers: &mut [N],
+        words: &mut [u32],
+        used: Sizes,
+    ) -> Reading<Sizes> {
+        let (used, p) = runs::double_run(s, at, 5, numbers, used)?;
+        let (n, p) = counts::read_short_count(s, p, self.0)?;
+        lists::put_word(words, used.words, n);
+        runs::double_run(s, p, n as usize, numbers, used.with_words(1))
     }
-    Ok((used, p))
 }
 
 // The fields of a pattern in front of its lines, with their count.
@@ -113,7 +95,7 @@ fn decode_open_pattern<N: Number>(
         (lists numbers.old words.old) used (lists numbers.new words.new) result }
 {
     let (pattern, p) = read_pattern_head(s, at, caps.pattern_lines)?;
-    let (used, p) = decode_pattern_lines(s, p, pattern.lines, caps.dashes, numbers, words, used)?;
+    let (used, p) = turns::repeat(Line(caps.dashes), s, p, pattern.lines, numbers, words, used)?;
     Ok(((pattern, used), p))
 }
 

@@ -9,9 +9,10 @@ use crate::patterns;
 use crate::patterns::Tail;
 use bitcursor::values::Number;
 use bitcursor::{Payload, Reading, Refusal, refuse, within};
-use hatch_paths::{Rules, paths};
-use hatch_points::counts;
+use hatch_paths::Rules;
+use hatch_paths::paths::Path;
 use hatch_points::lists::Sizes;
+use hatch_points::{counts, turns};
 
 #[derive(Clone, Copy, Debug, PartialEq, Eq)]
 pub struct Rest {
@@ -45,7 +46,7 @@ pub fn decode_rest<N: Number>(
         words: 0,
         derived: false,
     };
-    let (used, p) = paths::decode_paths(s, p, count, rules, numbers, words, none)?;
+    let (used, p) = turns::repeat(Path(rules), s, p, count, numbers, words, none)?;
     let has = used.derived;
     let caps = rules.caps;
     let ((tail, used), p) = patterns::decode_tail(s, p, solid, has, caps, numbers, words, used)?;

@@ -15,7 +15,7 @@ returns g c =
     let s = a.s.now in
     let n = c.in_ok-n.n in
     walks_as
-    (word_then (repeated n (edge_walk a.rules.caps (has_fits a.rules.version))) n c.put_word.ensures (rw (← c.with_words.ensures) c.decode_edges.ensures))
+    (word_then (repeated n (edge_walk a.rules.caps (has_fits a.rules.version))) n c.put_word.ensures (rw (← c.with_words.ensures) c.repeat.ensures))
     (sym (then_read (bounded a.rules.caps.edges BL) _ s c.in_ok-n.ensures))
 
 pub returns-in_err-n : goal.returns-in_err-n
