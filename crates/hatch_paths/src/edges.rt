@@ -5,7 +5,6 @@ ghost use Rattle.std.specs.Prelude.{◌≡◌, [], ◌∷◌, ◌+◌, ◌*◌, 
 ghost use Rattle.std.proofs.lemmas.List.Edits.{sets};
 ghost use Rattle.loads.specs.Bits.{bit};
 ghost use Rattle.bitcursor.specs.Answers.{outcome};
-ghost use Rattle.hatch_points.specs.Gathered.{repeated};
 ghost use Rattle.hatch_paths.specs.PathWalks.{bit_walk, curve_walk, fitted_raw, fits_walk, spline_lists_walk, spline_walk, edge_of_walk, edge_walk};
 ghost use Rattle.hatch_points.specs.Lists.{Ready, WordWalks};
 ghost use Rattle.hatch_points.specs.Lent.{LentWalks};
@@ -17,6 +16,7 @@ use bitcursor::values::Number;
 use bitcursor::{Payload, Reading, Refusal, refuse, within};
 use hatch_format::Caps;
 use hatch_points::lists::{Lent, Sizes};
+use hatch_points::turns::Turn;
 use hatch_points::{counts, lists, runs, vertices};
 use text::version::Version;
 
@@ -191,36 +191,21 @@ fn decode_edge_of<N: Number>(
 }
 
 // An edge: its kind, and what the kind has.
-fn decode_edge<N: Number>(
-    s: &Payload,
-    at: usize,
-    rules: Rules,
-    lent: &mut Lent<N>,
-    used: Sizes,
-) -> Reading<Sizes>
-    requires { Ready s.now at used }
-    ensures { LentWalks N.of_bits s.now ((edge_walk rules.caps (has_fits rules.version)).read s.now at) lent.old used lent.new result }
-{
-    let (kind, p) = within::read_low(s, at, 1)?;
-    lists::put_word(lent.words, used.words, kind);
-    decode_edge_of(s, p, kind, rules, lent, used.with_words(1))
-}
+#[derive(Clone, Copy)]
+pub struct Edge(pub Rules);
 
-pub fn decode_edges<N: Number>(
-    s: &Payload,
-    at: usize,
-    n: usize,
-    rules: Rules,
-    lent: &mut Lent<N>,
-    used: Sizes,
-) -> Reading<Sizes>
-    requires { Ready s.now at used }
-    ensures { LentWalks N.of_bits s.now ((repeated n (edge_walk rules.caps (has_fits rules.version))).read s.now at) lent.old used lent.new result }
-{
-    let mut p = at;
-    let mut used = used;
-    for _ in 0..n {
-        (used, p) = decode_edge(s, p, rules, lent, used)?;
+impl Turn for Edge {
+    ghost walk = { λ e. edge_walk e.0.caps (has_fits e.0.version) };
+
+    fn take<N: Number>(
+        self,
+        s: &Payload,
+        at: usize,
+        lent: &mut Lent<N>,
+        used: Sizes,
+    ) -> Reading<Sizes> {
+        let (kind, p) = within::read_low(s, at, 1)?;
+        lists::put_word(lent.words, used.words, kind);
+        decode_edge_of(s, p, kind, self.0, lent, used.with_words(1))
     }
-    Ok((used, p))
 }

@@ -4,17 +4,18 @@
 ghost use Rattle.std.specs.Prelude.{◌≡◌, [], ◌∷◌, ◌+◌, ◌/◌, ◌^◌, ◌≤◌, ◌<◌};
 ghost use Rattle.std.proofs.lemmas.List.Edits.{sets};
 ghost use Rattle.loads.specs.Bits.{bit, odd};
-ghost use Rattle.hatch_points.specs.Gathered.{repeated};
 ghost use Rattle.hatch_paths.specs.PathWalks.{polyline_walk, edges_walk, segments_walk, handles_walk, after_flags_walk, path_walk};
 ghost use Rattle.hatch_points.specs.Lists.{Ready, WordWalks};
 ghost use Rattle.hatch_points.specs.Lent.{LentWalks};
 ghost use Rattle.hatch_paths.specs.Fits.{has_fits};
 
-use crate::{Rules, edges};
+use crate::Rules;
+use crate::edges::Edge;
 use bitcursor::values::Number;
 use bitcursor::{Payload, Reading, within};
 use hatch_points::lists::{Lent, Sizes};
-use hatch_points::{counts, lists, vertices};
+use hatch_points::turns::Turn;
+use hatch_points::{counts, lists, turns, vertices};
 
 fn put_polyline_head(words: &mut [u32], at: usize, bulge: bool, closed: bool, n: u64)
     requires { (at + 3 < 2 ^ 64) × (n < 2 ^ 32) }
@@ -55,7 +56,7 @@ fn decode_edge_path<N: Number>(
 {
     let (n, p) = counts::read_count(s, at, rules.caps.edges)?;
     lists::put_word(lent.words, used.words, n);
-    edges::decode_edges(s, p, n as usize, rules, lent, used.with_words(1))
+    turns::repeat(Edge(rules), s, p, n as usize, lent, used.with_words(1))
 }
 
 #[tactic(auto, unfolding(crate::specs::PathWalks::segments_walk))]
@@ -118,40 +119,25 @@ fn decode_after_flags<N: Number>(
 }
 
 // A path: its flags, a polyline where they say so and else edges, and its handle count.
-fn decode_path<N: Number>(
-    s: &Payload,
-    at: usize,
-    rules: Rules,
-    lent: &mut Lent<N>,
-    used: Sizes,
-) -> Reading<Sizes>
-    requires { Ready s.now at used }
-    ensures { LentWalks N.of_bits s.now ((path_walk rules.caps (has_fits rules.version)).read s.now at) lent.old used lent.new result }
-{
-    let (flags, p) = within::read_bl_u(s, at)?;
-    lists::put_word(lent.words, used.words, flags);
-    let used = Sizes {
-        derived: used.derived | has_flag(flags, 4),
-        ..used.with_words(1)
-    };
-    decode_after_flags(s, p, has_flag(flags, 2), rules, lent, used)
-}
+#[derive(Clone, Copy)]
+pub struct Path(pub Rules);
 
-pub fn decode_paths<N: Number>(
-    s: &Payload,
-    at: usize,
-    n: usize,
-    rules: Rules,
-    lent: &mut Lent<N>,
-    used: Sizes,
-) -> Reading<Sizes>
-    requires { Ready s.now at used }
-    ensures { LentWalks N.of_bits s.now ((repeated n (path_walk rules.caps (has_fits rules.version))).read s.now at) lent.old used lent.new result }
-{
-    let mut p = at;
-    let mut used = used;
-    for _ in 0..n {
-        (used, p) = decode_path(s, p, rules, lent, used)?;
+impl Turn for Path {
+    ghost walk = { λ path. path_walk path.0.caps (has_fits path.0.version) };
+
+    fn take<N: Number>(
+        self,
+        s: &Payload,
+        at: usize,
+        lent: &mut Lent<N>,
+        used: Sizes,
+    ) -> Reading<Sizes> {
+        let (flags, p) = within::read_bl_u(s, at)?;
+        lists::put_word(lent.words, used.words, flags);
+        let used = Sizes {
+            derived: used.derived | has_flag(flags, 4),
+            ..used.with_words(1)
+        };
+        decode_after_flags(s, p, has_flag(flags, 2), self.0, lent, used)
     }
-    Ok((used, p))
 }

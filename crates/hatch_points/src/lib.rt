@@ -6,4 +6,5 @@
 pub mod counts;
 pub mod lists;
 pub mod runs;
+pub mod turns;
 pub mod vertices;

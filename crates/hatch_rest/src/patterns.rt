@@ -4,9 +4,7 @@ ghost use Rattle.bitcursor.specs.Answers.{outcome};
 ghost use Rattle.bitcursor.specs.Doubles.{BD};
 ghost use Rattle.bitcursor.specs.Held.{held};
 ghost use Rattle.hatch_format.specs.Patterns.{pattern, ending, tail};
-ghost use Rattle.hatch_points.specs.Gathered.{repeated};
 ghost use Rattle.hatch_points.specs.Lists.{lists, Ready};
-ghost use Rattle.hatch_points.specs.Lent.{LentWalks};
 ghost use Rattle.hatch_rest.specs.Heads.{pattern_head};
 ghost use Rattle.hatch_rest.specs.LineGathers.{line_walk};
 ghost use Rattle.hatch_rest.specs.Tails.{Gives, LentGives, pattern_of, pattern_entries, ending_of, ending_entries, tail_of, tail_entries};
@@ -15,7 +13,8 @@ use bitcursor::values::Number;
 use bitcursor::{Payload, Reading, within};
 use hatch_format::Caps;
 use hatch_points::lists::{Lent, Sizes};
-use hatch_points::{counts, lists, runs};
+use hatch_points::turns::Turn;
+use hatch_points::{counts, lists, runs, turns};
 
 // What a hatch has that is not solid, with the count of its lines; zero where it is.
 #[derive(Clone, Copy, Debug, PartialEq, Eq)]
@@ -42,40 +41,25 @@ pub struct Tail {
     pub ending: Ending,
 }
 
-// A pattern line: angle, origin and offset, the count of dashes as a word, and the dashes.
-fn decode_pattern_line<N: Number>(
-    s: &Payload,
-    at: usize,
-    cap: usize,
-    lent: &mut Lent<N>,
-    used: Sizes,
-) -> Reading<Sizes>
-    requires { Ready s.now at used }
-    ensures { LentWalks N.of_bits s.now ((line_walk cap).read s.now at) lent.old used lent.new result }
-{
-    let (used, p) = runs::double_run(s, at, 5, lent.numbers, used)?;
-    let (n, p) = counts::read_short_count(s, p, cap)?;
-    lists::put_word(lent.words, used.words, n);
-    runs::double_run(s, p, n as usize, lent.numbers, used.with_words(1))
-}
+// A pattern line, with the cap of its dashes: angle, origin and offset, the count of dashes as a word, and the dashes.
+#[derive(Clone, Copy)]
+struct Line(usize);
 
-fn decode_pattern_lines<N: Number>(
-    s: &Payload,
-    at: usize,
-    n: usize,
-    cap: usize,
-    lent: &mut Lent<N>,
-    used: Sizes,
-) -> Reading<Sizes>
-    requires { Ready s.now at used }
-    ensures { LentWalks N.of_bits s.now ((repeated n (line_walk cap)).read s.now at) lent.old used lent.new result }
-{
-    let mut p = at;
-    let mut used = used;
-    for _ in 0..n {
-        (used, p) = decode_pattern_line(s, p, cap, lent, used)?;
+impl Turn for Line {
+    ghost walk = { λ line. line_walk line.0 };
+
+    fn take<N: Number>(
+        self,
+        s: &Payload,
+        at: usize,
+        lent: &mut Lent<N>,
+        used: Sizes,
+    ) -> Reading<Sizes> {
+        let (used, p) = runs::double_run(s, at, 5, lent.numbers, used)?;
+        let (n, p) = counts::read_short_count(s, p, self.0)?;
+        lists::put_word(lent.words, used.words, n);
+        runs::double_run(s, p, n as usize, lent.numbers, used.with_words(1))
     }
-    Ok((used, p))
 }
 
 // The fields of a pattern in front of its lines, with their count.
@@ -108,7 +92,7 @@ fn decode_open_pattern<N: Number>(
     ensures { LentGives N.of_bits s.now pattern_of pattern_entries ((pattern caps false).read s.now at) lent.old used lent.new result }
 {
     let (pattern, p) = read_pattern_head(s, at, caps.pattern_lines)?;
-    let (used, p) = decode_pattern_lines(s, p, pattern.lines, caps.dashes, lent, used)?;
+    let (used, p) = turns::repeat(Line(caps.dashes), s, p, pattern.lines, lent, used)?;
     Ok(((pattern, used), p))
 }
 

@@ -8,9 +8,10 @@ use crate::patterns;
 use crate::patterns::Tail;
 use bitcursor::values::Number;
 use bitcursor::{Payload, Reading, Refusal, refuse, within};
-use hatch_paths::{Rules, paths};
-use hatch_points::counts;
+use hatch_paths::Rules;
+use hatch_paths::paths::Path;
 use hatch_points::lists::{Lent, Sizes};
+use hatch_points::{counts, turns};
 
 #[derive(Clone, Copy, Debug, PartialEq, Eq)]
 pub struct Rest {
@@ -42,7 +43,7 @@ pub fn decode_rest<N: Number>(
         words: 0,
         derived: false,
     };
-    let (used, p) = paths::decode_paths(s, p, count, rules, lent, none)?;
+    let (used, p) = turns::repeat(Path(rules), s, p, count, lent, none)?;
     let has = used.derived;
     let caps = rules.caps;
     let ((tail, used), p) = patterns::decode_tail(s, p, solid, has, caps, lent, used)?;

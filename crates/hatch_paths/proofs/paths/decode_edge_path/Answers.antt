@@ -15,9 +15,9 @@ returns g c =
     let s = a.s.now in
     let n = c.in_ok-n.n in
     record {
-      same = c.decode_edges.ensures.same;
+      same = c.repeat.ensures.same;
       walk = walks_as
-          (word_then (repeated n (edge_walk a.rules.caps (has_fits a.rules.version))) n c.put_word.ensures (rw (← c.with_words.ensures) c.decode_edges.ensures.walk))
+          (word_then (repeated n (edge_walk a.rules.caps (has_fits a.rules.version))) n c.put_word.ensures (rw (← c.with_words.ensures) c.repeat.ensures.walk))
           (sym (then_read (bounded a.rules.caps.edges BL) _ s c.in_ok-n.ensures));
     }
 

@@ -12,8 +12,8 @@ use Rattle.hatch_rest.specs.LineGathers.{line_entries, line_walk, line_gathers}
 use Rattle.hatch_rest.proofs.Given.{read_on, read_not, gives_refused, gives_ends, gives_leaves, value_read, value_refused}
 use Rattle.hatch_rest.proofs.patterns.decode_open_pattern.Goals as goal
 
-pub decode_pattern_lines-requires : goal.decode_pattern_lines-requires
-decode_pattern_lines-requires g c =
+pub repeat-requires : goal.repeat-requires
+repeat-requires g c =
     let a = c.args in
     let head = pattern_head a.caps.pattern_lines in
     ready_on head 0 (takes_none head) a.s.now a.at c.in_ok-pattern.ensures a.used c.requires

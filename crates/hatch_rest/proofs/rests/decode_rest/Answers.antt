@@ -68,8 +68,8 @@ returns-then-size-at g c =
     let past = B_past s c.args.at (omega (arith, c.size.ensures.all)) in
     record { same = (refl, refl); gives = rw c.refuse.ensures (gives_refused (then_refused (coded B) _ s past) kept_same) }
 
-pub decode_paths-requires : goal.decode_paths-requires
-decode_paths-requires g c =
+pub repeat-requires : goal.repeat-requires
+repeat-requires g c =
     let a = c.args in
     let s = a.s.now in
     let flag = takes_none (coded B) in

@@ -7,7 +7,7 @@ use Rattle.bitcursor.specs.Fields.{coded}
 use Rattle.hatch_paths.specs.PathWalks.{after_flags_walk, path_walk}
 use Rattle.hatch_points.proofs.Laws.{then_read, then_none, walks_as, refuses, leaves, flags_then, walks_by, kept_same}
 use Rattle.hatch_paths.specs.Fits.{has_fits}
-use Rattle.hatch_paths.proofs.paths.decode_path.Goals as goal
+use Rattle.hatch_paths.proofs.paths.PathTurn.take.Goals as goal
 
 pub returns : goal.returns
 unfolding path_walk
@@ -19,8 +19,8 @@ returns g c =
     record {
       same = c.decode_after_flags.ensures.same;
       walk = walks_as
-          (flags_then (after_flags_walk a.rules.caps (has_fits a.rules.version) (odd (f / 2))) f c.put_word.ensures
-          (walks_by (after_flags_walk a.rules.caps (has_fits a.rules.version)) a.used.derived c.has_flag-2.ensures c.has_flag.ensures rest))
+          (flags_then (after_flags_walk a.self.0.caps (has_fits a.self.0.version) (odd (f / 2))) f c.put_word.ensures
+          (walks_by (after_flags_walk a.self.0.caps (has_fits a.self.0.version)) a.used.derived c.has_flag-2.ensures c.has_flag.ensures rest))
           (sym (then_read (coded BL) _ s c.in_ok-flags.ensures));
     }
 

@@ -2,7 +2,7 @@
 use mathlib.Core.Path.{refl, ◌∙◌}
 use Rattle.hatch_points.proofs.Laws.{leaves}
 use Rattle.hatch_points.proofs.Loops.{start, walk_next, walk_refuses, loop_ends}
-use Rattle.hatch_rest.proofs.patterns.decode_pattern_lines.Goals as goal
+use Rattle.hatch_points.proofs.turns.repeat.Goals as goal
 
 pub loop-init : goal.loop-init
 loop-init g c = (start c.requires, (refl, refl))

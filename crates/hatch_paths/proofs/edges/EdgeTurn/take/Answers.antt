@@ -6,7 +6,7 @@ use Rattle.bitcursor.specs.Fields.{coded}
 use Rattle.hatch_paths.specs.PathWalks.{edge_of_walk, edge_walk}
 use Rattle.hatch_points.proofs.Laws.{then_read, then_none, walks_as, refuses, leaves, word_then, kept_same}
 use Rattle.hatch_paths.specs.Fits.{has_fits}
-use Rattle.hatch_paths.proofs.edges.decode_edge.Goals as goal
+use Rattle.hatch_paths.proofs.edges.EdgeTurn.take.Goals as goal
 
 pub returns : goal.returns
 unfolding edge_walk RC
@@ -17,7 +17,7 @@ returns g c =
     record {
       same = c.decode_edge_of.ensures.same;
       walk = walks_as
-          (word_then (edge_of_walk a.rules.caps (has_fits a.rules.version) k) k c.put_word.ensures (rw (← c.with_words.ensures) c.decode_edge_of.ensures.walk))
+          (word_then (edge_of_walk a.self.0.caps (has_fits a.self.0.version) k) k c.put_word.ensures (rw (← c.with_words.ensures) c.decode_edge_of.ensures.walk))
           (sym (then_read (coded (low_first 1)) _ s c.in_ok-kind.ensures));
     }
 

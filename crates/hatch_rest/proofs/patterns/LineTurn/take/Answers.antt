@@ -13,16 +13,16 @@ use Rattle.hatch_points.proofs.Laws.{kept_step, kept_numbers}
 use Rattle.hatch_points.proofs.Words.{double_words, word_step}
 use Rattle.hatch_rest.specs.LineGathers.{line_walk}
 use Rattle.hatch_rest.proofs.Given.{read_on, read_not}
-use Rattle.hatch_rest.proofs.patterns.decode_pattern_line.Goals as goal
+use Rattle.hatch_rest.proofs.patterns.LineTurn.take.Goals as goal
 
 pub put_word-requires : goal.put_word-requires
 put_word-requires g c =
-    let cap = c.args.cap in
+    let cap = c.args.self.0 in
     let b = bounded_below cap BS BS_below c.args.s.now _ (sym c.in_ok-n.ensures) in omega (arith, b)
 
 pub double_run-requires-2 : goal.double_run-requires-2
 double_run-requires-2 g c =
-    let cap = c.args.cap in
+    let cap = c.args.self.0 in
     rw c.with_words.ensures
     (ready_words (bounded cap BS) 2 (takes_bounded cap BS 2 takes_BS) c.args.s.now _ c.in_ok-n.ensures 1 (omega arith) c.in_ok-used.used c.in_ok-used.ensures.ready)
 
@@ -38,7 +38,7 @@ returns g c =
       walk = walks_as
           (behind (double_run n) (λ e. plus t.entries (plus (word n) e)) (t.step ⊕ word_step _ n c.put_word.ensures) (plus_again t.entries (word n))
           (double_words n _ _ (rw (← c.with_words.ensures) c.double_run-2.ensures)))
-          (sym (then_got (double_run 5) _ s t.read ∙ read_on (bounded a.cap BS) _ s c.in_ok-n.ensures));
+          (sym (then_got (double_run 5) _ s t.read ∙ read_on (bounded a.self.0 BS) _ s c.in_ok-n.ensures));
     }
 
 pub returns-in_err-n : goal.returns-in_err-n
@@ -50,7 +50,7 @@ returns-in_err-n g c =
     record {
       same = (refl, refl);
       walk = leaves _ c.from_residual-in_err-n.ensures
-          (refuses (then_got (double_run 5) _ s t.read ∙ read_not (bounded a.cap BS) _ s c.in_err-n.ensures) (kept_step t.step));
+          (refuses (then_got (double_run 5) _ s t.read ∙ read_not (bounded a.self.0 BS) _ s c.in_err-n.ensures) (kept_step t.step));
     }
 
 pub returns-in_err-used : goal.returns-in_err-used
