@@ -6,13 +6,14 @@ ghost use Rattle.std.proofs.lemmas.List.Edits.{sets};
 ghost use Rattle.loads.specs.Bits.{bit, odd};
 ghost use Rattle.hatch_points.specs.Gathered.{repeated};
 ghost use Rattle.hatch_paths.specs.PathWalks.{polyline_walk, edges_walk, segments_walk, handles_walk, after_flags_walk, path_walk};
-ghost use Rattle.hatch_points.specs.Lists.{lists, Ready, Walks, WordWalks};
+ghost use Rattle.hatch_points.specs.Lists.{Ready, WordWalks};
+ghost use Rattle.hatch_points.specs.Lent.{LentWalks};
 ghost use Rattle.hatch_paths.specs.Fits.{has_fits};
 
 use crate::{Rules, edges};
 use bitcursor::values::Number;
 use bitcursor::{Payload, Reading, within};
-use hatch_points::lists::Sizes;
+use hatch_points::lists::{Lent, Sizes};
 use hatch_points::{counts, lists, vertices};
 
 fn put_polyline_head(words: &mut [u32], at: usize, bulge: bool, closed: bool, n: u64)
@@ -29,36 +30,32 @@ fn decode_polyline_path<N: Number>(
     s: &Payload,
     at: usize,
     rules: Rules,
-    numbers: &mut [N],
-    words: &mut [u32],
+    lent: &mut Lent<N>,
     used: Sizes,
 ) -> Reading<Sizes>
     requires { Ready s.now at used }
-    ensures { Walks N.of_bits s.now ((polyline_walk rules.caps).read s.now at)
-        (lists numbers.old words.old) used (lists numbers.new words.new) result }
+    ensures { LentWalks N.of_bits s.now ((polyline_walk rules.caps).read s.now at) lent.old used lent.new result }
 {
     let (bulge, p) = within::read_flag(s, at)?;
     let (closed, q) = within::read_flag(s, p)?;
     let (n, r) = counts::read_count(s, q, rules.caps.vertices)?;
-    put_polyline_head(words, used.words, bulge, closed, n);
-    vertices::decode_points(s, r, n as usize, bulge, numbers, used.with_words(3))
+    put_polyline_head(lent.words, used.words, bulge, closed, n);
+    vertices::decode_points(s, r, n as usize, bulge, lent.numbers, used.with_words(3))
 }
 
 fn decode_edge_path<N: Number>(
     s: &Payload,
     at: usize,
     rules: Rules,
-    numbers: &mut [N],
-    words: &mut [u32],
+    lent: &mut Lent<N>,
     used: Sizes,
 ) -> Reading<Sizes>
     requires { Ready s.now at used }
-    ensures { Walks N.of_bits s.now ((edges_walk rules.caps (has_fits rules.version)).read s.now at)
-        (lists numbers.old words.old) used (lists numbers.new words.new) result }
+    ensures { LentWalks N.of_bits s.now ((edges_walk rules.caps (has_fits rules.version)).read s.now at) lent.old used lent.new result }
 {
     let (n, p) = counts::read_count(s, at, rules.caps.edges)?;
-    lists::put_word(words, used.words, n);
-    edges::decode_edges(s, p, n as usize, rules, numbers, words, used.with_words(1))
+    lists::put_word(lent.words, used.words, n);
+    edges::decode_edges(s, p, n as usize, rules, lent, used.with_words(1))
 }
 
 #[tactic(auto, unfolding(crate::specs::PathWalks::segments_walk))]
@@ -67,18 +64,16 @@ fn decode_segments<N: Number>(
     at: usize,
     polyline: bool,
     rules: Rules,
-    numbers: &mut [N],
-    words: &mut [u32],
+    lent: &mut Lent<N>,
     used: Sizes,
 ) -> Reading<Sizes>
     requires { Ready s.now at used }
-    ensures { Walks N.of_bits s.now ((segments_walk rules.caps (has_fits rules.version) polyline).read s.now at)
-        (lists numbers.old words.old) used (lists numbers.new words.new) result }
+    ensures { LentWalks N.of_bits s.now ((segments_walk rules.caps (has_fits rules.version) polyline).read s.now at) lent.old used lent.new result }
 {
     if polyline {
-        return decode_polyline_path(s, at, rules, numbers, words, used);
+        return decode_polyline_path(s, at, rules, lent, used);
     }
-    decode_edge_path(s, at, rules, numbers, words, used)
+    decode_edge_path(s, at, rules, lent, used)
 }
 
 // A value in the flags, 2 or 4, as a test.
@@ -90,6 +85,7 @@ fn has_flag(flags: u64, value: u64) -> bool
 }
 
 // The count of boundary handles, behind a path's segments: the handles are not here.
+// Lent the words alone: all of Lent would ask its caller for numbers that it never touches.
 fn put_handle_count(
     s: &Payload,
     at: usize,
@@ -111,16 +107,14 @@ fn decode_after_flags<N: Number>(
     at: usize,
     polyline: bool,
     rules: Rules,
-    numbers: &mut [N],
-    words: &mut [u32],
+    lent: &mut Lent<N>,
     used: Sizes,
 ) -> Reading<Sizes>
     requires { Ready s.now at used }
-    ensures { Walks N.of_bits s.now ((after_flags_walk rules.caps (has_fits rules.version) polyline).read s.now at)
-        (lists numbers.old words.old) used (lists numbers.new words.new) result }
+    ensures { LentWalks N.of_bits s.now ((after_flags_walk rules.caps (has_fits rules.version) polyline).read s.now at) lent.old used lent.new result }
 {
-    let (used, p) = decode_segments(s, at, polyline, rules, numbers, words, used)?;
-    put_handle_count(s, p, rules, words, used)
+    let (used, p) = decode_segments(s, at, polyline, rules, lent, used)?;
+    put_handle_count(s, p, rules, lent.words, used)
 }
 
 // A path: its flags, a polyline where they say so and else edges, and its handle count.
@@ -128,21 +122,19 @@ fn decode_path<N: Number>(
     s: &Payload,
     at: usize,
     rules: Rules,
-    numbers: &mut [N],
-    words: &mut [u32],
+    lent: &mut Lent<N>,
     used: Sizes,
 ) -> Reading<Sizes>
     requires { Ready s.now at used }
-    ensures { Walks N.of_bits s.now ((path_walk rules.caps (has_fits rules.version)).read s.now at)
-        (lists numbers.old words.old) used (lists numbers.new words.new) result }
+    ensures { LentWalks N.of_bits s.now ((path_walk rules.caps (has_fits rules.version)).read s.now at) lent.old used lent.new result }
 {
     let (flags, p) = within::read_bl_u(s, at)?;
-    lists::put_word(words, used.words, flags);
+    lists::put_word(lent.words, used.words, flags);
     let used = Sizes {
         derived: used.derived | has_flag(flags, 4),
         ..used.with_words(1)
     };
-    decode_after_flags(s, p, has_flag(flags, 2), rules, numbers, words, used)
+    decode_after_flags(s, p, has_flag(flags, 2), rules, lent, used)
 }
 
 pub fn decode_paths<N: Number>(
@@ -150,18 +142,16 @@ pub fn decode_paths<N: Number>(
     at: usize,
     n: usize,
     rules: Rules,
-    numbers: &mut [N],
-    words: &mut [u32],
+    lent: &mut Lent<N>,
     used: Sizes,
 ) -> Reading<Sizes>
     requires { Ready s.now at used }
-    ensures { Walks N.of_bits s.now ((repeated n (path_walk rules.caps (has_fits rules.version))).read s.now at)
-        (lists numbers.old words.old) used (lists numbers.new words.new) result }
+    ensures { LentWalks N.of_bits s.now ((repeated n (path_walk rules.caps (has_fits rules.version))).read s.now at) lent.old used lent.new result }
 {
     let mut p = at;
     let mut used = used;
     for _ in 0..n {
-        (used, p) = decode_path(s, p, rules, numbers, words, used)?;
+        (used, p) = decode_path(s, p, rules, lent, used)?;
     }
     Ok((used, p))
 }
