@@ -8,7 +8,7 @@ ghost use Rattle.dwg_hatch.specs.HatchCalls.{Decodes, DecodesBits};
 
 use boundary::bodies::{BodyAnswer, BodyBitsAnswer, LengthsAnswer};
 use boundary::hatches;
-use hatch::calls;
+use hatch::{Strings, calls};
 
 // The hatch body at a bit of the main payload, texts inline, doubles as f64.
 #[unsafe(no_mangle)]
@@ -57,16 +57,12 @@ pub extern "C" fn dwg_hatch_decode_with_strings(
     ensures { Decodes (call_of release main.now start (lent string.now string_start string_end) (length words.old)
         (length numbers.old)) result numbers.old numbers.new words.old words.new }
 {
-    let read = calls::read_with_strings(
-        main,
-        start,
-        string,
-        string_start,
-        string_end,
-        release,
-        numbers,
-        words,
-    );
+    let strings = Strings {
+        bytes: string,
+        start: string_start,
+        end: string_end,
+    };
+    let read = calls::read_with_strings(main, start, Some(strings), release, numbers, words);
     hatches::answer(main, &read)
 }
 
@@ -85,16 +81,12 @@ pub extern "C" fn dwg_hatch_decode_with_strings_bits(
     ensures { DecodesBits (call_of release main.now start (lent string.now string_start string_end)
         (length words.old) (length bits.old)) result bits.old bits.new words.old words.new }
 {
-    let read = calls::read_with_strings(
-        main,
-        start,
-        string,
-        string_start,
-        string_end,
-        release,
-        bits,
-        words,
-    );
+    let strings = Strings {
+        bytes: string,
+        start: string_start,
+        end: string_end,
+    };
+    let read = calls::read_with_strings(main, start, Some(strings), release, bits, words);
     hatches::answer_bits(main, &read)
 }
 
@@ -119,5 +111,10 @@ pub extern "C" fn dwg_hatch_measure_with_strings(
     ensures { result ≡ lengths_answer (as_lengths (call_of release main.now start
         (lent string.now string_start string_end) most most)) }
 {
-    hatch::measure_with_strings(main, start, string, string_start, string_end, release).into()
+    let strings = Strings {
+        bytes: string,
+        start: string_start,
+        end: string_end,
+    };
+    hatch::measure_with_strings(main, start, Some(strings), release).into()
 }

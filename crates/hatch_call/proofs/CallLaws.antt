@@ -16,7 +16,7 @@ use Rattle.text.specs.declared.version.Version.{Version}
 use Rattle.text.specs.Releases.{known_at, version_of}
 use Rattle.hatch_format.specs.declared.Caps.{Caps}
 use Rattle.hatch_format.specs.HandleRule.{Handles}
-use Rattle.hatch_format.specs.Values.{Rest as RestValue, Body}
+use Rattle.hatch_format.specs.Values.{Gradient, Rest as RestValue, Body}
 use Rattle.hatch_format.specs.Entries.{words, numbers}
 use Rattle.hatch_format.specs.Patterns.{rest}
 use Rattle.hatch_format.specs.Hatch.{hatch}
@@ -28,7 +28,7 @@ use Rattle.hatch_points.proofs.Laws.{stays}
 use Rattle.hatch_rest.specs.Rests.{no_sizes, rest_entries}
 use Rattle.hatch_front.specs.declared.Front.{Front as CodeFront}
 use Rattle.hatch_front.specs.Fronts.{Front, front, whole, hatch_front}
-use Rattle.hatch_front.specs.Answers.{ColorsAt, front_of, FrontIs}
+use Rattle.hatch_front.specs.Answers.{FillAt, num_colors, gradient_if, gradient_of, front_of, FrontIs}
 use Rattle.hatch_body.specs.declared.Parts.{Parts}
 use Rattle.hatch_body.specs.Parts.{placed, long_enough, parts_if, rest_read, laid_if, rest_lists}
 use Rattle.hatch_call.specs.Calls.{CallIs}
@@ -36,7 +36,7 @@ use Rattle.hatch_body.proofs.BodyLaws.{used_words, used_numbers, rest_range}
 
 -- ---- from the front's answer, what was read
 pub front_got : (xs : List ℕ) (o : Out Places Front) {f : CodeFront} {p : Places} → FrontIs xs o (Ok (f, p))
-    → (a : Front) × (at : ℕ) × (o ≡ got a p) × (f ≡ front_of at a) × ColorsAt xs at a.gradient.colors
+    → (a : Front) × (at : ℕ) × (o ≡ got a p) × (f ≡ front_of at a) × FillAt xs at a.gradient
 front_got xs (got a q) {f} {p} e =
     let i : got f p ≡ got (front_of e.0 a) q = e.1 in
     let ep : q ≡ p = cc in
@@ -60,7 +60,7 @@ front_refused xs (refused j q) {e} h =
 
 -- ---- the rest behind the front
 module _ {N : Type 0} (of : ℕ → N) (caps : Caps) (handles : Handles) (v : Version) (γ : Payloads) (f : Front) (at : ℕ) (q : Places) (nw nn : ℕ)
-    (within : length γ.main ≤ limit) (colors : ColorsAt γ.main at f.gradient.colors) where
+    (within : length γ.main ≤ limit) (fill : FillAt γ.main at f.gradient) where
   abbrev body : RestValue → Body
   body a = record { gradient = f.gradient; plane = f.plane; name = f.name; rest = a }
 
@@ -70,10 +70,17 @@ module _ {N : Type 0} (of : ℕ → N) (caps : Caps) (handles : Handles) (v : Ve
   abbrev behind : Out ℕ RestValue → Out Places Body
   behind o = room_for nw nn (and_then (lifted main q o) (λ b r. got (body b) r))
 
+  few : (g : Gradient) → length g.colors ≤ 16 → num_colors (gradient_of at g) ≤ 16
+  few g h = go g.present
+    where
+      go : (b : Bool) → num_colors (gradient_if b at g) ≤ 16
+      go true = h
+      go false = omega arith
+
   answered : (l : Lists N) (a : RestValue) (t : ℕ) → (a.tail.pattern_style < 2 ^ 16) × (a.tail.pattern_type < 2 ^ 16) → (b : Bool)
       → CallIs of γ.main (elim b [ true ↦ got (body a) (moved_in main q t) | false ↦ refused ListTooShort (moved_in main q t) ]) l (laid_if of b l a)
       (parts_if b (front_of at f) a (placed q t))
-  answered l a t small true = record { body = (at, refl, colors); readable = (within, (colors.few, small)); lists = refl }
+  answered l a t small true = record { body = (at, refl, fill); readable = (within, (few f.gradient fill.colors.few, small)); lists = refl }
   answered l a t small false = record { body = refl; readable = tt; lists = refl }
 
   pub behind_is : (l : Lists N) (p : ℕ) (o : Out ℕ RestValue) → (rest caps handles v).read γ.main p ≡ o

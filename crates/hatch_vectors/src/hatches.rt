@@ -3,6 +3,7 @@
 use crate::entries::LENT;
 use crate::{entries, fields, seeds};
 use bitcursor::{Places, Refused};
+use hatch::Strings;
 use hatch_format::HatchBits;
 use stored::answers::Answer;
 use stored::kinds::Kind;
@@ -14,20 +15,14 @@ fn call(
     words: &mut [u32],
     numbers: &mut [u64],
 ) -> Result<HatchBits, Refused<Places>> {
+    let reader = Strings {
+        bytes: strings,
+        start: record.more as usize,
+        end: record.string_end,
+    };
+    let lent = (record.kind == Kind::HatchWithStrings).then_some(reader);
     let main = record.payload;
-    if record.kind == Kind::HatchWithStrings {
-        return hatch::decode_with_strings(
-            main,
-            record.start,
-            strings,
-            record.more as usize,
-            record.string_end,
-            record.release,
-            numbers,
-            words,
-        );
-    }
-    hatch::decode(main, record.start, record.release, numbers, words)
+    hatch::decode_with_strings(main, record.start, lent, record.release, numbers, words)
 }
 
 // A reading: the record, and the entries used of both lists; none where the room is full or the seed points' part is another one.
