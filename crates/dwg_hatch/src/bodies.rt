@@ -1,5 +1,6 @@
 // The hatch calls of the boundary; thin over crate hatch.
 // specs/HatchCalls promises that each answer is the call's as numbers; the lists are what the call leaves there.
+// Here and in lib.rt and moves.rt doubles and their bits have a function each, and lists and numbers stand side by side: a C name has no type arguments.
 ghost use Rattle.std.specs.Prelude.{◌≡◌, length};
 ghost use Rattle.hatch_format.specs.Call.{none, lent};
 ghost use Rattle.hatch.specs.Calls.{call_of, as_lengths, most};
