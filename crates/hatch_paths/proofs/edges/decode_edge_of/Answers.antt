@@ -26,5 +26,6 @@ returns-in_default g c =
     record {
       same = (refl, refl);
       walk = rw c.refuse.ensures
-          (refuses (other_kind a.rules.caps (has_fits a.rules.version) a.kind a.s.now a.at (search rules) (search rules) (search rules) (search rules)) kept_same);
+          (refuses
+          (other_kind a.rules.caps (has_fits a.rules.version) a.kind a.s.now a.at (search rules) (search rules) (search rules) (search rules)) kept_same);
     }

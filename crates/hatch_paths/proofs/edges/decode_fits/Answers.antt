@@ -27,7 +27,8 @@ returns-then-is_from g c =
           (word_then (raw_run (fitted_raw n)) n c.put_word.ensures
           (words_kept _ c.put_word.new.words (raw_wordless (fitted_raw n) s _)
           (rw (← c.with_words.ensures) (walks_as c.raw_run.ensures (ap (λ (k : ℕ). (raw_run k).read s c.in_ok-n.p) c.fitted_raw.ensures.0)))))
-          (sym (ap (λ (b : Bool). (fits_walk cap b).read s a.at) (sym c.is_from.ensures ∙ c.if-is_from.true) ∙ then_read (bounded cap BL) _ s c.in_ok-n.ensures));
+          (sym (ap (λ (b : Bool). (fits_walk cap b).read s a.at) (sym c.is_from.ensures ∙ c.if-is_from.true)
+          ∙ then_read (bounded cap BL) _ s c.in_ok-n.ensures));
     }
 
 pub returns-in_err-n : goal.returns-in_err-n
@@ -39,7 +40,8 @@ returns-in_err-n g c =
     record {
       same = (refl, refl);
       walk = leaves _ c.from_residual.ensures
-          (refuses (ap (λ (b : Bool). (fits_walk cap b).read s a.at) (sym c.is_from.ensures ∙ c.if-is_from.true) ∙ then_none (bounded cap BL) _ s c.in_err-n.ensures) kept_same);
+          (refuses (ap (λ (b : Bool). (fits_walk cap b).read s a.at) (sym c.is_from.ensures ∙ c.if-is_from.true)
+          ∙ then_none (bounded cap BL) _ s c.in_err-n.ensures) kept_same);
     }
 
 pub returns : goal.returns

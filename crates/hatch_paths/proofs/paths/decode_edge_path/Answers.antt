@@ -25,4 +25,7 @@ pub returns-in_err-n : goal.returns-in_err-n
 unfolding edges_walk
 returns-in_err-n g c =
     let a = c.args in
-    record { same = (refl, refl); walk = leaves _ c.from_residual.ensures (refuses (then_none (bounded a.rules.caps.edges BL) _ a.s.now c.in_err-n.ensures) kept_same) }
+    record {
+      same = (refl, refl);
+      walk = leaves _ c.from_residual.ensures (refuses (then_none (bounded a.rules.caps.edges BL) _ a.s.now c.in_err-n.ensures) kept_same);
+    }

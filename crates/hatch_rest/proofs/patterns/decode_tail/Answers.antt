@@ -77,4 +77,7 @@ returns-in_err-kind g c =
 pub returns-in_err-style : goal.returns-in_err-style
 unfolding tail tail_read relay
 returns-in_err-style g c =
-    record { same = (refl, refl); gives = gives_leaves _ c.from_residual.ensures (gives_refused (read_not (coded BS) _ c.args.s.now c.in_err-style.ensures) kept_same) }
+    record {
+      same = (refl, refl);
+      gives = gives_leaves _ c.from_residual.ensures (gives_refused (read_not (coded BS) _ c.args.s.now c.in_err-style.ensures) kept_same);
+    }

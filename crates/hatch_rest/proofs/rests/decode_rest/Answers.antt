@@ -173,4 +173,7 @@ returns-in_err-associative g c =
 pub returns-in_err-solid : goal.returns-in_err-solid
 unfolding rest rest_read
 returns-in_err-solid g c =
-    record { same = (refl, refl); gives = gives_leaves _ c.from_residual.ensures (gives_refused (read_not (coded B) _ c.args.s.now c.in_err-solid.ensures) kept_same) }
+    record {
+      same = (refl, refl);
+      gives = gives_leaves _ c.from_residual.ensures (gives_refused (read_not (coded B) _ c.args.s.now c.in_err-solid.ensures) kept_same);
+    }

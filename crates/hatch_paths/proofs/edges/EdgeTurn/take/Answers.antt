@@ -17,11 +17,15 @@ returns g c =
     record {
       same = c.decode_edge_of.ensures.same;
       walk = walks_as
-          (word_then (edge_of_walk a.self.0.caps (has_fits a.self.0.version) k) k c.put_word.ensures (rw (← c.with_words.ensures) c.decode_edge_of.ensures.walk))
+          (word_then (edge_of_walk a.self.0.caps (has_fits a.self.0.version) k) k c.put_word.ensures
+          (rw (← c.with_words.ensures) c.decode_edge_of.ensures.walk))
           (sym (then_read (coded (low_first 1)) _ s c.in_ok-kind.ensures));
     }
 
 pub returns-in_err-kind : goal.returns-in_err-kind
 unfolding edge_walk RC
 returns-in_err-kind g c =
-    record { same = (refl, refl); walk = leaves _ c.from_residual.ensures (refuses (then_none (coded (low_first 1)) _ c.args.s.now c.in_err-kind.ensures) kept_same) }
+    record {
+      same = (refl, refl);
+      walk = leaves _ c.from_residual.ensures (refuses (then_none (coded (low_first 1)) _ c.args.s.now c.in_err-kind.ensures) kept_same);
+    }
