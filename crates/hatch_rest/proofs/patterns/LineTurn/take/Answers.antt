@@ -23,8 +23,9 @@ put_word-requires g c =
 pub double_run-requires-2 : goal.double_run-requires-2
 double_run-requires-2 g c =
     let cap = c.args.self.0 in
+    let angle = c.in_ok-used in
     rw c.with_words.ensures
-    (ready_words (bounded cap BS) 2 (takes_bounded cap BS 2 takes_BS) c.args.s.now _ c.in_ok-n.ensures 1 (omega arith) c.in_ok-used.used c.in_ok-used.ensures.ready)
+    (ready_words (bounded cap BS) 2 (takes_bounded cap BS 2 takes_BS) c.args.s.now _ c.in_ok-n.ensures 1 (omega arith) angle.used angle.ensures.ready)
 
 pub returns : goal.returns
 unfolding line_walk
