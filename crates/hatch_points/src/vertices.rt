@@ -35,7 +35,7 @@ fn put_vertex<N: Number>(s: &Payload, at: usize, extra: u64, numbers: &mut [N], 
     lists::put_number(numbers, from + 2, extra);
 }
 
-// n of them, read and stored.
+// n of them, read and stored: a loop of its own, and so the next, for what is said at `put_doubles`.
 fn put_vertices<N: Number>(
     s: &Payload,
     at: usize,
@@ -69,8 +69,8 @@ fn pass_vertices(s: &Payload, at: usize, n: usize, used: Sizes) -> Reading<Sizes
     Ok((used.with_numbers(3 * n), p))
 }
 
-// n of them: stored so far as there is room, and passed from there on.
-// Lent the numbers alone, as `raw_run`.
+// n of them: stored so far as there is room, and passed from there on. Three lines, as `double_run` has them: one function for both would be lent both
+// loops, and how many numbers a turn stores. Lent the numbers alone, as `raw_run`.
 pub fn decode_vertices<N: Number>(
     s: &Payload,
     at: usize,
