@@ -1,5 +1,5 @@
 -- The record, the answers and the lengths from a body's parts. Assumes nothing.
-use Rattle.std.specs.Prelude.{true, false, List, [], ℕ, map, Option, Some, None, Result, Ok, Err}
+use Rattle.std.specs.Prelude.{Bool, List, [], ℕ, map, Option, Some, None, is_some, unwrap_or, Result, Ok, Err}
 use Rattle.bitcursor.specs.declared.Refused.{Refused}
 use Rattle.bitcursor.specs.Inputs.{Places}
 use Rattle.hatch_format.specs.declared.GradientColorBits.{GradientColorBits}
@@ -16,11 +16,24 @@ use Rattle.hatch_body.specs.Parts.{Small}
 use Rattle.hatch_record.specs.declared.Lengths.{Lengths}
 
 -- ---- the record from the parts and sixteen colours, with each double as what `of` makes of its 64 bits
+-- an absent gradient is zero throughout
+abbrev pub no_fields : Gradient
+no_fields =
+    record {
+      angle = 0;
+      shift = 0;
+      is_single_color = 0;
+      tint = 0;
+      num_colors = 0;
+      colors_at = 0;
+      name = no_text;
+    }
+
 module _ {N : Type 0} (of : ℕ → N) {C : Type 0} (colors : List C) where
-  abbrev pub fill_by : Option Gradient → GradientFill N C
-  fill_by (Some g) =
+  abbrev pub fill_of : Bool → Gradient → GradientFill N C
+  fill_of present g =
       record {
-        present = true;
+        present = present;
         angle = of g.angle;
         shift = of g.shift;
         is_single_color = g.is_single_color;
@@ -29,17 +42,9 @@ module _ {N : Type 0} (of : ℕ → N) {C : Type 0} (colors : List C) where
         colors = colors;
         name = g.name;
       }
-  fill_by None =
-      record {
-        present = false;
-        angle = of 0;
-        shift = of 0;
-        is_single_color = 0;
-        tint = of 0;
-        num_colors = 0;
-        colors = colors;
-        name = no_text;
-      }
+
+  abbrev pub fill_by : Option Gradient → GradientFill N C
+  fill_by g = fill_of (is_some g) (unwrap_or g no_fields)
 
   abbrev pub record_by : Parts → Hatch N C
   record_by a =

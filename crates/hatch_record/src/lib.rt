@@ -7,7 +7,7 @@ ghost use Rattle.std.specs.Prelude.{◌≡◌, [], ◌≤◌, ◌<◌, map};
 ghost use Rattle.hatch_format.specs.Record.{sixteen};
 ghost use Rattle.hatch_front.specs.Answers.{num_colors as colors_of};
 ghost use Rattle.hatch_body.specs.Parts.{Small, Readable};
-ghost use Rattle.hatch_record.specs.Records.{fill_by, record_by, SmallIn, num_colors, colors_in, answer_with, answer_in, lengths_of};
+ghost use Rattle.hatch_record.specs.Records.{no_fields, fill_by, record_by, SmallIn, num_colors, colors_in, answer_with, answer_in, lengths_of};
 
 use bitcursor::values::Number;
 use bitcursor::{Payload, Places, Refused};
@@ -29,30 +29,34 @@ pub struct Lengths {
 
 pub type LengthsRead = Result<Lengths, Refused<Places>>;
 
-// A gradient; zero throughout where there is none, as document 01 has it.
+// The fields of an absent gradient: zero throughout, as document 01 has it.
+fn no_fields() -> Gradient
+    ensures { result ≡ no_fields }
+{
+    Gradient {
+        angle: 0,
+        shift: 0,
+        is_single_color: 0,
+        tint: 0,
+        num_colors: 0,
+        colors_at: 0,
+        name: Text {
+            source: Source::Absent,
+            width: 0,
+            position: 0,
+            count: 0,
+            padded: false,
+        },
+    }
+}
+
+// A gradient with its colours. One literal for both kinds, since of two the colours would be copied.
 fn fill<N: Number, C: Color>(gradient: Option<Gradient>, colors: [C; 16]) -> GradientFill<N, C>
     ensures { result ≡ fill_by N.of_bits colors gradient }
 {
-    let Some(g) = gradient else {
-        return GradientFill {
-            present: false,
-            angle: N::from_bits(0),
-            shift: N::from_bits(0),
-            is_single_color: 0,
-            tint: N::from_bits(0),
-            num_colors: 0,
-            colors,
-            name: Text {
-                source: Source::Absent,
-                width: 0,
-                position: 0,
-                count: 0,
-                padded: false,
-            },
-        };
-    };
+    let g = gradient.unwrap_or(no_fields());
     GradientFill {
-        present: true,
+        present: gradient.is_some(),
         angle: N::from_bits(g.angle),
         shift: N::from_bits(g.shift),
         is_single_color: g.is_single_color,
