@@ -1,6 +1,6 @@
 -- What the readings of codes are, step by step, as the readers take them; and through a code's tag. Assumes nothing.
-use Rattle.std.specs.Prelude.{◌≡◌, refl, true, false, Bool, List, ℕ, zero, suc, ◌+◌, ◌-◌, ◌*◌, ◌/◌, ◌≤◌, ◌<◌, ◌^◌, length, Result}
-use Rattle.std.proofs.Common.{sym, ap, ◌∙◌, arith, le-leb, ⊎_elim}
+use Rattle.std.specs.Prelude.{◌≡◌, refl, Bool, List, ℕ, zero, suc, ◌+◌, ◌-◌, ◌*◌, ◌/◌, ◌≤◌, ◌<◌, ◌^◌, length, Result}
+use Rattle.std.proofs.Common.{sym, ap, ◌∙◌, le-leb, ⊎_elim}
 use Rattle.std.proofs.lemmas.Bool.{lt-leb}
 use Rattle.std.specs.Result.{IsErr, IsErrAnd}
 use Rattle.std.proofs.lemmas.Result.{err_from_is_err_and}
@@ -15,7 +15,6 @@ use Rattle.bitcursor.specs.Codes.{by_tag, tagged}
 use Rattle.bitcursor.specs.Ranges.{raw_below, low_below, read_below}
 use Rattle.bitcursor.specs.Bytes.{low_first, skip, le_or_lt}
 use Rattle.bitcursor.specs.Stops.{skip_there, skip_short}
-use Rattle.bitcursor.specs.Handles.{checked}
 use Rattle.bitcursor.specs.Answers.{outcome, limited}
 
 -- ---- each code's reading by its parts
@@ -27,6 +26,16 @@ module _ {A B : Type 0} where
   pub mapped_read : (h : A → B) (f : Code A) (xs : List ℕ) (p : ℕ) → (mapped h f).read xs p ≡ and_then (f.read xs p) (λ a q. got (h a) q)
   unfolding mapped tabled ◌>>=◌ give
   mapped_read h f xs p = refl
+
+-- a reading of two parts, where the first read and where it did not
+module _ {A B : Type 0} (f : Code A) (g : A → Code B) (xs : List ℕ) (p : ℕ) where
+  pub then_got : {a : A} {q : ℕ} → f.read xs p ≡ got a q → (f >>= g).read xs p ≡ (g a).read xs q
+  unfolding ◌>>=◌
+  then_got e = rw e
+
+  pub then_refused : {r : Refusal} {q : ℕ} → f.read xs p ≡ refused r q → (f >>= g).read xs p ≡ refused r q
+  unfolding ◌>>=◌
+  then_refused e = rw e
 
 module _ {A : Type 0} where
   pub given_read : (a : A) (xs : List ℕ) (p : ℕ) → (give a).read xs p ≡ got a p
@@ -57,28 +66,11 @@ last_tag a b c d xs q (suc zero) h₀ h₁ h₂ = absurd (h₁ refl)
 last_tag a b c d xs q (suc (suc zero)) h₀ h₁ h₂ = absurd (h₂ refl)
 last_tag a b c d xs q (suc (suc (suc t))) h₀ h₁ h₂ = refl
 
-first_tags : {A : Type 0} (a b c d : Code A) (xs : List ℕ) (q t : ℕ) → t < 4 → (t ≡ 2 → ⊥) → (t ≡ 3 → ⊥)
-    → (by_tag a b c d t).read xs q ≡ (by_tag a b b b t).read xs q
-unfolding by_tag
-first_tags a b c d xs q zero l h₂ h₃ = refl
-first_tags a b c d xs q (suc zero) l h₂ h₃ = refl
-first_tags a b c d xs q (suc (suc zero)) l h₂ h₃ = absurd (h₂ refl)
-first_tags a b c d xs q (suc (suc (suc zero))) l h₂ h₃ = absurd (h₃ refl)
-first_tags a b c d xs q (suc (suc (suc (suc t)))) l h₂ h₃ = absurd (omega arith)
-
--- what follows every tag but 00
-pub behind_tag : {A : Type 0} (a b : Code A) (xs : List ℕ) (q t : ℕ) → (t ≡ 0 → ⊥) → (by_tag a b b b t).read xs q ≡ b.read xs q
-unfolding by_tag
-behind_tag a b xs q zero h = absurd (h refl)
-behind_tag a b xs q (suc zero) h = refl
-behind_tag a b xs q (suc (suc zero)) h = refl
-behind_tag a b xs q (suc (suc (suc t))) h = refl
-
 -- what a code with a tag reads, once the tag was read
 module _ {A : Type 0} (a b c d : Code A) (xs : List ℕ) (p : ℕ) {t q : ℕ} (e : got t q ≡ (raw 2).read xs p) where
   on_tag : (tagged a b c d).read xs p ≡ (by_tag a b c d t).read xs q
-  unfolding tagged ◌>>=◌
-  on_tag = ap (λ (o : Out ℕ ℕ). and_then o (λ v r. (by_tag a b c d v).read xs r)) (sym e)
+  unfolding tagged
+  on_tag = then_got (raw 2) (by_tag a b c d) xs p (sym e)
 
   pub tag_00 : t ≡ 0 → (tagged a b c d).read xs p ≡ a.read xs q
   unfolding by_tag
@@ -94,19 +86,6 @@ module _ {A : Type 0} (a b c d : Code A) (xs : List ℕ) (p : ℕ) {t q : ℕ} (
 
   pub tag_11 : (t ≡ 0 → ⊥) → (t ≡ 1 → ⊥) → (t ≡ 2 → ⊥) → (tagged a b c d).read xs p ≡ d.read xs q
   tag_11 h₀ h₁ h₂ = on_tag ∙ last_tag a b c d xs q t h₀ h₁ h₂
-
-  pub tag_three : t ≡ 3 → (tagged a b c d).read xs p ≡ d.read xs q
-  unfolding by_tag
-  tag_three z = on_tag ∙ ap (λ (k : ℕ). (by_tag a b c d k).read xs q) z
-
-  -- one of 00 and 01
-  pub tag_rest : (t ≡ 2 → ⊥) → (t ≡ 3 → ⊥) → (tagged a b c d).read xs p ≡ (by_tag a b b b t).read xs q
-  tag_rest h₂ h₃ = on_tag ∙ first_tags a b c d xs q t (raw_small 2 xs p e) h₂ h₃
-
-pub tag_none : {A : Type 0} (a b c d : Code A) (xs : List ℕ) (p : ℕ) {r : Refusal} {q : ℕ} → refused r q ≡ (raw 2).read xs p
-    → (tagged a b c d).read xs p ≡ refused r q
-unfolding tagged ◌>>=◌
-tag_none a b c d xs p e = ap (λ (o : Out ℕ ℕ). and_then o (λ v r. (by_tag a b c d v).read xs r)) (sym e)
 
 -- ---- n bytes that were passed, or could not be
 pub record There (xs : List ℕ) (n at p : ℕ) : Type 0 where
@@ -146,16 +125,6 @@ module _ {A : Type 0} (f : List ℕ → ℕ → Out ℕ A) (xs : List ℕ) (p : 
 -- ---- what a `?` that met a refusal returns
 pub left : {A P : Type 0} (r : Result (A × P) (Refused P)) {e : Refused P} → IsErr r × IsErrAnd r (λ d. d ≡ e) → outcome r ≡ refused e.refusal e.place
 left r h = let k = err_from_is_err_and r h.1 in ap outcome k.1 ∙ ap (λ d. refused d.refusal d.place) k.2
-
--- ---- by a test
-module _ {A : Type 0} (c d : Code A) where
-  pub checked_yes : {b : Bool} → b ≡ true → checked b c d ≡ c
-  unfolding checked
-  checked_yes e = ap (λ (t : Bool). checked t c d) e
-
-  pub checked_no : {b : Bool} → b ≡ false → checked b c d ≡ d
-  unfolding checked
-  checked_no e = ap (λ (t : Bool). checked t c d) e
 
 -- ---- what a reader in front of `?` leaves to show: its steps, one by one
 pub ruleset reading = (joined_read, mapped_read, given_read, refuse_read, tabled_read, raw_small, low_small)

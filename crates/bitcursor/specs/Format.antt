@@ -1,6 +1,6 @@
 -- Certified formats: a reading, its layouts, and the proofs that the two say the same, that reading only goes on, that no bit past the
 -- final places matters, and that longer payloads read the same unless bits were lacking. What is read from is one payload or both
--- (specs/Inputs). `pure`, `refuse`, `>>=`, `peek`, `relay` and `either` here, and `coded`, `at_least_lem`, `part_in` and `field` of specs/Fields,
+-- (specs/Inputs). `pure`, `refuse`, `>>=`, `peek`, `relay` and `either` here, and `coded`, `at_least`, `part_in` and `field` of specs/Fields,
 -- build every format. Assumes nothing.
 use Rattle.std.specs.Prelude.{◌≡◌, refl, Bool, true, false}
 use Rattle.std.proofs.Common.{sym, ap₂}

@@ -67,7 +67,8 @@ pub fn read_low(s: &Payload, at: usize, n: usize) -> Reading<u64>
     Ok((loads::low_at(s, at, n), p))
 }
 
-// The next n bytes, the high one first.
+// The next n bytes, the high one first. `read_low` and it differ in the load and in the code that their contracts name: a closure would bring a
+// contract of its own for the load, which is longer than the lines that they share.
 fn read_high(s: &Payload, at: usize, n: usize) -> Reading<u64>
     requires { n ≤ 8 }
     ensures { outcome result ≡ (high_first n).read s.now at }

@@ -1,4 +1,5 @@
 // A hatch's answer, and the lengths that its lists must have, as structs of numbers.
+// C has no type arguments, no enum and no Option: so there is a struct for doubles and one for their bits, a refusal's number, and `present`.
 use hatch_format::{GradientColor, GradientColorBits};
 
 // Where a text lies, as TextAnswer has it.

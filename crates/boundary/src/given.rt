@@ -1,4 +1,5 @@
 // A hatch's record as a caller gives it: as an answer has it, with each switch as a byte, since any byte may stand there.
+// C has no type arguments and no Option: so there is a struct for doubles and one for their bits, and `present`.
 ghost use Rattle.std.specs.Prelude.{◌≡◌};
 ghost use Rattle.boundary.specs.MoveBoundary.{given_counts};
 
@@ -91,7 +92,7 @@ pub struct BodyBitsGiven {
     pub fields: FieldsGiven,
 }
 
-// What a record says of its lists.
+// What a record says of its lists. No From, since it takes the parts that both C structs have: a From of each would be two impls that say the same.
 pub fn counts_of(fields: FieldsGiven, num_colors: usize) -> HatchCounts
     ensures { result ≡ given_counts fields num_colors }
 {

@@ -132,6 +132,7 @@ fn zero_hatch<N: Number, C: Color>(places: Places) -> Hatch<N, C>
     }
 }
 
+// Here and below what is made of doubles and what is made of their bits are twins, since the structs that cross to C are two (bodies.rt says why).
 impl BodyAnswer {
     fn new(refusal: u64, h: Hatch) -> BodyAnswer
         ensures { result ≡ body_with refusal h }
@@ -214,6 +215,7 @@ pub fn answer(main: &[u8], read: &BodyRead) -> BodyAnswer
 }
 
 // The same with each double as its 64 bits.
+// One function over `A: From<HatchRead<N, C>>` was tried: its calls ask that a hatch of open N and C fits into memory, which no bound says of them.
 #[tactic(auto, using(hatch_record::proofs::RecordLaws::plain_is))]
 pub fn answer_bits(main: &[u8], read: &BodyRead) -> BodyBitsAnswer
     requires { Readable main.now read.now }

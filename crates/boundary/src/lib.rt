@@ -12,6 +12,7 @@ pub mod moves;
 pub mod prefixes;
 
 // What one code gives: the refusal's number or 0, the final place, and the value or 0.
+// Here and below a struct for each type of value, a number for a refusal and a flag for what may be absent: C has no type arguments, no enum and no Option.
 #[repr(C)]
 #[derive(Clone, Copy)]
 pub struct CodeAnswer {
@@ -104,6 +105,7 @@ pub struct PrefixAnswer {
     pub fields: PrefixFields,
 }
 
+// The same with the scale as its 64 bits: a struct of its own, since what crosses to C has no type arguments.
 #[repr(C)]
 #[derive(Clone, Copy, Default)]
 pub struct PrefixBitsAnswer {

@@ -44,6 +44,7 @@ impl<N: Copy> From<CommonEntityData<N>> for PrefixFields {
     }
 }
 
+// Here and below the same twice, since the structs that cross to C are two, and C has no type arguments.
 impl From<Reading<CommonEntityData<u64>>> for PrefixBitsAnswer {
     ghost from_gives = { λ read answer. answer ≡ bits_answer (outcome read) };
 

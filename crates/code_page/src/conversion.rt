@@ -50,7 +50,8 @@ fn are_defined<T: Character>(table: &Table, input: &[T]) -> bool
     input.iter().all(|x| x.is_defined(table))
 }
 
-// What each entry is mapped to, at the front of the output. This loop too has no way out before its end.
+// What each entry is mapped to, at the front of the output. This loop too has no way out before its end. The entry is stored by its index: with
+// `output.iter_mut().zip(input)` the proof did not close, since the output's last value is told of by the slots that the iterator lent alone.
 fn store<T: Character, F: Fn(T) -> T::Other>(
     input: &[T],
     output: &mut [T::Other],

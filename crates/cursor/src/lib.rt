@@ -69,6 +69,8 @@ impl BitCursor {
         }
     }
 
+    // One method for each code, as the Rust has them: each is named for its code and promises that code, and what they share is `follow`.
+
     // B: one bit.
     pub fn read_b(&mut self, bytes: &[u8]) -> Result<bool, Refusal>
         ensures { Reads (read_at B bytes.now self.old) result self.new }

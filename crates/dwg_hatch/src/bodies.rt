@@ -1,5 +1,6 @@
 // The hatch calls of the boundary; thin over crate hatch.
 // specs/HatchCalls promises that each answer is the call's as numbers; the lists are what the call leaves there.
+// Here and in lib.rt and moves.rt doubles and their bits have a function each, and lists and numbers stand side by side: a C name has no type arguments.
 ghost use Rattle.std.specs.Prelude.{◌≡◌, length};
 ghost use Rattle.hatch_format.specs.Call.{none, lent};
 ghost use Rattle.hatch.specs.Calls.{call_of, as_lengths, most};
@@ -8,7 +9,7 @@ ghost use Rattle.dwg_hatch.specs.HatchCalls.{Decodes, DecodesBits};
 
 use boundary::bodies::{BodyAnswer, BodyBitsAnswer, LengthsAnswer};
 use boundary::hatches;
-use hatch::calls;
+use hatch::{Strings, calls};
 
 // The hatch body at a bit of the main payload, texts inline, doubles as f64.
 #[unsafe(no_mangle)]
@@ -57,16 +58,12 @@ pub extern "C" fn dwg_hatch_decode_with_strings(
     ensures { Decodes (call_of release main.now start (lent string.now string_start string_end) (length words.old)
         (length numbers.old)) result numbers.old numbers.new words.old words.new }
 {
-    let read = calls::read_with_strings(
-        main,
-        start,
-        string,
-        string_start,
-        string_end,
-        release,
-        numbers,
-        words,
-    );
+    let strings = Strings {
+        bytes: string,
+        start: string_start,
+        end: string_end,
+    };
+    let read = calls::read_with_strings(main, start, Some(strings), release, numbers, words);
     hatches::answer(main, &read)
 }
 
@@ -85,16 +82,12 @@ pub extern "C" fn dwg_hatch_decode_with_strings_bits(
     ensures { DecodesBits (call_of release main.now start (lent string.now string_start string_end)
         (length words.old) (length bits.old)) result bits.old bits.new words.old words.new }
 {
-    let read = calls::read_with_strings(
-        main,
-        start,
-        string,
-        string_start,
-        string_end,
-        release,
-        bits,
-        words,
-    );
+    let strings = Strings {
+        bytes: string,
+        start: string_start,
+        end: string_end,
+    };
+    let read = calls::read_with_strings(main, start, Some(strings), release, bits, words);
     hatches::answer_bits(main, &read)
 }
 
@@ -119,5 +112,10 @@ pub extern "C" fn dwg_hatch_measure_with_strings(
     ensures { result ≡ lengths_answer (as_lengths (call_of release main.now start
         (lent string.now string_start string_end) most most)) }
 {
-    hatch::measure_with_strings(main, start, string, string_start, string_end, release).into()
+    let strings = Strings {
+        bytes: string,
+        start: string_start,
+        end: string_end,
+    };
+    hatch::measure_with_strings(main, start, Some(strings), release).into()
 }

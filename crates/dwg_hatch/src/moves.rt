@@ -7,6 +7,8 @@ use boundary::given::{BodyBitsGiven, BodyGiven};
 use boundary::moves::MoveAnswer;
 use hatch_format::Vec3D;
 
+// The vector is made by hand, here and below: a From of each of the two C structs would name the same three fields, and take the whole record by value.
+
 // Each coordinate of the first numbers used, less the origin's, in place: the record as a call gave it, its words and its numbers.
 #[unsafe(no_mangle)]
 pub extern "C" fn dwg_hatch_move_origin(

@@ -3,7 +3,7 @@
 ghost use Rattle.std.specs.Prelude.{◌≡◌};
 ghost use Rattle.dwg_hatch.specs.SeedBoundary.{seed_part};
 
-// A part of the list of numbers: its first index, and how many numbers it has, two for each seed point.
+// A part of the list of numbers: its first index, and how many numbers it has, two for each seed point. Indices and no slice, as C has no slice to be handed.
 #[repr(C)]
 #[derive(Drop)]
 pub struct SeedPart {

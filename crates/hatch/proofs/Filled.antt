@@ -1,53 +1,48 @@
 -- A call's answer from the parts that were handed on, and its lists: where it read, its entries fit, so what was laid over them is their front. Assumes
 -- nothing.
-use Rattle.std.specs.Prelude.{◌≡◌, refl, List, ◌++◌, ℕ, ◌+◌, ◌≤◌, length, drop, map, Result, Ok}
-use Rattle.std.proofs.Common.{ap, ap₂, subst, ◌∙◌, arith, zero-add}
+use Rattle.std.specs.Prelude.{◌≡◌, refl, Bool, true, false, List, ◌++◌, ℕ, ◌+◌, ◌≤◌, length, drop, map, Result, Ok}
+use Rattle.std.proofs.Common.{ap, subst, ◌∙◌, arith, zero-add}
 use Rattle.std.proofs.lemmas.List.{length-map}
 use Rattle.std.proofs.lemmas.List.Edits.{sets}
 use lib.Seq.{sets-eq}
 use Rattle.bitcursor.specs.declared.Refused.{Refused}
 use Rattle.bitcursor.specs.Reading.{Out, got, refused}
-use Rattle.bitcursor.specs.Format.{pure, relay}
 use Rattle.bitcursor.specs.Inputs.{Places, Payloads}
 use Rattle.hatch_format.specs.declared.Caps.{Caps}
 use Rattle.hatch_format.specs.HandleRule.{in_payload}
 use Rattle.hatch_format.specs.declared.GradientColorBits.{GradientColorBits}
-use Rattle.hatch_format.specs.Values.{Body}
+use Rattle.hatch_format.specs.declared.GradientFill.{GradientFill}
+use Rattle.hatch_format.specs.Values.{Gradient, Body}
 use Rattle.hatch_format.specs.Entries.{words, numbers}
-use Rattle.hatch_format.specs.Record.{sixteen}
-use Rattle.hatch_format.specs.Counts.{times_read, times}
-use Rattle.hatch_format.specs.Gradients.{color}
+use Rattle.hatch_format.specs.Record.{fill_of, fill_as, record_of, hatch_as}
 use Rattle.hatch_format.specs.Call.{Call, call_on, hatch_call}
 use Rattle.hatch_format.proofs.Demand3.{read_iff_laid}
-use Rattle.hatch_points.specs.declared.lists.Sizes.{Sizes}
-use Rattle.hatch_points.specs.Lists.{Lists, grow}
-use Rattle.hatch_rest.specs.Rests.{no_sizes, rest_entries}
-use Rattle.hatch_front.specs.Answers.{sixteen_of}
+use Rattle.hatch_points.specs.Lists.{Lists}
+use Rattle.hatch_front.specs.Answers.{FillAt, gradient_of}
 use Rattle.hatch_body.specs.declared.Parts.{Parts}
-use Rattle.hatch_body.specs.Parts.{parts_of, BodyIs}
+use Rattle.hatch_body.specs.Parts.{BodyIs}
 use Rattle.hatch_body.proofs.BodyLaws.{laid_words, laid_numbers, used_words, used_numbers}
 use Rattle.hatch_call.specs.Calls.{laid_over, CallIs}
-use Rattle.hatch_record.specs.Records.{record_by, answer_in, lengths_of}
+use Rattle.hatch_record.specs.Records.{fill_by, colors_in, answer_in, lengths_of}
 use Rattle.hatch.specs.Calls.{as_hatch, filled, numbers_as, as_lengths, ReadsParts}
 
 -- ---- the record from the parts is the definition's
+-- the gradient with its colours, read again from where they stand; zero where there is none
+fill_is : {N C : Type 0} (of : ℕ → N) (make : GradientColorBits → C) (xs : List ℕ) (at : ℕ) (g : Gradient) → FillAt xs at g
+    → fill_by of (map make (colors_in xs (gradient_of at g))) (gradient_of at g) ≡ fill_as of make (fill_of g)
+fill_is of make xs at g h = go g.present refl
+  where
+    go : (b : Bool) → g.present ≡ b → fill_by of (map make (colors_in xs (gradient_of at g))) (gradient_of at g) ≡ fill_as of make (fill_of g)
+    go true e = rw (e, h.colors.read) refl
+    go false e = rw (h.absent e) refl
+
 pub answer_is : {N C : Type 0} (of : ℕ → N) (make : GradientColorBits → C) (xs : List ℕ) (o : Out Places Body) (r : Result Parts (Refused Places))
     → BodyIs xs o r → answer_in of make xs r ≡ as_hatch of make o
-unfolding times relay times_read pure
 answer_is of make xs (refused k q) r e = ap (answer_in of make xs) e
 answer_is of make xs (got a q) r e =
-    let at = e.0 in
-    let colors : sixteen_of ((times (length a.gradient.colors) color).read xs at) ≡ sixteen a.gradient.colors = ap sixteen_of e.2.read in
-    let z = grow no_sizes (rest_entries a.rest) in
-    let used : z ≡ record { numbers = length (numbers a.rest); words = length (words a.rest); derived = z.derived } =
-    λ i. record { numbers = used_numbers a.rest i; words = used_words a.rest i; derived = z.derived } in
+    let fill = fill_is of make xs e.0 a.gradient e.2 in
     ap (answer_in of make xs) e.1
-    ∙ ap₂ (λ (cs : List GradientColorBits) (y : Sizes). Ok (record_by of (map make cs) (record {
-      front = (parts_of at a q).front;
-      rest = (parts_of at a q).rest;
-      used = y;
-      places = (parts_of at a q).places;
-    }))) colors used
+    ∙ rw (used_words a.rest, used_numbers a.rest) (ap (λ (g : GradientFill _ _). Ok (record (hatch_as of make (record_of a q)) { gradient = g })) fill)
 
 pub lengths_are : (xs : List ℕ) (o : Out Places Body) (r : Result Parts (Refused Places)) → BodyIs xs o r → lengths_of r ≡ as_lengths o
 lengths_are xs (refused k q) r e = ap lengths_of e

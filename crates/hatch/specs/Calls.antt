@@ -1,5 +1,5 @@
 -- What the calls answer, and the lists afterwards, from the definition of a whole call. Assumes nothing.
-use Rattle.std.specs.Prelude.{◌≡◌, List, ◌++◌, ℕ, Float, length, drop, map, Result, Ok, Err}
+use Rattle.std.specs.Prelude.{◌≡◌, List, ◌++◌, ℕ, Float, length, drop, map, Option, Some, None, Result, Ok, Err}
 use Rattle.bitcursor.specs.declared.Refused.{Refused}
 use Rattle.bitcursor.specs.Reading.{Out, got, refused}
 use Rattle.bitcursor.specs.Inputs.{Places}
@@ -11,10 +11,11 @@ use Rattle.hatch_format.specs.Values.{Rest, Body}
 use Rattle.hatch_format.specs.Entries.{words, numbers}
 use Rattle.hatch_format.specs.Record.{HatchBits, record_of, hatch_as, double, color_as_doubles}
 use Rattle.hatch_format.specs.HandleRule.{in_payload}
-use Rattle.hatch_format.specs.Call.{Strings, hatch_call}
+use Rattle.hatch_format.specs.Call.{Strings, none, lent, hatch_call}
 use Rattle.hatch_body.specs.declared.Parts.{Parts}
 use Rattle.hatch_body.specs.Parts.{BodyIs, Readable}
 use Rattle.hatch_record.specs.declared.Lengths.{Lengths}
+use Rattle.hatch.specs.declared.calls.Strings.{Strings as CodeStrings}
 
 -- ---- the record, or the refusal and its places; each double as what `of` makes of its 64 bits, each colour as what `color` makes of it
 abbrev pub as_hatch : {N C : Type 0} → (ℕ → N) → (GradientColorBits → C) → Out Places Body → Result (Hatch N C) (Refused Places)
@@ -62,6 +63,11 @@ abbrev pub call_of : ℕ → List ℕ → ℕ → Strings → ℕ → ℕ → Ou
 call_of release xs start strings nw nn =
     hatch_call
     (record { release = release; main = xs; start = start; strings = strings; caps = document_caps; handles = in_payload; words = nw; numbers = nn })
+
+-- what a caller lends of strings
+abbrev pub strings_of : Option CodeStrings → Strings
+strings_of (Some s) = lent s.bytes.now s.start s.end
+strings_of None = none
 
 -- ---- what the functions ensure that hand on a body's parts, for one list of numbers in the terms above
 pub record ReadsParts {A : Type 0} (e : Rest → List A) (xs : List ℕ) (o : Out Places Body) (r : Result Parts (Refused Places)) (numbers numbers' : List A)

@@ -4,10 +4,9 @@
 #![tactic(auto)]
 
 ghost use Rattle.std.specs.Prelude.{◌≡◌, length};
-ghost use Rattle.hatch_format.specs.Call.{none, lent};
-ghost use Rattle.hatch.specs.Calls.{Reads, call_of, as_lengths, most};
+ghost use Rattle.hatch_format.specs.Call.{none};
+ghost use Rattle.hatch.specs.Calls.{Reads, call_of, strings_of, as_lengths, most};
 
-use bitcursor::Places;
 use bitcursor::values::Number;
 use hatch_body::Room;
 use hatch_format::Color;
@@ -15,6 +14,8 @@ use hatch_record::{HatchRead, LengthsRead};
 
 pub mod calls;
 pub mod seeds;
+
+pub use calls::Strings;
 
 // A hatch body without a reader, from any bytes at any start bit, of any release number; its doubles as f64 or as their 64 bits.
 pub fn decode<N: Number, C: Color>(
@@ -27,34 +28,22 @@ pub fn decode<N: Number, C: Color>(
     ensures { Reads N.of_bits C.of_bits (call_of release main.now start none (length words.old) (length numbers.old)) result
         numbers.old numbers.new words.old words.new }
 {
-    let read = calls::read(main, start, release, numbers, words);
-    hatch_record::answer(main, read)
+    decode_with_strings(main, start, None, release, numbers, words)
 }
 
-// With a string reader over any bytes, from any start bit to any end bit.
+// With a string reader where one is lent: over any bytes, from any start bit to any end bit.
 pub fn decode_with_strings<N: Number, C: Color>(
     main: &[u8],
     start: usize,
-    string: &[u8],
-    string_start: usize,
-    string_end: usize,
+    strings: Option<Strings>,
     release: u64,
     numbers: &mut [N],
     words: &mut [u32],
 ) -> HatchRead<N, C>
-    ensures { Reads N.of_bits C.of_bits (call_of release main.now start (lent string.now string_start string_end)
-        (length words.old) (length numbers.old)) result numbers.old numbers.new words.old words.new }
+    ensures { Reads N.of_bits C.of_bits (call_of release main.now start (strings_of strings.entry) (length words.old) (length numbers.old))
+        result numbers.old numbers.new words.old words.new }
 {
-    let read = calls::read_with_strings(
-        main,
-        start,
-        string,
-        string_start,
-        string_end,
-        release,
-        numbers,
-        words,
-    );
+    let read = calls::read_with_strings(main, start, strings, release, numbers, words);
     hatch_record::answer(main, read)
 }
 
@@ -70,49 +59,18 @@ const LONGEST: Room = Room {
 pub fn measure(main: &[u8], start: usize, release: u64) -> LengthsRead
     ensures { result ≡ as_lengths (call_of release main.now start none most most) }
 {
-    let at = Places {
-        main: start,
-        string: 0,
-    };
-    let read = hatch_call::read_call::<u64>(
-        main,
-        &[],
-        at,
-        None,
-        release,
-        hatch_format::document_caps(),
-        LONGEST,
-        &mut [],
-        &mut [],
-    );
-    hatch_record::lengths_of(read)
+    measure_with_strings(main, start, None, release)
 }
 
-// The same with a string reader.
+// The same with a string reader where one is lent.
 pub fn measure_with_strings(
     main: &[u8],
     start: usize,
-    string: &[u8],
-    string_start: usize,
-    string_end: usize,
+    strings: Option<Strings>,
     release: u64,
 ) -> LengthsRead
-    ensures { result ≡ as_lengths (call_of release main.now start (lent string.now string_start string_end) most most) }
+    ensures { result ≡ as_lengths (call_of release main.now start (strings_of strings.entry) most most) }
 {
-    let at = Places {
-        main: start,
-        string: string_start,
-    };
-    let read = hatch_call::read_call::<u64>(
-        main,
-        string,
-        at,
-        Some(string_end),
-        release,
-        hatch_format::document_caps(),
-        LONGEST,
-        &mut [],
-        &mut [],
-    );
+    let read = calls::call::<u64>(main, start, strings, release, LONGEST, &mut [], &mut []);
     hatch_record::lengths_of(read)
 }

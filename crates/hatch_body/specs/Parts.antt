@@ -10,7 +10,7 @@ use Rattle.hatch_points.specs.declared.lists.Sizes.{Sizes}
 use Rattle.hatch_points.specs.Lists.{Lists, store, grow}
 use Rattle.hatch_rest.specs.Rests.{no_sizes, rest_of, rest_entries}
 use Rattle.hatch_front.specs.declared.Front.{Front}
-use Rattle.hatch_front.specs.Answers.{ColorsAt, front_of}
+use Rattle.hatch_front.specs.Answers.{FillAt, num_colors, front_of}
 use Rattle.hatch_body.specs.declared.Parts.{Parts}
 
 -- ---- a body's parts; its colours stand from `at` on
@@ -25,12 +25,12 @@ parts_of at a q =
 
 -- what is answered for a reading or a refusal
 abbrev pub BodyIs : List ℕ → Out Places Body → Result Parts (Refused Places) → Type 0
-BodyIs xs (got a q) r = (at : ℕ) × (r ≡ Ok (parts_of at a q)) × ColorsAt xs at a.gradient.colors
+BodyIs xs (got a q) r = (at : ℕ) × (r ≡ Ok (parts_of at a q)) × FillAt xs at a.gradient
 BodyIs xs (refused k q) r = r ≡ Err (record { refusal = k; place = q })
 
 -- small enough for the record's fields, and the payload, of which colours are read again, within the limit
 abbrev pub Small : Parts → Type 0
-Small a = (a.front.gradient.num_colors ≤ 16) × ((a.rest.tail.style < 2 ^ 16) × (a.rest.tail.kind < 2 ^ 16))
+Small a = (num_colors a.front.gradient ≤ 16) × ((a.rest.tail.style < 2 ^ 16) × (a.rest.tail.kind < 2 ^ 16))
 
 abbrev pub Readable : List ℕ → Result Parts (Refused Places) → Type 0
 Readable xs (Ok a) = (length xs ≤ limit) × Small a

@@ -16,7 +16,7 @@ use bitcursor::values::Number;
 use bitcursor::{Payload, Places, Reading, Refusal, Refused, refuse};
 use hatch_front::Front;
 use hatch_paths::Rules;
-use hatch_points::lists::Sizes;
+use hatch_points::lists::{Lent, Sizes};
 use hatch_rest::rests;
 use hatch_rest::rests::Rest;
 
@@ -36,9 +36,11 @@ pub type BodyRead = Result<Parts, Refused<Places>>;
 fn measure_rest(s: &Payload, at: usize, rules: Rules) -> Reading<(Rest, Sizes)>
     ensures { outcome result ≡ value_as rest_walk ((rest rules.caps in_payload rules.version).read s.now at) }
 {
-    let mut numbers: [u64; 0] = [];
-    let mut words: [u32; 0] = [];
-    rests::decode_rest(s, at, rules, &mut numbers, &mut words)
+    let mut none = Lent::<u64> {
+        numbers: &mut [],
+        words: &mut [],
+    };
+    rests::decode_rest(s, at, rules, &mut none)
 }
 
 // Whether both lists are empty.
@@ -56,7 +58,7 @@ fn fill_lists<N: Number>(s: &Payload, at: usize, rules: Rules, numbers: &mut [N]
     if none_lent(numbers, words) {
         return;
     }
-    let _ = rests::decode_rest(s, at, rules, numbers, words);
+    let _ = rests::decode_rest(s, at, rules, &mut Lent { numbers, words });
 }
 
 // How long the two lists of a caller are, or are taken to be where a call only measures.

@@ -1,35 +1,34 @@
 -- A whole call from the answers for its parts, and the tests in front of it. Assumes nothing.
-use Rattle.std.specs.Prelude.{◌≡◌, refl, Bool, true, false, ◌&&◌, List, ℕ, ◌*◌, ◌^◌, ◌≤◌, ◌<◌, leb, length, Option, Some, None, Result, Ok, Err}
-use Rattle.std.proofs.Common.{sym, ap, ap₂, subst, ◌∙◌, arith, le-leb}
+use Rattle.std.specs.Prelude.{◌≡◌, refl, Bool, true, false, ◌&&◌, List, ℕ, ◌^◌, ◌≤◌, ◌<◌, leb, length, Option, Some, None, Result, Ok, Err}
+use Rattle.std.specs.Option.{ok_or}
+use Rattle.std.specs.Result.{IsErr, IsErrAnd}
+use Rattle.std.proofs.Common.{sym, ap, ap₂, subst, ◌∙◌, arith, le-leb, leb→le, leb-false}
 use Rattle.std.proofs.lemmas.Bool.{lt-leb}
 use Rattle.bitcursor.specs.declared.Refusal.{Refusal}
 use Rattle.bitcursor.specs.declared.Refusal.TheVariants.{UnknownRelease, PayloadTooLong, ListTooShort}
 use Rattle.bitcursor.specs.declared.Refused.{Refused}
-use Rattle.loads.specs.Bits.{size, limit}
-use Rattle.bitcursor.specs.Reading.{Out, got, refused, place, and_then}
-use Rattle.bitcursor.specs.Format.{pure, ◌>>=◌, relay}
-use Rattle.bitcursor.specs.Inputs.{Places, Payloads, Onward}
-use Rattle.bitcursor.specs.Fields.{main, part_in, lifted, moved_in}
+use Rattle.loads.specs.Bits.{size, limit, within_limit}
+use Rattle.bitcursor.specs.Reading.{Out, got, refused, and_then, never}
+use Rattle.bitcursor.specs.Inputs.{Places, Payloads}
+use Rattle.bitcursor.specs.Fields.{main, string, lifted, moved_in}
 use Rattle.string_start.specs.Start.{start_in}
 use Rattle.text.specs.declared.version.Version.{Version}
-use Rattle.text.specs.Releases.{release_number, known, version_of}
+use Rattle.text.specs.Releases.{known_at, version_of}
 use Rattle.hatch_format.specs.declared.Caps.{Caps}
 use Rattle.hatch_format.specs.HandleRule.{Handles}
-use Rattle.hatch_format.specs.Values.{Rest as RestValue, Body}
-use Rattle.hatch_format.specs.Layouts.{GradientLaid}
+use Rattle.hatch_format.specs.Values.{Gradient, Rest as RestValue, Body}
 use Rattle.hatch_format.specs.Entries.{words, numbers}
 use Rattle.hatch_format.specs.Patterns.{rest}
-use Rattle.hatch_format.specs.Gradients.{gradient}
-use Rattle.hatch_format.proofs.Gradients.{gradient_to}
-use Rattle.hatch_format.specs.Hatch.{plane, hatch}
+use Rattle.hatch_format.specs.Hatch.{hatch}
 use Rattle.hatch_format.proofs.Starts.{on_start}
 use Rattle.hatch_format.specs.Call.{room_for, call_on}
-use Rattle.hatch_format.specs.Begins.{BL_begins, BD_begins}
+use Rattle.hatch_format.specs.Starts.{call_from}
 use Rattle.hatch_points.specs.Lists.{Lists, grow}
+use Rattle.hatch_points.proofs.Laws.{stays}
 use Rattle.hatch_rest.specs.Rests.{no_sizes, rest_entries}
 use Rattle.hatch_front.specs.declared.Front.{Front as CodeFront}
-use Rattle.hatch_front.specs.Fronts.{Front, front, named, whole, hatch_front}
-use Rattle.hatch_front.specs.Answers.{ColorsAt, front_of, FrontIs}
+use Rattle.hatch_front.specs.Fronts.{Front, front, whole, hatch_front}
+use Rattle.hatch_front.specs.Answers.{FillAt, num_colors, gradient_if, gradient_of, front_of, FrontIs}
 use Rattle.hatch_body.specs.declared.Parts.{Parts}
 use Rattle.hatch_body.specs.Parts.{placed, long_enough, parts_if, rest_read, laid_if, rest_lists}
 use Rattle.hatch_call.specs.Calls.{CallIs}
@@ -37,7 +36,7 @@ use Rattle.hatch_body.proofs.BodyLaws.{used_words, used_numbers, rest_range}
 
 -- ---- from the front's answer, what was read
 pub front_got : (xs : List ℕ) (o : Out Places Front) {f : CodeFront} {p : Places} → FrontIs xs o (Ok (f, p))
-    → (a : Front) × (at : ℕ) × (o ≡ got a p) × (f ≡ front_of at a) × ColorsAt xs at a.gradient.colors
+    → (a : Front) × (at : ℕ) × (o ≡ got a p) × (f ≡ front_of at a) × FillAt xs at a.gradient
 front_got xs (got a q) {f} {p} e =
     let i : got f p ≡ got (front_of e.0 a) q = e.1 in
     let ep : q ≡ p = cc in
@@ -59,27 +58,9 @@ front_refused xs (refused j q) {e} h =
     let ep : q ≡ e.place = cc in
     ap₂ refused ej ep
 
--- the rest starts within the main payload: the front's first field is a code of two bits at least
-pub front_within : (caps : Caps) (v : Version) (γ : Payloads) (p : Places) {f : Front} {q : Places} → (front caps v).read γ p ≡ got f q
-    → q.main ≤ size γ.main
-unfolding front named gradient plane part_in relay ◌>>=◌ pure
-front_within caps v γ p {f} {q} e =
-    let l = (front caps v).sound γ f p q e in
-    let on : Onward γ p q = subst (λ (o : Out Places Front). Onward γ p (place o)) e ((front caps v).grows γ p) in
-    let laid = gradient_to caps.colors v (leb 3 (release_number v)) γ l.0 p l.1 l.2 in
-    let b : p.main < size γ.main = go l.0 l.1 (leb 3 (release_number v)) laid (first l.1 l.3.2) in
-    omega (arith, b, on.main.inside)
-  where
-    first : (r : Places) {s : Places} {a : _} → (named v).lays γ a r s → r.main < size γ.main
-    first r k = BD_begins γ.main _ r.main k.2.laid.0 k.2.laid.1
-
-    go : (a : _) (r : Places) (b : Bool) → GradientLaid caps.colors v b γ a p r → r.main < size γ.main → p.main < size γ.main
-    go a r true g h = let k = g.2.1 in BL_begins γ.main g.0.flag p.main k.laid.0 k.laid.1
-    go a r false g h = subst (λ (s : Places). s.main < size γ.main) g.1 h
-
 -- ---- the rest behind the front
 module _ {N : Type 0} (of : ℕ → N) (caps : Caps) (handles : Handles) (v : Version) (γ : Payloads) (f : Front) (at : ℕ) (q : Places) (nw nn : ℕ)
-    (within : length γ.main ≤ limit) (colors : ColorsAt γ.main at f.gradient.colors) where
+    (within : length γ.main ≤ limit) (fill : FillAt γ.main at f.gradient) where
   abbrev body : RestValue → Body
   body a = record { gradient = f.gradient; plane = f.plane; name = f.name; rest = a }
 
@@ -89,10 +70,17 @@ module _ {N : Type 0} (of : ℕ → N) (caps : Caps) (handles : Handles) (v : Ve
   abbrev behind : Out ℕ RestValue → Out Places Body
   behind o = room_for nw nn (and_then (lifted main q o) (λ b r. got (body b) r))
 
+  few : (g : Gradient) → length g.colors ≤ 16 → num_colors (gradient_of at g) ≤ 16
+  few g h = go g.present
+    where
+      go : (b : Bool) → num_colors (gradient_if b at g) ≤ 16
+      go true = h
+      go false = omega arith
+
   answered : (l : Lists N) (a : RestValue) (t : ℕ) → (a.tail.pattern_style < 2 ^ 16) × (a.tail.pattern_type < 2 ^ 16) → (b : Bool)
       → CallIs of γ.main (elim b [ true ↦ got (body a) (moved_in main q t) | false ↦ refused ListTooShort (moved_in main q t) ]) l (laid_if of b l a)
       (parts_if b (front_of at f) a (placed q t))
-  answered l a t small true = record { body = (at, refl, colors); readable = (within, (colors.few, small)); lists = refl }
+  answered l a t small true = record { body = (at, refl, fill); readable = (within, (few f.gradient fill.colors.few, small)); lists = refl }
   answered l a t small false = record { body = refl; readable = tt; lists = refl }
 
   pub behind_is : (l : Lists N) (p : ℕ) (o : Out ℕ RestValue) → (rest caps handles v).read γ.main p ≡ o
@@ -133,24 +121,37 @@ module _ {N : Type 0} (of : ℕ → N) (caps : Caps) (handles : Handles) (v : Ve
       hatch_front caps handles v γ p ∙ ap (λ (y : Out Places Front). and_then y (whole caps handles v γ)) none in
       rw read (record { body = refl; readable = tt; lists = refl })
 
-pub body_starts : (caps : Caps) (v : Version) (γ : Payloads) (p : Places) (f : CodeFront) (c : Places)
-    → FrontIs γ.main ((front caps v).read γ p) (Ok (f, c)) → c.main ≤ 8 * length γ.main
-body_starts caps v γ p f c e = let t = front_got γ.main ((front caps v).read γ p) e in front_within caps v γ p t.2
-
 -- ---- the release, from what its number was taken to be
-pub known_version : (release : ℕ) {v : Version} → Ok v ≡ known (version_of release) → version_of release ≡ Some v
-known_version release {v} e = go (version_of release) e
+pub known_version : (release : ℕ) (p : Places) {v : Version} → Ok v ≡ known_at (version_of release) p → version_of release ≡ Some v
+known_version release p {v} e = go (version_of release) e
   where
-    go : (m : Option Version) → Ok v ≡ known m → m ≡ Some v
+    go : (m : Option Version) → Ok v ≡ known_at m p → m ≡ Some v
     go (Some w) i = let same : v ≡ w = cc in ap Some (sym same)
     go None i = let z : ◌≡◌ {A = ℕ} 0 1 = cc in absurd (omega arith)
 
-pub unknown_version : (release : ℕ) {k : Refusal} → Err k ≡ known (version_of release) → version_of release ≡ None
-unknown_version release {k} e = go (version_of release) e
+pub unknown_version : (release : ℕ) (p : Places) {e : Refused Places} → Err e ≡ known_at (version_of release) p
+    → (version_of release ≡ None) × (e ≡ record { refusal = UnknownRelease; place = p })
+unknown_version release p {e} h = go (version_of release) h
   where
-    go : (m : Option Version) → Err k ≡ known m → m ≡ None
+    go : (m : Option Version) → Err e ≡ known_at m p → (m ≡ None) × (e ≡ record { refusal = UnknownRelease; place = p })
     go (Some w) i = let z : ◌≡◌ {A = ℕ} 0 1 = cc in absurd (omega arith)
-    go None i = refl
+    go None i = (refl, cc)
+
+-- ---- a payload, from what its bytes were taken to be
+module _ (xs : List ℕ) {o : Option (List ℕ)} (made : o ≡ within_limit xs) (d : Refused Places) where
+  pub payload_is : {ys : List ℕ} → Ok ys ≡ ok_or o d → (ys ≡ xs) × (length xs ≤ limit)
+  payload_is {ys} h = go (leb (length xs) limit) refl (h ∙ ap (λ (m : Option (List ℕ)). ok_or m d) made)
+    where
+      go : (b : Bool) → leb (length xs) limit ≡ b → Ok ys ≡ ok_or (elim b [ true ↦ Some xs | false ↦ None ]) d → (ys ≡ xs) × (length xs ≤ limit)
+      go true e i = (cc, leb→le (length xs) limit (rw e tt))
+      go false e i = let z : ◌≡◌ {A = ℕ} 0 1 = cc in absurd (omega arith)
+
+  pub payload_long : {e : Refused Places} → Err e ≡ ok_or o d → (e ≡ d) × (limit < length xs)
+  payload_long {e} h = go (leb (length xs) limit) refl (h ∙ ap (λ (m : Option (List ℕ)). ok_or m d) made)
+    where
+      go : (b : Bool) → leb (length xs) limit ≡ b → Err e ≡ ok_or (elim b [ true ↦ Some xs | false ↦ None ]) d → (e ≡ d) × (limit < length xs)
+      go true f i = let z : ◌≡◌ {A = ℕ} 0 1 = cc in absurd (omega arith)
+      go false f i = (cc, leb-false (length xs) limit f)
 
 -- ---- the tests in front
 module _ (caps : Caps) (handles : Handles) (nw nn : ℕ) (γ : Payloads) (p : Places) (release : ℕ) where
@@ -172,18 +173,37 @@ module _ (caps : Caps) (handles : Handles) (nw nn : ℕ) (γ : Payloads) (p : Pl
 
     -- the last test: where the string reader stands, from which the body is read, or why it stands nowhere
     module _ (f : length γ.main ≤ limit) (g : length γ.string ≤ limit) where
-      pub not_started : {k : Refusal} {q : ℕ} → start_in (size γ.string) p.string ≡ refused k q
-          → call ≡ refused k (record { main = p.main; string = q })
-      not_started h = on_start caps handles nw nn γ p release ∙ rw (e, le-leb _ _ f, le-leb _ _ g, h)
+      abbrev stands : Out Places (Unit {0})
+      stands = lifted string p (start_in (size γ.string) p.string)
 
-      pub started : {q : ℕ} → start_in (size γ.string) p.string ≡ got tt q
-          → call ≡ room_for nw nn ((hatch caps handles v).read γ (record { main = p.main; string = q }))
-      started h = on_start caps handles nw nn γ p release ∙ rw (e, le-leb _ _ f, le-leb _ _ g, h)
+      abbrev from_start : Out ℕ (Unit {0}) → Out Places Body
+      from_start o = call_from caps handles nw nn γ p (Some v) true true o
 
--- a call that is refused before its fields
-pub refused_is : {N : Type 0} (of : ℕ → N) (xs : List ℕ) {o : Out Places Body} {k : Refusal} {p : Places} (l : Lists N) {r : Result Parts (Refused Places)}
-    → o ≡ refused k p → r ≡ Err (record { refusal = k; place = p }) → CallIs of xs o l l r
-refused_is of xs l e i = rw (e, i) (record { body = refl; readable = tt; lists = refl })
+      by_start : call ≡ from_start (start_in (size γ.string) p.string)
+      by_start = on_start caps handles nw nn γ p release ∙ rw (e, le-leb _ _ f, le-leb _ _ g)
+
+      pub not_started : {d : Refused Places} → refused d.refusal d.place ≡ stands → call ≡ refused d.refusal d.place
+      not_started {d} h = by_start ∙ go (start_in (size γ.string) p.string) h
+        where
+          go : (o : Out ℕ (Unit {0})) → refused d.refusal d.place ≡ lifted string p o → from_start o ≡ refused d.refusal d.place
+          go (got u q) i = never i
+          go (refused k q) i =
+              let why : k ≡ d.refusal = cc in
+              let at : moved_in string p q ≡ d.place = cc in
+              ap₂ refused why at
+
+      pub started : {q : Places} → got tt q ≡ stands → call ≡ room_for nw nn ((hatch caps handles v).read γ q)
+      started {q} h = by_start ∙ go (start_in (size γ.string) p.string) h
+        where
+          go : (o : Out ℕ (Unit {0})) → got tt q ≡ lifted string p o → from_start o ≡ room_for nw nn ((hatch caps handles v).read γ q)
+          go (got u n) i = let at : moved_in string p n ≡ q = cc in ap (λ (r : Places). room_for nw nn ((hatch caps handles v).read γ r)) at
+          go (refused k n) i = never (sym i)
+
+-- a call that is refused before its fields, by a `?`
+pub refused_is : {N : Type 0} (of : ℕ → N) (xs : List ℕ) {o : Out Places Body} {k : Refusal} {p : Places} (l : Lists N) (r : Result Parts (Refused Places))
+    {e : Refused Places} → o ≡ refused k p → e ≡ record { refusal = k; place = p } → IsErr r × IsErrAnd r (λ d. d ≡ e) → CallIs of xs o l l r
+refused_is of xs {o} {k} {p} l r h i m =
+    stays (λ (u : Result Parts (Refused Places)). CallIs of xs o l l u) r m (rw (h, i) (record { body = refl; readable = tt; lists = refl }))
 
 pub call_as : {N : Type 0} (of : ℕ → N) (xs : List ℕ) {o o' : Out Places Body} {u : Result Parts (Refused Places)} (l : Lists N) {l' : Lists N} → o ≡ o'
     → CallIs of xs o' l l' u → CallIs of xs o l l' u

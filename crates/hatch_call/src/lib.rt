@@ -3,8 +3,11 @@
 // specs/ promise the body's parts or the refusal, and the lists afterwards, as hatch_format's `call_on` reads them.
 #![tactic(auto)]
 
-ghost use Rattle.std.specs.Prelude.{◌≤◌, length};
-ghost use Rattle.loads.specs.Bits.{limit};
+ghost use Rattle.std.specs.Prelude.{◌≡◌};
+ghost use Rattle.loads.specs.Bits.{size};
+ghost use Rattle.bitcursor.specs.Answers.{passing};
+ghost use Rattle.bitcursor.specs.Fields.{lifted, string};
+ghost use Rattle.string_start.specs.Start.{start_in};
 ghost use Rattle.text.specs.Answers.{payloads_to};
 ghost use Rattle.hatch_format.specs.Caps.{document_caps, NowhereAbove};
 ghost use Rattle.hatch_format.specs.HandleRule.{in_payload};
@@ -14,30 +17,48 @@ ghost use Rattle.hatch_points.specs.Lists.{lists};
 ghost use Rattle.hatch_call.specs.Calls.{CallIs};
 
 use bitcursor::values::Number;
-use bitcursor::{Places, Refusal, refuse};
+use bitcursor::{Payload, Places, Refusal, Refused};
 use hatch_body::{BodyRead, Room};
 use hatch_format::Caps;
+use hatch_paths::Rules;
+use text::Payloads;
 use text::version::Version;
 
-// A body of a known release, of payloads within the limit.
+// A body of a known release.
 fn read_body<N: Number>(
-    main: &[u8],
-    string: &[u8],
+    payloads: &Payloads,
     at: Places,
-    reader: Option<usize>,
-    v: Version,
-    caps: Caps,
+    rules: Rules,
     room: Room,
     numbers: &mut [N],
     words: &mut [u32],
 ) -> BodyRead
-    requires { (length main.now ≤ limit) × ((length string.now ≤ limit) × NowhereAbove caps document_caps) }
-    ensures { CallIs N.of_bits main.now (room_for room.words room.numbers
-        ((hatch caps in_payload v).read (payloads_to main.now string.now reader) at))
+    ensures { CallIs N.of_bits payloads.now.main (room_for room.words room.numbers
+        ((hatch rules.caps in_payload rules.version).read payloads.now at))
         (lists numbers.old words.old) (lists numbers.new words.new) result }
 {
-    let (front, p) = hatch_front::read_front(main, string, at, reader, v, caps)?;
-    hatch_body::fill_rest(main, p, v, caps, front, room, numbers, words)
+    // Of the main payload colours are read again, so that it is promised to be within the limit, as a size is.
+    let _ = payloads.main.size();
+    let (front, p) = hatch_front::read_front(payloads, at, rules.version, rules.caps)?;
+    hatch_body::fill_rest(&payloads.main, p, rules, front, room, numbers, words)
+}
+
+// The places with the string reader at its start, or why it stands nowhere.
+fn standing(strings: &Payload, at: Places) -> Result<Places, Refused<Places>>
+    ensures { passing result ≡ lifted string at (start_in (size strings.now) at.string) }
+{
+    let main = at.main;
+    let place = string_start::start_in(strings.size(), at.string).map_err(|e| Refused {
+        refusal: e.refusal,
+        place: Places {
+            main,
+            string: e.place,
+        },
+    })?;
+    Ok(Places {
+        main,
+        string: place,
+    })
 }
 
 // A call on any input: refusal 9, then 10 of either payload, then a string start past its payload, then the body, read with the
@@ -58,36 +79,18 @@ pub fn read_call<N: Number>(
         (payloads_to main.now string.now reader) at release)
         (lists numbers.old words.old) (lists numbers.new words.new) result }
 {
-    let Ok(v) = Version::try_from(release) else {
-        return refuse(Refusal::UnknownRelease, at);
+    let too_long = Refused {
+        refusal: Refusal::PayloadTooLong,
+        place: at,
     };
-    if bitcursor::LIMIT < main.len() {
-        return refuse(Refusal::PayloadTooLong, at);
-    }
-    if bitcursor::LIMIT < string.len() {
-        return refuse(Refusal::PayloadTooLong, at);
-    }
-    match string_start::start_in(string.len(), at.string) {
-        Ok(q) => read_body(
-            main,
-            string,
-            Places {
-                main: at.main,
-                string: q,
-            },
-            reader,
-            v,
-            caps,
-            room,
-            numbers,
-            words,
-        ),
-        Err(e) => refuse(
-            e.refusal,
-            Places {
-                main: at.main,
-                string: e.place,
-            },
-        ),
-    }
+    let version = Version::known_at(release, at)?;
+    let main = Payload::new(main).ok_or(too_long)?;
+    let string = Payload::new(string).ok_or(too_long)?;
+    let at = standing(&string, at)?;
+    let payloads = Payloads {
+        main,
+        string,
+        reader,
+    };
+    read_body(&payloads, at, Rules { caps, version }, room, numbers, words)
 }

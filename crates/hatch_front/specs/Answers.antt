@@ -1,5 +1,5 @@
 -- What the functions that read a front answer. Colours are not answered but where they stand, from where they can be read again. Assumes nothing.
-use Rattle.std.specs.Prelude.{◌≡◌, true, false, List, [], ℕ, ◌≤◌, eqb, length, Result}
+use Rattle.std.specs.Prelude.{◌≡◌, Bool, true, false, List, [], ℕ, ◌≤◌, eqb, length, Option, Some, None, Result}
 use Rattle.bitcursor.specs.declared.Refused.{Refused}
 use Rattle.bitcursor.specs.Reading.{Out, got, refused}
 use Rattle.bitcursor.specs.Inputs.{Places}
@@ -33,10 +33,15 @@ pub record ColorsAt (xs : List ℕ) (at : ℕ) (cs : List GradientColorBits) : T
   pub end : ℕ
   pub read : (times (length cs) color).read xs at ≡ got cs end
 
+-- the same of a gradient, of which there is nothing where it is absent
+pub record FillAt (xs : List ℕ) (at : ℕ) (a : GradientValue) : Type 0 where
+  pub colors : ColorsAt xs at a.colors
+  pub absent : a.present ≡ false → a ≡ no_gradient
+
 -- what is handed over of what was read: its colours stand from some place on
-abbrev pub Handed : {A B P : Type 0} → (ℕ → A → B) → (A → List GradientColorBits) → List ℕ → Out P A → Out P B → Type 0
-Handed hand colors xs (got a p) o = (at : ℕ) × (o ≡ got (hand at a) p) × ColorsAt xs at (colors a)
-Handed hand colors xs (refused k p) o = o ≡ refused k p
+abbrev pub Handed : {A B P : Type 0} → (ℕ → A → B) → (ℕ → A → Type 0) → Out P A → Out P B → Type 0
+Handed hand Stand (got a p) o = (at : ℕ) × (o ≡ got (hand at a) p) × Stand at a
+Handed hand Stand (refused k p) o = o ≡ refused k p
 
 -- ---- the block in front of a gradient's name
 abbrev pub block_of : ℕ → BlockValue → Block
@@ -52,10 +57,9 @@ block_of at b =
     }
 
 -- ---- the gradient
-abbrev pub gradient_of : ℕ → GradientValue → Gradient
-gradient_of at a =
-    record {
-      present = a.present;
+abbrev pub gradient_if : Bool → ℕ → GradientValue → Option Gradient
+gradient_if true at a =
+    Some (record {
       angle = a.angle;
       shift = a.shift;
       is_single_color = a.single_color;
@@ -63,19 +67,24 @@ gradient_of at a =
       num_colors = length a.colors;
       colors_at = at;
       name = a.name;
-    }
+    })
+gradient_if false at a = None
 
-abbrev pub no_gradient_read : Gradient
-no_gradient_read = gradient_of 0 no_gradient
+abbrev pub gradient_of : ℕ → GradientValue → Option Gradient
+gradient_of at a = gradient_if a.present at a
+
+-- how many colours it has, none where there is none
+abbrev pub num_colors : Option Gradient → ℕ
+num_colors (Some g) = g.num_colors
+num_colors None = 0
 
 -- what is handed over of a block that was read, with its name: nothing where its flag is 0
-abbrev pub shown_of : Block → Text → Gradient
+abbrev pub shown_of : Block → Text → Option Gradient
 shown_of b name =
     elim (eqb b.flag 0) [
-      | true ↦ no_gradient_read
+      | true ↦ None
       | false ↦
-          record {
-            present = true;
+          Some (record {
             angle = b.angle;
             shift = b.shift;
             is_single_color = b.single_color;
@@ -83,7 +92,7 @@ shown_of b name =
             num_colors = b.num_colors;
             colors_at = b.colors_at;
             name = name;
-          }
+          })
     ]
 
 -- ---- the plane
@@ -95,4 +104,4 @@ abbrev pub front_of : ℕ → FrontValue → Front
 front_of at a = record { gradient = gradient_of at a.gradient; plane = plane_as a.plane; name = a.name }
 
 abbrev pub FrontIs : List ℕ → Out Places FrontValue → Result (Front × Places) (Refused Places) → Type 0
-FrontIs xs read r = Handed front_of (λ a. a.gradient.colors) xs read (outcome r)
+FrontIs xs read r = Handed front_of (λ at a. FillAt xs at a.gradient) read (outcome r)

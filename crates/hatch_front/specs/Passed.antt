@@ -1,5 +1,5 @@
 -- The parts of a front as they are read: field by field, with the colours passed over and the place where they stand kept. Assumes nothing.
-use Rattle.std.specs.Prelude.{Bool, true, false, ℕ, leb}
+use Rattle.std.specs.Prelude.{Bool, true, false, ℕ, leb, Option, None}
 use Rattle.bitcursor.specs.Codes.{BL}
 use Rattle.bitcursor.specs.Doubles.{BD}
 use Rattle.bitcursor.specs.Format.{Format, pure, ◌>>=◌, peek}
@@ -15,7 +15,7 @@ use Rattle.hatch_format.specs.Hatch.{plane}
 use Rattle.hatch_front.specs.declared.Gradient.{Gradient}
 use Rattle.hatch_front.specs.declared.Front.{Front}
 use Rattle.hatch_front.specs.declared.gradients.Block.{Block}
-use Rattle.hatch_front.specs.Answers.{no_gradient_read, shown_of, plane_as}
+use Rattle.hatch_front.specs.Answers.{shown_of, plane_as}
 
 -- a format's reading with its value forgotten
 unfoldable pub passed : {A : Type 0} → Format one A → Format one (Unit {0})
@@ -36,12 +36,12 @@ block_passed cap = do
   pure (record { flag = flag; angle = angle; shift = shift; single_color = single; tint = tint; num_colors = n; colors_at = at })
 
 -- ---- the gradient: the block and the name; releases 1 and 2 have neither
-unfoldable pub gradient_passed : ℕ → Version → Bool → Format both Gradient
+unfoldable pub gradient_passed : ℕ → Version → Bool → Format both (Option Gradient)
 gradient_passed cap v true = do
   b ← part_in main (block_passed cap)
   name ← TV_field v
   pure (shown_of b name)
-gradient_passed cap v false = pure no_gradient_read
+gradient_passed cap v false = pure None
 
 -- ---- the front
 unfoldable pub front_passed : Caps → Version → Format both Front

@@ -3,13 +3,13 @@ ghost use Rattle.std.specs.Prelude.{◌≡◌, ◌≤◌, leb};
 ghost use Rattle.bitcursor.specs.Answers.{outcome};
 ghost use Rattle.text.specs.Releases.{release_number};
 ghost use Rattle.hatch_front.specs.Passed.{block_passed, gradient_passed};
-ghost use Rattle.hatch_front.specs.Answers.{no_gradient_read, shown_of};
+ghost use Rattle.hatch_front.specs.Answers.{shown_of};
 
 use crate::{Gradient, colors};
 use bitcursor::{Payload, Places, Reading, within};
 use hatch_points::counts;
 use text::version::Version;
-use text::{Payloads, Source, Text};
+use text::{Payloads, Text};
 
 // The fields of a gradient in front of its name, without its colours, which stand from `colors_at` on.
 #[derive(Clone, Copy, Debug, PartialEq, Eq)]
@@ -50,36 +50,14 @@ fn read_block(s: &Payload, at: usize, cap: usize) -> Reading<Block>
     Ok((block, q))
 }
 
-fn no_gradient() -> Gradient
-    ensures { result ≡ no_gradient_read }
-{
-    Gradient {
-        present: false,
-        angle: 0,
-        shift: 0,
-        is_single_color: 0,
-        tint: 0,
-        num_colors: 0,
-        colors_at: 0,
-        name: Text {
-            source: Source::Absent,
-            width: 0,
-            position: 0,
-            count: 0,
-            padded: false,
-        },
-    }
-}
-
 // What is handed over of a block and its name: nothing where its flag is 0.
-fn shown(b: Block, name: Text) -> Gradient
+fn shown(b: Block, name: Text) -> Option<Gradient>
     ensures { result ≡ shown_of b name }
 {
     if b.flag == 0 {
-        return no_gradient();
+        return None;
     }
-    Gradient {
-        present: true,
+    Some(Gradient {
         angle: b.angle,
         shift: b.shift,
         is_single_color: b.single_color,
@@ -87,7 +65,7 @@ fn shown(b: Block, name: Text) -> Gradient
         num_colors: b.num_colors,
         colors_at: b.colors_at,
         name,
-    }
+    })
 }
 
 // The gradient: its block and its name are read with flag 0 too; releases 1 and 2 have neither.
@@ -97,12 +75,12 @@ pub fn decode_gradient(
     at: Places,
     v: Version,
     cap: usize,
-) -> Reading<Gradient, Places>
+) -> Reading<Option<Gradient>, Places>
     requires { cap ≤ 16 }
     ensures { outcome result ≡ (gradient_passed cap v (leb 3 (release_number v))).read payloads.now at }
 {
     if !v.is_from(Version::R2004) {
-        return Ok((no_gradient(), at));
+        return Ok((None, at));
     }
     let (block, p) = at.after_main(read_block(&payloads.main, at.main, cap))?;
     let (name, q) = text::within::read_tv_field(payloads, p, v)?;

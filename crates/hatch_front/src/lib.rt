@@ -17,10 +17,9 @@ use text::{Payloads, Text};
 pub mod colors;
 mod gradients;
 
-// A gradient without its colours, which stand from `colors_at` on; zero throughout where there is none, as document 01 has it.
+// A gradient without its colours, which stand from `colors_at` on.
 #[derive(Clone, Copy, Debug, PartialEq, Eq)]
 pub struct Gradient {
-    pub present: bool,
     pub angle: u64,
     pub shift: u64,
     pub is_single_color: u32,
@@ -40,7 +39,7 @@ pub struct Plane {
 
 #[derive(Clone, Copy, Debug, PartialEq, Eq)]
 pub struct Front {
-    pub gradient: Gradient,
+    pub gradient: Option<Gradient>,
     pub plane: Plane,
     pub name: Text,
 }

@@ -6,7 +6,8 @@ ghost use Rattle.std.proofs.lemmas.List.Edits.{sets};
 ghost use Rattle.loads.specs.Bits.{bit};
 ghost use Rattle.bitcursor.specs.Answers.{outcome};
 ghost use Rattle.hatch_paths.specs.PathWalks.{bit_walk, curve_walk, fitted_raw, fits_walk, spline_lists_walk, spline_walk, edge_of_walk, edge_walk};
-ghost use Rattle.hatch_points.specs.Lists.{lists, Ready, Walks, WordWalks};
+ghost use Rattle.hatch_points.specs.Lists.{Ready, WordWalks};
+ghost use Rattle.hatch_points.specs.Lent.{LentWalks};
 ghost use Rattle.hatch_paths.specs.Splines.{spline_head};
 ghost use Rattle.hatch_paths.specs.Fits.{has_fits};
 
@@ -14,7 +15,7 @@ use crate::Rules;
 use bitcursor::values::Number;
 use bitcursor::{Payload, Reading, Refusal, refuse, within};
 use hatch_format::Caps;
-use hatch_points::lists::Sizes;
+use hatch_points::lists::{Lent, Sizes};
 use hatch_points::turns::Turn;
 use hatch_points::{counts, lists, runs, vertices};
 use text::version::Version;
@@ -34,20 +35,18 @@ fn decode_curve<N: Number>(
     s: &Payload,
     at: usize,
     n: usize,
-    numbers: &mut [N],
-    words: &mut [u32],
+    lent: &mut Lent<N>,
     used: Sizes,
 ) -> Reading<Sizes>
     requires { Ready s.now at used × (n < 2 ^ 32) }
-    ensures { Walks N.of_bits s.now ((curve_walk n).read s.now at)
-        (lists numbers.old words.old) used (lists numbers.new words.new) result }
+    ensures { LentWalks N.of_bits s.now ((curve_walk n).read s.now at) lent.old used lent.new result }
 {
-    let (used, p) = runs::raw_run(s, at, n, numbers, used)?;
-    let (used, p) = runs::double_run(s, p, 3, numbers, used)?;
-    put_bit(s, p, words, used)
+    let (used, p) = runs::raw_run(s, at, n, lent.numbers, used)?;
+    let (used, p) = runs::double_run(s, p, 3, lent.numbers, used)?;
+    put_bit(s, p, lent.words, used)
 }
 
-// A bit that goes to the words.
+// A bit that goes to the words. Lent the words alone: all of Lent would ask its caller for numbers that it never touches.
 fn put_bit(s: &Payload, at: usize, words: &mut [u32], used: Sizes) -> Reading<Sizes>
     requires { Ready s.now at used }
     ensures { WordWalks s.now (bit_walk.read s.now at) words.old used words.new result }
@@ -62,20 +61,24 @@ fn decode_fits<N: Number>(
     s: &Payload,
     at: usize,
     rules: Rules,
-    numbers: &mut [N],
-    words: &mut [u32],
+    lent: &mut Lent<N>,
     used: Sizes,
 ) -> Reading<Sizes>
     requires { Ready s.now at used × (used.words + 1 ≤ at) }
-    ensures { Walks N.of_bits s.now ((fits_walk rules.caps.fit_points (has_fits rules.version)).read s.now at)
-        (lists numbers.old words.old) used (lists numbers.new words.new) result }
+    ensures { LentWalks N.of_bits s.now ((fits_walk rules.caps.fit_points (has_fits rules.version)).read s.now at) lent.old used lent.new result }
 {
     if rules.version.is_from(Version::R2010) {
         let (n, p) = counts::read_count(s, at, rules.caps.fit_points)?;
-        lists::put_word(words, used.words, n);
-        return runs::raw_run(s, p, fitted_raw(n as usize), numbers, used.with_words(1));
+        lists::put_word(lent.words, used.words, n);
+        return runs::raw_run(
+            s,
+            p,
+            fitted_raw(n as usize),
+            lent.numbers,
+            used.with_words(1),
+        );
     }
-    lists::put_word(words, used.words, 0);
+    lists::put_word(lent.words, used.words, 0);
     Ok((used.with_words(1), at))
 }
 
@@ -96,24 +99,23 @@ fn decode_spline_lists<N: Number>(
     at: usize,
     head: SplineHead,
     rules: Rules,
-    numbers: &mut [N],
-    words: &mut [u32],
+    lent: &mut Lent<N>,
     used: Sizes,
 ) -> Reading<Sizes>
     requires { Ready s.now at used × ((used.words + 1 ≤ at) × (head.controls < 2 ^ 31)) }
-    ensures { Walks N.of_bits s.now ((spline_lists_walk rules.caps (has_fits rules.version) head.rational head.knots head.controls).read s.now at)
-        (lists numbers.old words.old) used (lists numbers.new words.new) result }
+    ensures { LentWalks N.of_bits s.now ((spline_lists_walk rules.caps (has_fits rules.version) head.rational head.knots head.controls).read s.now at)
+        lent.old used lent.new result }
 {
-    let (used, p) = runs::double_run(s, at, head.knots as usize, numbers, used)?;
+    let (used, p) = runs::double_run(s, at, head.knots as usize, lent.numbers, used)?;
     let (used, p) = vertices::decode_points(
         s,
         p,
         head.controls as usize,
         head.rational,
-        numbers,
+        lent.numbers,
         used,
     )?;
-    decode_fits(s, p, rules, numbers, words, used)
+    decode_fits(s, p, rules, lent, used)
 }
 
 // The fields of a spline in front of its lists: both counts are tested before any knot is read.
@@ -154,17 +156,15 @@ fn decode_spline_edge<N: Number>(
     s: &Payload,
     at: usize,
     rules: Rules,
-    numbers: &mut [N],
-    words: &mut [u32],
+    lent: &mut Lent<N>,
     used: Sizes,
 ) -> Reading<Sizes>
     requires { Ready s.now at used }
-    ensures { Walks N.of_bits s.now ((spline_walk rules.caps (has_fits rules.version)).read s.now at)
-        (lists numbers.old words.old) used (lists numbers.new words.new) result }
+    ensures { LentWalks N.of_bits s.now ((spline_walk rules.caps (has_fits rules.version)).read s.now at) lent.old used lent.new result }
 {
     let (head, p) = read_spline_head(s, at, rules.caps)?;
-    put_spline_head(words, used.words, head);
-    decode_spline_lists(s, p, head, rules, numbers, words, used.with_words(5))
+    put_spline_head(lent.words, used.words, head);
+    decode_spline_lists(s, p, head, rules, lent, used.with_words(5))
 }
 
 // What follows an edge's kind. The kinds are document 01's numbers: an enum of them would be made here and matched here, and its refusal
@@ -175,19 +175,17 @@ fn decode_edge_of<N: Number>(
     at: usize,
     kind: u64,
     rules: Rules,
-    numbers: &mut [N],
-    words: &mut [u32],
+    lent: &mut Lent<N>,
     used: Sizes,
 ) -> Reading<Sizes>
     requires { Ready s.now at used }
-    ensures { Walks N.of_bits s.now ((edge_of_walk rules.caps (has_fits rules.version) kind).read s.now at)
-        (lists numbers.old words.old) used (lists numbers.new words.new) result }
+    ensures { LentWalks N.of_bits s.now ((edge_of_walk rules.caps (has_fits rules.version) kind).read s.now at) lent.old used lent.new result }
 {
     match kind {
-        1 => runs::raw_run(s, at, 4, numbers, used),
-        2 => decode_curve(s, at, 2, numbers, words, used),
-        3 => decode_curve(s, at, 4, numbers, words, used),
-        4 => decode_spline_edge(s, at, rules, numbers, words, used),
+        1 => runs::raw_run(s, at, 4, lent.numbers, used),
+        2 => decode_curve(s, at, 2, lent, used),
+        3 => decode_curve(s, at, 4, lent, used),
+        4 => decode_spline_edge(s, at, rules, lent, used),
         _ => refuse(Refusal::EdgeKind, at),
     }
 }
@@ -203,12 +201,11 @@ impl Turn for Edge {
         self,
         s: &Payload,
         at: usize,
-        numbers: &mut [N],
-        words: &mut [u32],
+        lent: &mut Lent<N>,
         used: Sizes,
     ) -> Reading<Sizes> {
         let (kind, p) = within::read_low(s, at, 1)?;
-        lists::put_word(words, used.words, kind);
-        decode_edge_of(s, p, kind, self.0, numbers, words, used.with_words(1))
+        lists::put_word(lent.words, used.words, kind);
+        decode_edge_of(s, p, kind, self.0, lent, used.with_words(1))
     }
 }

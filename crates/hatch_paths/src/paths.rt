@@ -5,14 +5,15 @@ ghost use Rattle.std.specs.Prelude.{◌≡◌, [], ◌∷◌, ◌+◌, ◌/◌, 
 ghost use Rattle.std.proofs.lemmas.List.Edits.{sets};
 ghost use Rattle.loads.specs.Bits.{bit, odd};
 ghost use Rattle.hatch_paths.specs.PathWalks.{polyline_walk, edges_walk, segments_walk, handles_walk, after_flags_walk, path_walk};
-ghost use Rattle.hatch_points.specs.Lists.{lists, Ready, Walks, WordWalks};
+ghost use Rattle.hatch_points.specs.Lists.{Ready, WordWalks};
+ghost use Rattle.hatch_points.specs.Lent.{LentWalks};
 ghost use Rattle.hatch_paths.specs.Fits.{has_fits};
 
 use crate::Rules;
 use crate::edges::Edge;
 use bitcursor::values::Number;
 use bitcursor::{Payload, Reading, within};
-use hatch_points::lists::Sizes;
+use hatch_points::lists::{Lent, Sizes};
 use hatch_points::turns::Turn;
 use hatch_points::{counts, lists, turns, vertices};
 
@@ -30,44 +31,32 @@ fn decode_polyline_path<N: Number>(
     s: &Payload,
     at: usize,
     rules: Rules,
-    numbers: &mut [N],
-    words: &mut [u32],
+    lent: &mut Lent<N>,
     used: Sizes,
 ) -> Reading<Sizes>
     requires { Ready s.now at used }
-    ensures { Walks N.of_bits s.now ((polyline_walk rules.caps).read s.now at)
-        (lists numbers.old words.old) used (lists numbers.new words.new) result }
+    ensures { LentWalks N.of_bits s.now ((polyline_walk rules.caps).read s.now at) lent.old used lent.new result }
 {
     let (bulge, p) = within::read_flag(s, at)?;
     let (closed, q) = within::read_flag(s, p)?;
     let (n, r) = counts::read_count(s, q, rules.caps.vertices)?;
-    put_polyline_head(words, used.words, bulge, closed, n);
-    vertices::decode_points(s, r, n as usize, bulge, numbers, used.with_words(3))
+    put_polyline_head(lent.words, used.words, bulge, closed, n);
+    vertices::decode_points(s, r, n as usize, bulge, lent.numbers, used.with_words(3))
 }
 
 fn decode_edge_path<N: Number>(
     s: &Payload,
     at: usize,
     rules: Rules,
-    numbers: &mut [N],
-    words: &mut [u32],
+    lent: &mut Lent<N>,
     used: Sizes,
 ) -> Reading<Sizes>
     requires { Ready s.now at used }
-    ensures { Walks N.of_bits s.now ((edges_walk rules.caps (has_fits rules.version)).read s.now at)
-        (lists numbers.old words.old) used (lists numbers.new words.new) result }
+    ensures { LentWalks N.of_bits s.now ((edges_walk rules.caps (has_fits rules.version)).read s.now at) lent.old used lent.new result }
 {
     let (n, p) = counts::read_count(s, at, rules.caps.edges)?;
-    lists::put_word(words, used.words, n);
-    turns::repeat(
-        Edge(rules),
-        s,
-        p,
-        n as usize,
-        numbers,
-        words,
-        used.with_words(1),
-    )
+    lists::put_word(lent.words, used.words, n);
+    turns::repeat(Edge(rules), s, p, n as usize, lent, used.with_words(1))
 }
 
 #[tactic(auto, unfolding(crate::specs::PathWalks::segments_walk))]
@@ -76,18 +65,16 @@ fn decode_segments<N: Number>(
     at: usize,
     polyline: bool,
     rules: Rules,
-    numbers: &mut [N],
-    words: &mut [u32],
+    lent: &mut Lent<N>,
     used: Sizes,
 ) -> Reading<Sizes>
     requires { Ready s.now at used }
-    ensures { Walks N.of_bits s.now ((segments_walk rules.caps (has_fits rules.version) polyline).read s.now at)
-        (lists numbers.old words.old) used (lists numbers.new words.new) result }
+    ensures { LentWalks N.of_bits s.now ((segments_walk rules.caps (has_fits rules.version) polyline).read s.now at) lent.old used lent.new result }
 {
     if polyline {
-        return decode_polyline_path(s, at, rules, numbers, words, used);
+        return decode_polyline_path(s, at, rules, lent, used);
     }
-    decode_edge_path(s, at, rules, numbers, words, used)
+    decode_edge_path(s, at, rules, lent, used)
 }
 
 // A value in the flags, 2 or 4, as a test.
@@ -99,6 +86,7 @@ fn has_flag(flags: u64, value: u64) -> bool
 }
 
 // The count of boundary handles, behind a path's segments: the handles are not here.
+// Lent the words alone: all of Lent would ask its caller for numbers that it never touches.
 fn put_handle_count(
     s: &Payload,
     at: usize,
@@ -120,16 +108,14 @@ fn decode_after_flags<N: Number>(
     at: usize,
     polyline: bool,
     rules: Rules,
-    numbers: &mut [N],
-    words: &mut [u32],
+    lent: &mut Lent<N>,
     used: Sizes,
 ) -> Reading<Sizes>
     requires { Ready s.now at used }
-    ensures { Walks N.of_bits s.now ((after_flags_walk rules.caps (has_fits rules.version) polyline).read s.now at)
-        (lists numbers.old words.old) used (lists numbers.new words.new) result }
+    ensures { LentWalks N.of_bits s.now ((after_flags_walk rules.caps (has_fits rules.version) polyline).read s.now at) lent.old used lent.new result }
 {
-    let (used, p) = decode_segments(s, at, polyline, rules, numbers, words, used)?;
-    put_handle_count(s, p, rules, words, used)
+    let (used, p) = decode_segments(s, at, polyline, rules, lent, used)?;
+    put_handle_count(s, p, rules, lent.words, used)
 }
 
 // A path: its flags, a polyline where they say so and else edges, and its handle count.
@@ -143,16 +129,15 @@ impl Turn for Path {
         self,
         s: &Payload,
         at: usize,
-        numbers: &mut [N],
-        words: &mut [u32],
+        lent: &mut Lent<N>,
         used: Sizes,
     ) -> Reading<Sizes> {
         let (flags, p) = within::read_bl_u(s, at)?;
-        lists::put_word(words, used.words, flags);
+        lists::put_word(lent.words, used.words, flags);
         let used = Sizes {
             derived: used.derived | has_flag(flags, 4),
             ..used.with_words(1)
         };
-        decode_after_flags(s, p, has_flag(flags, 2), self.0, numbers, words, used)
+        decode_after_flags(s, p, has_flag(flags, 2), self.0, lent, used)
     }
 }

@@ -3,6 +3,7 @@ pub mod Walks
 pub mod Runs
 pub mod Gathers
 pub mod Lists
+pub mod Lent
 pub mod Stores
 pub mod Vertices
 pub mod Heads

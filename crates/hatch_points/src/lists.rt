@@ -1,6 +1,4 @@
 // The lent lists: how far they are used, and a store where there is room.
-// A walk takes the lists one by one. Most lend both, but a struct that borrows both would make each of those also promise that the references in it
-// are the same ones afterwards, without which a caller learns nothing of what was stored.
 ghost use Rattle.std.specs.Prelude.{◌≡◌, ◌+◌, ◌^◌, ◌<◌, set};
 ghost use Rattle.hatch_points.specs.Lists.{with_numbers, with_words};
 
@@ -36,6 +34,14 @@ impl Sizes {
             ..self
         }
     }
+}
+
+// The two lists that a caller lends, which a walk fills.
+// No impl Model: its Value would hide which two references these are, and the caller that lends them could not say what was stored.
+#[derive(Drop)]
+pub struct Lent<'a, N> {
+    pub numbers: &'a mut [N],
+    pub words: &'a mut [u32],
 }
 
 pub fn put_number<N: Number>(numbers: &mut [N], at: usize, v: u64)

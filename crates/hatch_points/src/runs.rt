@@ -46,6 +46,7 @@ fn put_raw<N: Number>(s: &Payload, at: usize, n: usize, numbers: &mut [N], from:
 }
 
 // n RD: where there is nothing to store, one comparison, however many they are; and of none, as seed points mostly are, no more than that.
+// Lent the numbers alone: all of Lent would ask its callers for words that it never touches.
 pub fn raw_run<N: Number>(
     s: &Payload,
     at: usize,
@@ -113,6 +114,7 @@ fn pass_doubles(s: &Payload, at: usize, n: usize, used: Sizes) -> Reading<Sizes>
 }
 
 // n BD: stored so far as there is room, and passed from there on.
+// Lent the numbers alone, as `raw_run`.
 pub fn double_run<N: Number>(
     s: &Payload,
     at: usize,

@@ -2,9 +2,10 @@
 ghost use Rattle.bitcursor.specs.Format.{Format};
 ghost use Rattle.bitcursor.specs.Inputs.{one};
 ghost use Rattle.hatch_points.specs.Gathered.{Entries, repeated};
-ghost use Rattle.hatch_points.specs.Lists.{lists, Ready, Walks};
+ghost use Rattle.hatch_points.specs.Lists.{Ready};
+ghost use Rattle.hatch_points.specs.Lent.{LentWalks};
 
-use crate::lists::Sizes;
+use crate::lists::{Lent, Sizes};
 use bitcursor::values::Number;
 use bitcursor::{Payload, Reading};
 
@@ -17,13 +18,11 @@ pub trait Turn: Copy {
         self,
         s: &Payload,
         at: usize,
-        numbers: &mut [N],
-        words: &mut [u32],
+        lent: &mut Lent<N>,
         used: Sizes,
     ) -> Reading<Sizes>
         requires { Ready s.now at used }
-        ensures { Walks N.of_bits s.now ((walk self).read s.now at)
-            (lists numbers.old words.old) used (lists numbers.new words.new) result };
+        ensures { LentWalks N.of_bits s.now ((walk self).read s.now at) lent.old used lent.new result };
 }
 
 // n turns.
@@ -32,18 +31,16 @@ pub fn repeat<N: Number, T: Turn>(
     s: &Payload,
     at: usize,
     n: usize,
-    numbers: &mut [N],
-    words: &mut [u32],
+    lent: &mut Lent<N>,
     used: Sizes,
 ) -> Reading<Sizes>
     requires { Ready s.now at used }
-    ensures { Walks N.of_bits s.now ((repeated n (T.walk turn)).read s.now at)
-        (lists numbers.old words.old) used (lists numbers.new words.new) result }
+    ensures { LentWalks N.of_bits s.now ((repeated n (T.walk turn)).read s.now at) lent.old used lent.new result }
 {
     let mut p = at;
     let mut used = used;
     for _ in 0..n {
-        (used, p) = turn.take(s, p, numbers, words, used)?;
+        (used, p) = turn.take(s, p, lent, used)?;
     }
     Ok((used, p))
 }

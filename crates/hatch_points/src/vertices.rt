@@ -69,8 +69,8 @@ fn pass_vertices(s: &Payload, at: usize, n: usize, used: Sizes) -> Reading<Sizes
     Ok((used.with_numbers(3 * n), p))
 }
 
-// n of them: stored so far as there is room, and passed from there on. Three lines, as `double_run` has them: one function for both would be lent both
-// loops, and how many numbers a turn stores.
+// n of them: stored so far as there is room, and passed from there on. Lent the numbers alone, as `raw_run`. Three lines, as `double_run` has them: one
+// function for both would be lent both loops, and how many numbers a turn stores.
 pub fn decode_vertices<N: Number>(
     s: &Payload,
     at: usize,
@@ -89,6 +89,7 @@ pub fn decode_vertices<N: Number>(
 
 // n points, with a double behind each or without: without one they are a run of RD. Which of the two, the payload says: the callers have it as a flag,
 // and a closure in its place would put this `if` into each of them.
+// Lent the numbers alone, as `raw_run`.
 #[tactic(auto, unfolding(crate::specs::Walks::vertices_walk))]
 pub fn decode_points<N: Number>(
     s: &Payload,

@@ -1,24 +1,26 @@
 -- The record, the answers and the lengths from a body's parts. Assumes nothing.
-use Rattle.std.specs.Prelude.{List, ℕ, map, Result, Ok, Err}
+use Rattle.std.specs.Prelude.{true, false, List, [], ℕ, map, Option, Some, None, Result, Ok, Err}
 use Rattle.bitcursor.specs.declared.Refused.{Refused}
 use Rattle.bitcursor.specs.Inputs.{Places}
 use Rattle.hatch_format.specs.declared.GradientColorBits.{GradientColorBits}
 use Rattle.hatch_format.specs.declared.GradientFill.{GradientFill}
 use Rattle.hatch_format.specs.declared.Hatch.{Hatch}
+use Rattle.hatch_format.specs.Values.{no_text}
+use Rattle.hatch_format.specs.Record.{sixteen}
 use Rattle.hatch_format.specs.Counts.{times}
 use Rattle.hatch_format.specs.Gradients.{color}
 use Rattle.hatch_front.specs.declared.Gradient.{Gradient}
-use Rattle.hatch_front.specs.Answers.{sixteen_of}
+use Rattle.hatch_front.specs.Answers.{sixteen_of, num_colors as colors_of}
 use Rattle.hatch_body.specs.declared.Parts.{Parts}
 use Rattle.hatch_body.specs.Parts.{Small}
 use Rattle.hatch_record.specs.declared.Lengths.{Lengths}
 
 -- ---- the record from the parts and sixteen colours, with each double as what `of` makes of its 64 bits
 module _ {N : Type 0} (of : ℕ → N) {C : Type 0} (colors : List C) where
-  abbrev pub fill_by : Gradient → GradientFill N C
-  fill_by g =
+  abbrev pub fill_by : Option Gradient → GradientFill N C
+  fill_by (Some g) =
       record {
-        present = g.present;
+        present = true;
         angle = of g.angle;
         shift = of g.shift;
         is_single_color = g.is_single_color;
@@ -26,6 +28,17 @@ module _ {N : Type 0} (of : ℕ → N) {C : Type 0} (colors : List C) where
         num_colors = g.num_colors;
         colors = colors;
         name = g.name;
+      }
+  fill_by None =
+      record {
+        present = false;
+        angle = of 0;
+        shift = of 0;
+        is_single_color = 0;
+        tint = of 0;
+        num_colors = 0;
+        colors = colors;
+        name = no_text;
       }
 
   abbrev pub record_by : Parts → Hatch N C
@@ -57,15 +70,16 @@ module _ {N : Type 0} (of : ℕ → N) {C : Type 0} (colors : List C) where
   answer_with (Err e) = Err e
 
 -- ---- with the colours that are read from where they stand, each as what `color` makes of it
-abbrev pub colors_in : List ℕ → Gradient → List GradientColorBits
-colors_in xs g = sixteen_of ((times g.num_colors color).read xs g.colors_at)
+abbrev pub colors_in : List ℕ → Option Gradient → List GradientColorBits
+colors_in xs (Some g) = sixteen_of ((times g.num_colors color).read xs g.colors_at)
+colors_in xs None = sixteen []
 
 abbrev pub answer_in : {N C : Type 0} → (ℕ → N) → (GradientColorBits → C) → List ℕ → Result Parts (Refused Places) → Result (Hatch N C) (Refused Places)
 answer_in of make xs (Ok a) = Ok (record_by of (map make (colors_in xs a.front.gradient)) a)
 answer_in of make xs (Err e) = Err e
 
 abbrev pub num_colors : Result Parts (Refused Places) → ℕ
-num_colors (Ok a) = a.front.gradient.num_colors
+num_colors (Ok a) = colors_of a.front.gradient
 num_colors (Err e) = 0
 
 -- small enough for the record's fields, where there are parts

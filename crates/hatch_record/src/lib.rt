@@ -3,16 +3,18 @@
 // specs/ promise the record field by field from the parts, with each double as its 64 bits or as the double that it is, and its lengths.
 #![tactic(auto)]
 
-ghost use Rattle.std.specs.Prelude.{◌≡◌, [], ◌<◌, map};
+ghost use Rattle.std.specs.Prelude.{◌≡◌, [], ◌≤◌, ◌<◌, map};
 ghost use Rattle.hatch_format.specs.Record.{sixteen};
+ghost use Rattle.hatch_front.specs.Answers.{num_colors as colors_of};
 ghost use Rattle.hatch_body.specs.Parts.{Small, Readable};
-ghost use Rattle.hatch_record.specs.Records.{fill_by, record_by, SmallIn, num_colors, answer_with, answer_in, lengths_of};
+ghost use Rattle.hatch_record.specs.Records.{fill_by, record_by, SmallIn, num_colors, colors_in, answer_with, answer_in, lengths_of};
 
 use bitcursor::values::Number;
 use bitcursor::{Payload, Places, Refused};
 use hatch_body::{BodyRead, Parts};
 use hatch_format::{Color, GradientColor, GradientFill, Hatch, Vec3D};
 use hatch_front::{Gradient, colors};
+use text::{Source, Text};
 
 // What a call hands over by value, with doubles and colours as a caller has them; or its refusal and the places of that.
 pub type HatchRead<N = f64, C = GradientColor> = Result<Hatch<N, C>, Refused<Places>>;
@@ -27,11 +29,30 @@ pub struct Lengths {
 
 pub type LengthsRead = Result<Lengths, Refused<Places>>;
 
-fn fill<N: Number, C: Color>(g: Gradient, colors: [C; 16]) -> GradientFill<N, C>
-    ensures { result ≡ fill_by N.of_bits colors g }
+// A gradient; zero throughout where there is none, as document 01 has it.
+fn fill<N: Number, C: Color>(gradient: Option<Gradient>, colors: [C; 16]) -> GradientFill<N, C>
+    ensures { result ≡ fill_by N.of_bits colors gradient }
 {
+    let Some(g) = gradient else {
+        return GradientFill {
+            present: false,
+            angle: N::from_bits(0),
+            shift: N::from_bits(0),
+            is_single_color: 0,
+            tint: N::from_bits(0),
+            num_colors: 0,
+            colors,
+            name: Text {
+                source: Source::Absent,
+                width: 0,
+                position: 0,
+                count: 0,
+                padded: false,
+            },
+        };
+    };
     GradientFill {
-        present: g.present,
+        present: true,
         angle: N::from_bits(g.angle),
         shift: N::from_bits(g.shift),
         is_single_color: g.is_single_color,
@@ -82,7 +103,10 @@ pub fn num_colors(r: BodyRead) -> usize
     ensures { result ≡ num_colors r }
 {
     match r {
-        Ok(a) => a.front.gradient.num_colors,
+        Ok(a) => match a.front.gradient {
+            Some(g) => g.num_colors,
+            None => 0,
+        },
         Err(_) => 0,
     }
 }
@@ -96,15 +120,25 @@ pub fn plain<N: Number, C: Color>(r: BodyRead) -> HatchRead<N, C>
     Ok(record(a, colors::zero_colors()))
 }
 
+// A gradient's colours, read from where they stand; zero where there is none.
+fn colors_in<C: Color>(main: &Payload, gradient: Option<Gradient>) -> [C; 16]
+    requires { colors_of gradient ≤ 16 }
+    ensures { result ≡ map C.of_bits (colors_in main.now gradient) }
+{
+    match gradient {
+        Some(g) => colors::read_colors(main, g.colors_at, g.num_colors),
+        None => colors::zero_colors(),
+    }
+}
+
 // The answer with the colours read once more, from where they stand; what parts were read of is within the limit.
 pub fn colored<N: Number, C: Color>(main: &[u8], r: BodyRead) -> HatchRead<N, C>
     requires { Readable main.now r }
     ensures { result ≡ answer_in N.of_bits C.of_bits main.now r }
 {
     let a = r?;
-    let g = a.front.gradient;
     let main = Payload::new(main).unwrap();
-    Ok(record(a, colors::read_colors(&main, g.colors_at, g.num_colors)))
+    Ok(record(a, colors_in(&main, a.front.gradient)))
 }
 
 // Colours are read again only where there are some.

@@ -12,6 +12,8 @@ use Rattle.hatch_rest.specs.declared.patterns.Tail.{Tail}
 use Rattle.hatch_points.specs.Gathered.{Entries, numbers, plus, all, gathered}
 use Rattle.hatch_rest.specs.LineGathers.{line_entries}
 use Rattle.hatch_points.specs.Lists.{Lists, grow, Stored, Ready}
+use Rattle.hatch_points.specs.declared.lists.Lent.{Lent}
+use Rattle.hatch_points.specs.Lent.{lent, SameLists}
 
 -- ---- what such a walk gives: the value as it is handed on, and the lengths used; in the lists it leaves the entries of the value
 abbrev pub walked : {A V : Type 0} → (A → V) → (A → Entries) → Sizes → A → V × Sizes
@@ -27,6 +29,12 @@ pub record Gives {N : Type 0} (of : ℕ → N) (xs : List ℕ) {A V : Type 0} (v
   pub is : outcome r ≡ value_as (walked value e z) o
   pub stored : Stored of (gathered e o) l z l'
   pub ready : ReadyBehind xs r
+
+-- the same of a walk that is lent both lists in one
+pub record LentGives {N : Type 0} (of : ℕ → N) (xs : List ℕ) {A V : Type 0} (value : A → V) (e : A → Entries) (o : Out ℕ A) (l : Lent N) (z : Sizes)
+    (l' : Lent N) (r : Result ((V × Sizes) × ℕ) (Refused ℕ)) : Type 0 where
+  pub gives : Gives of xs value e o (lent l) z (lent l') r
+  pub same : SameLists l l'
 
 -- ---- the pattern
 abbrev pub pattern_of : PatternValue → Pattern

@@ -7,12 +7,12 @@ ghost use Rattle.hatch_format.specs.Patterns.{pattern, ending, tail};
 ghost use Rattle.hatch_points.specs.Lists.{lists, Ready};
 ghost use Rattle.hatch_rest.specs.Heads.{pattern_head};
 ghost use Rattle.hatch_rest.specs.LineGathers.{line_walk};
-ghost use Rattle.hatch_rest.specs.Tails.{Gives, pattern_of, pattern_entries, ending_of, ending_entries, tail_of, tail_entries};
+ghost use Rattle.hatch_rest.specs.Tails.{Gives, LentGives, pattern_of, pattern_entries, ending_of, ending_entries, tail_of, tail_entries};
 
 use bitcursor::values::Number;
 use bitcursor::{Payload, Reading, within};
 use hatch_format::Caps;
-use hatch_points::lists::Sizes;
+use hatch_points::lists::{Lent, Sizes};
 use hatch_points::turns::Turn;
 use hatch_points::{counts, lists, runs, turns};
 
@@ -52,14 +52,13 @@ impl Turn for Line {
         self,
         s: &Payload,
         at: usize,
-        numbers: &mut [N],
-        words: &mut [u32],
+        lent: &mut Lent<N>,
         used: Sizes,
     ) -> Reading<Sizes> {
-        let (used, p) = runs::double_run(s, at, 5, numbers, used)?;
+        let (used, p) = runs::double_run(s, at, 5, lent.numbers, used)?;
         let (n, p) = counts::read_short_count(s, p, self.0)?;
-        lists::put_word(words, used.words, n);
-        runs::double_run(s, p, n as usize, numbers, used.with_words(1))
+        lists::put_word(lent.words, used.words, n);
+        runs::double_run(s, p, n as usize, lent.numbers, used.with_words(1))
     }
 }
 
@@ -86,16 +85,14 @@ fn decode_open_pattern<N: Number>(
     s: &Payload,
     at: usize,
     caps: Caps,
-    numbers: &mut [N],
-    words: &mut [u32],
+    lent: &mut Lent<N>,
     used: Sizes,
 ) -> Reading<(Pattern, Sizes)>
     requires { Ready s.now at used }
-    ensures { Gives N.of_bits s.now pattern_of pattern_entries ((pattern caps false).read s.now at)
-        (lists numbers.old words.old) used (lists numbers.new words.new) result }
+    ensures { LentGives N.of_bits s.now pattern_of pattern_entries ((pattern caps false).read s.now at) lent.old used lent.new result }
 {
     let (pattern, p) = read_pattern_head(s, at, caps.pattern_lines)?;
-    let (used, p) = turns::repeat(Line(caps.dashes), s, p, pattern.lines, numbers, words, used)?;
+    let (used, p) = turns::repeat(Line(caps.dashes), s, p, pattern.lines, lent, used)?;
     Ok(((pattern, used), p))
 }
 
@@ -105,13 +102,11 @@ fn decode_pattern<N: Number>(
     at: usize,
     solid: bool,
     caps: Caps,
-    numbers: &mut [N],
-    words: &mut [u32],
+    lent: &mut Lent<N>,
     used: Sizes,
 ) -> Reading<(Pattern, Sizes)>
     requires { Ready s.now at used }
-    ensures { Gives N.of_bits s.now pattern_of pattern_entries ((pattern caps solid).read s.now at)
-        (lists numbers.old words.old) used (lists numbers.new words.new) result }
+    ensures { LentGives N.of_bits s.now pattern_of pattern_entries ((pattern caps solid).read s.now at) lent.old used lent.new result }
 {
     if solid {
         let pattern = Pattern {
@@ -122,7 +117,7 @@ fn decode_pattern<N: Number>(
         };
         return Ok(((pattern, used), at));
     }
-    decode_open_pattern(s, at, caps, numbers, words, used)
+    decode_open_pattern(s, at, caps, lent, used)
 }
 
 // The pixel size is there if a path came from a boundary object.
@@ -136,6 +131,7 @@ fn read_pixel_size(s: &Payload, at: usize, has: bool) -> Reading<u64>
     Ok((0, at))
 }
 
+// The last fields. Lent the numbers alone: all of Lent would ask its callers for words that it never touches.
 fn decode_ending<N: Number>(
     s: &Payload,
     at: usize,
@@ -166,18 +162,16 @@ pub fn decode_tail<N: Number>(
     solid: bool,
     has: bool,
     caps: Caps,
-    numbers: &mut [N],
-    words: &mut [u32],
+    lent: &mut Lent<N>,
     used: Sizes,
 ) -> Reading<(Tail, Sizes)>
     requires { Ready s.now at used }
-    ensures { Gives N.of_bits s.now tail_of tail_entries ((tail caps solid has).read s.now at)
-        (lists numbers.old words.old) used (lists numbers.new words.new) result }
+    ensures { LentGives N.of_bits s.now tail_of tail_entries ((tail caps solid has).read s.now at) lent.old used lent.new result }
 {
     let (style, p) = within::read_bs_u(s, at)?;
     let (kind, p) = within::read_bs_u(s, p)?;
-    let ((pattern, used), p) = decode_pattern(s, p, solid, caps, numbers, words, used)?;
-    let ((ending, used), p) = decode_ending(s, p, has, caps, numbers, used)?;
+    let ((pattern, used), p) = decode_pattern(s, p, solid, caps, lent, used)?;
+    let ((ending, used), p) = decode_ending(s, p, has, caps, lent.numbers, used)?;
     let tail = Tail {
         style,
         kind,

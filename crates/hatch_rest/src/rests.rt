@@ -1,8 +1,7 @@
 // What follows the pattern's name: switches, paths, pattern, pixel size and seeds. It measures where the lists are empty, and fills them else.
 ghost use Rattle.hatch_format.specs.HandleRule.{in_payload};
 ghost use Rattle.hatch_format.specs.Patterns.{rest};
-ghost use Rattle.hatch_points.specs.Lists.{lists};
-ghost use Rattle.hatch_rest.specs.Tails.{Gives};
+ghost use Rattle.hatch_rest.specs.Tails.{LentGives};
 ghost use Rattle.hatch_rest.specs.Rests.{no_sizes, rest_of, rest_entries};
 
 use crate::patterns;
@@ -11,7 +10,7 @@ use bitcursor::values::Number;
 use bitcursor::{Payload, Reading, Refusal, refuse, within};
 use hatch_paths::Rules;
 use hatch_paths::paths::Path;
-use hatch_points::lists::Sizes;
+use hatch_points::lists::{Lent, Sizes};
 use hatch_points::{counts, turns};
 
 #[derive(Clone, Copy, Debug, PartialEq, Eq)]
@@ -28,11 +27,9 @@ pub fn decode_rest<N: Number>(
     s: &Payload,
     at: usize,
     rules: Rules,
-    numbers: &mut [N],
-    words: &mut [u32],
+    lent: &mut Lent<N>,
 ) -> Reading<(Rest, Sizes)>
-    ensures { Gives N.of_bits s.now rest_of rest_entries ((rest rules.caps in_payload rules.version).read s.now at)
-        (lists numbers.old words.old) no_sizes (lists numbers.new words.new) result }
+    ensures { LentGives N.of_bits s.now rest_of rest_entries ((rest rules.caps in_payload rules.version).read s.now at) lent.old no_sizes lent.new result }
 {
     if s.size() <= at {
         return refuse(Refusal::TooFewBits, at);
@@ -46,10 +43,10 @@ pub fn decode_rest<N: Number>(
         words: 0,
         derived: false,
     };
-    let (used, p) = turns::repeat(Path(rules), s, p, count, numbers, words, none)?;
+    let (used, p) = turns::repeat(Path(rules), s, p, count, lent, none)?;
     let has = used.derived;
     let caps = rules.caps;
-    let ((tail, used), p) = patterns::decode_tail(s, p, solid, has, caps, numbers, words, used)?;
+    let ((tail, used), p) = patterns::decode_tail(s, p, solid, has, caps, lent, used)?;
     let rest = Rest {
         solid,
         associative,

@@ -1,22 +1,32 @@
-// The entries of both lent lists: what they hold before a call, so that one that must not change shows it.
+// The lists that are lent, and what their entries hold before a call, so that one that must not change shows it.
 
 // How many entries there are to lend of each list.
-pub const LENT: usize = 512;
+const LENT: usize = 512;
 
 // What an entry holds before the call.
 const OLD_WORD: u32 = 0xa5a5_a5a5;
 
 const OLD_NUMBER: u64 = 0xa5a5_a5a5_a5a5_a5a5;
 
-pub fn old_words() -> [u32; LENT] {
-    [OLD_WORD; LENT]
+#[derive(Drop)]
+pub struct Lists {
+    pub words: [u32; LENT],
+    pub numbers: [u64; LENT],
 }
 
-pub fn old_numbers() -> [u64; LENT] {
-    [OLD_NUMBER; LENT]
-}
+impl Lists {
+    // The lists before a call.
+    pub fn old() -> Lists {
+        Lists {
+            words: [OLD_WORD; LENT],
+            numbers: [OLD_NUMBER; LENT],
+        }
+    }
 
-// Whether all these entries are as they were before the call.
-pub fn are_old(words: &[u32], numbers: &[u64]) -> bool {
-    words.iter().all(|word| *word == OLD_WORD) && numbers.iter().all(|number| *number == OLD_NUMBER)
+    // Whether all entries behind the first so many of each are as they were before the call.
+    pub fn are_old_behind(&self, words: usize, numbers: usize) -> bool {
+        let mut words = self.words.iter().skip(words);
+        let mut numbers = self.numbers.iter().skip(numbers);
+        words.all(|word| *word == OLD_WORD) && numbers.all(|number| *number == OLD_NUMBER)
+    }
 }

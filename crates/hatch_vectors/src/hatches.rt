@@ -1,33 +1,34 @@
 // The requests for a hatch body, with a string reader and without: the call, and its answer as a list of numbers, in the order of the
 // Rust's answer. Both lent lists are filled with a value of their own before the call, so that an entry that must not change shows it.
-use crate::entries::LENT;
-use crate::{entries, fields, seeds};
+use crate::entries::Lists;
+use crate::{fields, seeds};
 use bitcursor::{Places, Refused};
+use hatch::Strings;
 use hatch_format::HatchBits;
 use stored::answers::Answer;
 use stored::kinds::Kind;
 use stored::record::Record;
 
+// Calls the hatch with lists of the lent lengths; none where there are not so many entries to lend.
 fn call(
     record: &Record,
     strings: &[u8],
-    words: &mut [u32],
-    numbers: &mut [u64],
-) -> Result<HatchBits, Refused<Places>> {
+    lists: &mut Lists,
+) -> Option<Result<HatchBits, Refused<Places>>> {
+    let reader = Strings {
+        bytes: strings,
+        start: record.more as usize,
+        end: record.string_end,
+    };
+    let lent = match record.kind {
+        Kind::Hatch => None,
+        Kind::HatchWithStrings => Some(reader),
+        _ => return None,
+    };
+    let words = lists.words.get_mut(..record.lent_words)?;
+    let numbers = lists.numbers.get_mut(..record.lent_numbers)?;
     let main = record.payload;
-    if record.kind == Kind::HatchWithStrings {
-        return hatch::decode_with_strings(
-            main,
-            record.start,
-            strings,
-            record.more as usize,
-            record.string_end,
-            record.release,
-            numbers,
-            words,
-        );
-    }
-    hatch::decode(main, record.start, record.release, numbers, words)
+    Some(hatch::decode_with_strings(main, record.start, lent, record.release, numbers, words))
 }
 
 // A reading: the record, and the entries used of both lists; none where the room is full or the seed points' part is another one.
@@ -46,35 +47,22 @@ fn of_reading(record: &Record, h: &HatchBits, words: &[u32], numbers: &[u64]) ->
 fn of_call(
     record: &Record,
     called: Result<HatchBits, Refused<Places>>,
-    words: &[u32],
-    numbers: &[u64],
+    lists: &Lists,
 ) -> Option<Answer> {
     match called {
-        Ok(h) => {
-            let (w, n) = (h.words_used, h.numbers_used);
-            if words.len() < w
-                || numbers.len() < n
-                || !entries::are_old(&words[w..], &numbers[n..])
-            {
-                return None;
-            }
-            of_reading(record, &h, &words[..w], &numbers[..n])
+        Ok(h) if lists.are_old_behind(h.words_used, h.numbers_used) => {
+            let words = lists.words.get(..h.words_used)?;
+            let numbers = lists.numbers.get(..h.numbers_used)?;
+            of_reading(record, &h, words, numbers)
         }
-        Err(refused) if entries::are_old(words, numbers) => Some(Answer::from(refused)),
-        Err(_) => None,
+        Err(refused) if lists.are_old_behind(0, 0) => Some(Answer::from(refused)),
+        _ => None,
     }
 }
 
-// Calls the hatch with lists of the lent lengths.
 pub fn answer(record: &Record) -> Option<Answer> {
-    let (w, n) = (record.lent_words, record.lent_numbers);
-    let is_hatch = matches!(record.kind, Kind::Hatch | Kind::HatchWithStrings);
-    if !is_hatch || LENT < w || LENT < n {
-        return None;
-    }
     let strings = record.strings?;
-    let mut words = entries::old_words();
-    let mut numbers = entries::old_numbers();
-    let called = call(record, strings, &mut words[..w], &mut numbers[..n]);
-    of_call(record, called, &words, &numbers)
+    let mut lists = Lists::old();
+    let called = call(record, strings, &mut lists)?;
+    of_call(record, called, &lists)
 }

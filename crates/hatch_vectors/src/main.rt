@@ -10,13 +10,21 @@ mod hatches;
 mod seeds;
 
 use std::{fs, io};
+use stored::answers::Answer;
+use stored::record::Record;
+use stored::replay;
+use stored::replay::Calls;
+
+// The calls of hatch bodies; no cursor is lent to them.
+struct Bodies;
+
+impl Calls for Bodies {
+    fn answer(&self, record: &Record) -> Option<Answer> {
+        hatches::answer(record)
+    }
+}
 
 fn main(rt: HostRuntime) -> io::Result<()> {
     let mut file = fs::open(&rt, "packed")?;
-    stored::replay::replay_all(
-        &mut file,
-        &mut io::writer(&rt),
-        hatches::answer,
-        |_record| None,
-    )
+    replay::replay_all(&mut file, &mut io::writer(&rt), &Bodies)
 }

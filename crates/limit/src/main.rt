@@ -38,6 +38,8 @@ fn line<W: Write, T: Drop>(
     }
 }
 
+// The requests below are written out: the calls answer in types of their own, so a table of them would be one of boxed closures, on the heap.
+
 // The hatch body, with the main place of its refusal.
 fn hatch_body(s: &[u8], release: u64) -> Result<HatchBits, Refused> {
     hatch::decode(s, START, release, &mut [], &mut []).map_err(|e| Refused {

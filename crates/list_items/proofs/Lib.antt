@@ -2,3 +2,4 @@ pub mod Short
 pub mod Words
 pub mod Finds
 pub mod Heads
+pub mod Ahead

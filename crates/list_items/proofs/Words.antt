@@ -12,6 +12,7 @@ use Rattle.hatch_format.specs.Caps.{document_caps}
 use Rattle.hatch_lists.specs.declared.Item.{Item}
 use Rattle.hatch_lists.specs.Items.{item, tangent_numbers, spline_item}
 use Rattle.hatch_lists.specs.Steps.{Step, next, broken, and_next, a_word, switch_by, a_switch, count_if, a_count, spline_step}
+use Rattle.list_items.specs.Found.{spline_words}
 
 pub no_word : (ws : List ℕ) (at : ℕ) → at ≡ length ws → drop at ws ≡ []
 no_word ws at e = ap (λ (n : ℕ). drop n ws) e ∙ drop-length ws
@@ -58,10 +59,6 @@ module _ (ws : List ℕ) (at : ℕ) (h : at < length ws) where
       ∙ ap (λ (b : Bool). count_if b (get_or ws at 0) (drop (at + 1) ws)) (lt-leb (get_or ws at 0) most k)
 
 -- ---- a spline: the words behind its degree are those of a hatch
-abbrev pub spline_words : ℕ → ℕ → ℕ → ℕ → ℕ → Bool
-spline_words rational periodic knots controls fits =
-    leb rational 1 && (leb periodic 1 && (leb knots 100_000 && (leb controls 100_000 && leb fits 100_000)))
-
 abbrev pub found_if : Bool → Item → List ℕ → Step (List ℕ) Item
 found_if true i ws = next i ws
 found_if false i ws = broken

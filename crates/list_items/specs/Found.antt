@@ -1,5 +1,6 @@
 -- What is found at an index: the definition's step from there on, and the index behind it. Assumes nothing.
 use Rattle.std.specs.Prelude.{◌≡◌, Bool, ◌&&◌, leb, List, ℕ, ◌+◌, ◌≤◌, ◌<◌, ◌^◌, Option, Some, None, length, drop}
+use Rattle.hatch_format.specs.Caps.{document_caps}
 use Rattle.hatch_lists.specs.declared.Head.{Head}
 use Rattle.hatch_lists.specs.declared.Item.{Item}
 use Rattle.hatch_lists.specs.Steps.{Step, next, broken}
@@ -43,4 +44,10 @@ SmallHead h = Small h.item × (h.parts ≤ 100_001)
 
 -- the words of a polyline behind its flags are those of a hatch
 abbrev pub polyline_words : ℕ → ℕ → ℕ → ℕ → Bool
-polyline_words bulge closed vertices handles = leb bulge 1 && (leb closed 1 && (leb vertices 100_000 && leb handles 1_024))
+polyline_words bulge closed vertices handles =
+    leb bulge 1 && (leb closed 1 && (leb vertices document_caps.vertices && leb handles document_caps.boundary_handles))
+
+-- and so are those of a spline behind its degree
+abbrev pub spline_words : ℕ → ℕ → ℕ → ℕ → ℕ → Bool
+spline_words rational periodic knots controls fits =
+    leb rational 1 && (leb periodic 1 && (leb knots document_caps.knots && (leb controls document_caps.control_points && leb fits document_caps.fit_points)))

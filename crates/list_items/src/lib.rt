@@ -1,14 +1,15 @@
 // The words of one item of a hatch's lists, found at an index: no file of the Rust; document 01, "What the port hands over", and document 02, L1.
 // An item is an edge, a path's head, a handle count or a pattern line; words that are missing, and words that no hatch has, are not whole.
-// specs/ promise of each that it is crate hatch_lists' step from the index on, and the index of the word behind it.
+// specs/ promise of each that it is crate hatch_lists' step from the index on, and the index of the word behind it. Words and an index go in, and the
+// index comes out, since a walk holds it beside that of the numbers (crate whole_lists).
 #![tactic(auto)]
 
 ghost use Rattle.std.specs.Prelude.{◌≡◌, Some, ◌≤◌, ◌<◌, length};
 ghost use Rattle.hatch_format.specs.Caps.{document_caps};
-ghost use Rattle.hatch_lists.specs.Items.{stride_of, tangent_numbers};
+ghost use Rattle.hatch_lists.specs.Items.{tangent_numbers};
 ghost use Rattle.hatch_lists.specs.Steps.{a_word, a_switch, a_count, turned_step, spline_step, edge_step, handles_step};
 ghost use Rattle.hatch_lists.specs.Steps.{polyline_step, edges_step, head_step, line_step};
-ghost use Rattle.list_items.specs.Found.{Finds, Reads, IsWord, IsSwitch, IsCount, Small, SmallHead, polyline_words};
+ghost use Rattle.list_items.specs.Found.{Finds, Reads, IsWord, IsSwitch, IsCount, Small, SmallHead, polyline_words, spline_words};
 
 use hatch_lists::{Head, Item};
 
@@ -21,20 +22,19 @@ const NO_ITEM: Item = Item {
     behind: 0,
 };
 
-// A word as a count.
-fn word(words: &[u32], at: usize) -> usize
-    requires { at < length words.now }
-    ensures { Reads IsWord words.now at (Some result) a_word }
+// The word at an index, if there is one, as a count.
+fn word(words: &[u32], at: usize) -> Option<usize>
+    ensures { Reads IsWord words.now at result a_word }
 {
-    words[at] as usize
+    let n = words.get(at)?;
+    Some(*n as usize)
 }
 
 // A word that is at most so much.
 fn count(words: &[u32], at: usize, most: usize) -> Option<usize>
-    requires { at < length words.now }
     ensures { Reads (IsCount most) words.now at result (a_count most) }
 {
-    let n = word(words, at);
+    let n = word(words, at)?;
     if most < n {
         return None;
     }
@@ -43,18 +43,10 @@ fn count(words: &[u32], at: usize, most: usize) -> Option<usize>
 
 // A word that is 0 or 1.
 fn switch(words: &[u32], at: usize) -> Option<bool>
-    requires { at < length words.now }
     ensures { Reads IsSwitch words.now at result a_switch }
 {
     let n = count(words, at, 1)?;
     Some(n != 0)
-}
-
-// From a vertex to the next, or from a control point to the next: with a bulge or a weight behind each, or not.
-fn stride_of(more: bool) -> usize
-    ensures { result ≡ stride_of more }
-{
-    if more { 3 } else { 2 }
 }
 
 // Two tangents behind fit points.
@@ -66,12 +58,9 @@ fn tangent_numbers(fit_points: usize) -> usize
 
 // Behind an arc's or an ellipse's kind: a switch; so many points stand before so many other numbers.
 fn turned_item(words: &[u32], at: usize, points: usize, behind: usize) -> Option<(Item, usize)>
-    requires { (at ≤ length words.now) × ((points ≤ 2) × (behind ≤ 8)) }
+    requires { (points ≤ 2) × (behind ≤ 8) }
     ensures { Finds Small words.now at result (turned_step points behind) }
 {
-    if at == words.len() {
-        return None;
-    }
     switch(words, at)?;
     let item = Item {
         points,
@@ -81,41 +70,46 @@ fn turned_item(words: &[u32], at: usize, points: usize, behind: usize) -> Option
     Some((item, at + 1))
 }
 
-// Behind a spline's kind: degree, two switches and three counts; knots, control points, fit points and tangents. One test finds all six words there, in
-// place of one for each.
-#[tactic(auto, using(crate::proofs::Short::spline_short))]
+// A spline's two switches are 0 or 1, its three counts within document 01's caps.
+fn is_spline(rational: u32, periodic: u32, knots: u32, controls: u32, fits: u32) -> bool
+    ensures { result ≡ spline_words rational periodic knots controls fits }
+{
+    let caps = hatch_format::document_caps();
+    rational <= 1
+        && periodic <= 1
+        && knots as usize <= caps.knots
+        && controls as usize <= caps.control_points
+        && fits as usize <= caps.fit_points
+}
+
+// Behind a spline's kind: degree, two switches and three counts; knots, control points, fit points and tangents.
+#[tactic(auto, using(crate::proofs::Ahead::spline_few, crate::proofs::Ahead::spline_ahead, crate::proofs::Ahead::spline_other))]
 fn spline_item(words: &[u32], at: usize) -> Option<(Item, usize)>
     requires { at ≤ length words.now }
     ensures { Finds Small words.now at result (spline_step document_caps) }
 {
-    if words.len() - at < 6 {
+    let [_degree, rational, periodic, knots, controls, fits, ..] = &words[at..] else {
+        return None;
+    };
+    if !is_spline(*rational, *periodic, *knots, *controls, *fits) {
         return None;
     }
-    let _degree = word(words, at);
-    let rational = switch(words, at + 1)?;
-    let _periodic = switch(words, at + 2)?;
-    let knots = count(words, at + 3, 100_000)?;
-    let controls = count(words, at + 4, 100_000)?;
-    let fits = count(words, at + 5, 100_000)?;
+    let fit_points = *fits as usize;
     let item = Item {
-        before: knots,
-        points: controls,
-        stride: stride_of(rational),
-        fit_points: fits,
-        behind: tangent_numbers(fits),
+        before: *knots as usize,
+        points: *controls as usize,
+        stride: 2 + *rational as usize,
+        fit_points,
+        behind: tangent_numbers(fit_points),
     };
     Some((item, at + 6))
 }
 
 // An edge: its kind, and what the kind has.
 pub fn edge_item(words: &[u32], at: usize) -> Option<(Item, usize)>
-    requires { at ≤ length words.now }
     ensures { Finds Small words.now at result (edge_step document_caps) }
 {
-    if at == words.len() {
-        return None;
-    }
-    match word(words, at) {
+    match word(words, at)? {
         1 => Some((
             Item {
                 points: 2,
@@ -132,25 +126,17 @@ pub fn edge_item(words: &[u32], at: usize) -> Option<(Item, usize)>
 
 // The handle count of a path of edges, which has no numbers.
 pub fn handles_item(words: &[u32], at: usize) -> Option<(Item, usize)>
-    requires { at ≤ length words.now }
     ensures { Finds Small words.now at result (handles_step document_caps) }
 {
-    if at == words.len() {
-        return None;
-    }
-    let _handles = count(words, at, 1_024)?;
+    let _handles = count(words, at, hatch_format::document_caps().boundary_handles)?;
     Some((NO_ITEM, at + 1))
 }
 
 // A pattern line: angle, origin, offset and so many dashes.
 pub fn line_item(words: &[u32], at: usize) -> Option<(Item, usize)>
-    requires { at ≤ length words.now }
     ensures { Finds Small words.now at result (line_step document_caps) }
 {
-    if at == words.len() {
-        return None;
-    }
-    let dashes = count(words, at, 64)?;
+    let dashes = count(words, at, hatch_format::document_caps().dashes)?;
     let item = Item {
         before: 1,
         points: 1,
@@ -161,32 +147,31 @@ pub fn line_item(words: &[u32], at: usize) -> Option<(Item, usize)>
 }
 
 // A polyline's two switches are 0 or 1, its two counts within document 01's caps.
-fn is_polyline(bulge: usize, closed: usize, vertices: usize, handles: usize) -> bool
+fn is_polyline(bulge: u32, closed: u32, vertices: u32, handles: u32) -> bool
     ensures { result ≡ polyline_words bulge closed vertices handles }
 {
-    bulge <= 1 && closed <= 1 && vertices <= 100_000 && handles <= 1_024
+    let caps = hatch_format::document_caps();
+    bulge <= 1
+        && closed <= 1
+        && vertices as usize <= caps.vertices
+        && handles as usize <= caps.boundary_handles
 }
 
-// Behind a polyline's flags: all its words, the handle count too, which one test finds there. All are read before the first is judged, so that the
-// compiler joins the tests.
-#[tactic(auto, using(crate::proofs::Short::polyline_short))]
+// Behind a polyline's flags: all its words, the handle count too.
+#[tactic(auto, using(crate::proofs::Ahead::polyline_few, crate::proofs::Ahead::polyline_ahead, crate::proofs::Ahead::polyline_other))]
 fn polyline_head(words: &[u32], at: usize) -> Option<(Head, usize)>
     requires { at ≤ length words.now }
     ensures { Finds SmallHead words.now at result (polyline_step document_caps) }
 {
-    if words.len() - at < 4 {
+    let [bulge, closed, vertices, handles, ..] = &words[at..] else {
         return None;
-    }
-    let bulge = word(words, at);
-    let closed = word(words, at + 1);
-    let vertices = word(words, at + 2);
-    let handles = word(words, at + 3);
-    if !is_polyline(bulge, closed, vertices, handles) {
+    };
+    if !is_polyline(*bulge, *closed, *vertices, *handles) {
         return None;
     }
     let item = Item {
-        points: vertices,
-        stride: 2 + bulge,
+        points: *vertices as usize,
+        stride: 2 + *bulge as usize,
         ..NO_ITEM
     };
     Some((Head { item, parts: 0 }, at + 4))
@@ -194,13 +179,9 @@ fn polyline_head(words: &[u32], at: usize) -> Option<(Head, usize)>
 
 // Behind the flags of a path of edges: how many; the parts that follow are these and a handle count.
 fn edges_head(words: &[u32], at: usize) -> Option<(Head, usize)>
-    requires { at ≤ length words.now }
     ensures { Finds SmallHead words.now at result (edges_step document_caps) }
 {
-    if at == words.len() {
-        return None;
-    }
-    let edges = count(words, at, 100_000)?;
+    let edges = count(words, at, hatch_format::document_caps().edges)?;
     let head = Head {
         item: NO_ITEM,
         parts: edges + 1,
@@ -210,13 +191,9 @@ fn edges_head(words: &[u32], at: usize) -> Option<(Head, usize)>
 
 // A path's flags, and what follows them up to its numbers or edges.
 pub fn path_head(words: &[u32], at: usize) -> Option<(Head, usize)>
-    requires { at ≤ length words.now }
     ensures { Finds SmallHead words.now at result (head_step document_caps) }
 {
-    if at == words.len() {
-        return None;
-    }
-    if word(words, at) / 2 % 2 == 1 {
+    if word(words, at)? / 2 % 2 == 1 {
         polyline_head(words, at + 1)
     } else {
         edges_head(words, at + 1)

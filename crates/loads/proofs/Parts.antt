@@ -8,7 +8,7 @@ use native.Mathlib.Numerals.{add-one}
 use native.Mathlib.Omega.{arith}
 use lib.ListN.{length, take, drop, get_or, length-append, length-drop, take-append-drop}
 use lib.Seq.{drop-append-add, drop-append-le, take-append-le, drop-cons, length-take-le}
-use lib.Pow.{pow-add, pow_pos, high, low, shl_exact}
+use lib.Pow.{pow-add, high, low, shl_exact}
 use lib.Dec.{lit<}
 use Rattle.loads.specs.Bits.{bits_of, window, number, digits}
 use Rattle.loads.specs.BitLaws.{length_bits, length_digits, number_append, number_lt, number_digits, bits_append}
@@ -60,9 +60,6 @@ big_at s q (suc k) = get_or s q 0 * 2 ^ (8 * k) + big_at s (suc q) k
 -- the divisor that takes n bits
 pub one_shl : (n : ℕ) → n ≤ 8 → (1 * 2 ^ n) % 2 ^ 64 ≡ 2 ^ n
 one_shl n h = rw (shl_exact 1 n 64 (lit< tt) (omega arith)) (omega arith)
-
-pub shl_pos : (n : ℕ) → n ≤ 8 → 0 < (1 * 2 ^ n) % 2 ^ 64
-shl_pos n h = rw (one_shl n h) (pow_pos n)
 
 module _ (s : List ℕ) (bytes : (i : ℕ) → get_or s i 0 < 256) where
   number_big : (k q : ℕ) → q + k ≤ length s → number (bits_of (take k (drop q s))) ≡ big_at s q k

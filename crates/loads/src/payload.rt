@@ -46,6 +46,6 @@ impl<'a> Payload<'a> {
         ensures all { result ≡ size self.now }
         ensures within { length self.now ≤ limit }
     {
-        self.bytes.len() * 8
+        8 * self.bytes.len()
     }
 }

@@ -14,7 +14,7 @@ use differences::{Coordinate, Judgement};
 use hatch_format::Vec3D;
 use hatch_lists::{HatchCounts, Item};
 use moved_hatch::MoveRefusal;
-use whole_lists::Place;
+use whole_lists::{ListWalk, Place};
 
 // The seed points, as an item.
 fn seeds_item(c: HatchCounts) -> Item
@@ -37,7 +37,12 @@ fn are_within<C: Coordinate>(c: HatchCounts, words: &[u32], numbers: &[C]) -> bo
 {
     let mut at = Place::start(c);
     while !at.is_finished() {
-        let Some((i, to)) = whole_lists::next_item(words, c.numbers_used, at) else {
+        let walk = ListWalk {
+            words,
+            numbers: c.numbers_used,
+            at,
+        };
+        let Some((i, to)) = walk.next_item() else {
             return false;
         };
         if !point_runs::item_within(numbers, at.number, i) {
@@ -48,14 +53,20 @@ fn are_within<C: Coordinate>(c: HatchCounts, words: &[u32], numbers: &[C]) -> bo
     point_runs::item_within(numbers, at.number, seeds_item(c))
 }
 
-// Each of them less the origin's.
+// Each of them less the origin's. Not one loop with a closure for both: what a step needs of the walk so far differs (in range, or moved and still movable),
+// so the loop's law would have both as parameters.
 fn move_all<C: Coordinate>(c: HatchCounts, words: &[u32], numbers: &mut [C], x: C, y: C)
     requires { Walks c words.now (length numbers.old) × Movable C.can_minus x y 0 (roles_of c words.now) numbers.old }
     ensures { numbers.new ≡ moved C.minus x y (roles_of c words.now) numbers.old }
 {
     let mut at = Place::start(c);
     while !at.is_finished() {
-        let Some((i, to)) = whole_lists::next_item(words, c.numbers_used, at) else {
+        let walk = ListWalk {
+            words,
+            numbers: c.numbers_used,
+            at,
+        };
+        let Some((i, to)) = walk.next_item() else {
             return;
         };
         point_runs::move_item(numbers, at.number, i, x, y);

@@ -3,21 +3,18 @@
 // specs/ has the chain block by block; each contract is an equation with prefix_format's definition of the field.
 #![tactic(auto)]
 
-ghost use Rattle.std.specs.Prelude.{◌≡◌, ◌≤◌, length};
-ghost use Rattle.loads.specs.Bits.{limit};
-ghost use Rattle.bitcursor.specs.Answers.{outcome, passing};
+ghost use Rattle.std.specs.Prelude.{◌≡◌};
+ghost use Rattle.bitcursor.specs.Answers.{outcome};
 ghost use Rattle.bitcursor.specs.Codes.{RL};
 ghost use Rattle.bitcursor.specs.Handles.{BLL, checked};
-ghost use Rattle.bitcursor.specs.Held.{held};
 ghost use Rattle.prefix_format.specs.Prefix.{extended, graphics, name};
 ghost use Rattle.prefix_fields.specs.Blocks.{block};
 
-use bitcursor::{Passing, Reading, Refusal, refuse, within};
+use bitcursor::{Payload, Reading, Refusal, refuse, within};
 
 // One XDATA block: false where its size is 0, and true after a handle and that many bytes.
 #[tactic(auto, using(bitcursor::proofs::Steps::reading), unfolding(crate::specs::Blocks::block, bitcursor::specs::Handles::checked))]
-fn skip_block(s: &[u8], at: usize) -> Reading<bool>
-    requires { length s.now ≤ limit }
+fn skip_block(s: &Payload, at: usize) -> Reading<bool>
     ensures { outcome result ≡ block.read s.now at }
 {
     let (size, p) = within::read_bs_u(s, at)?;
@@ -30,8 +27,7 @@ fn skip_block(s: &[u8], at: usize) -> Reading<bool>
 }
 
 // The XDATA chain block by block: whether there was one. After 256 nonzero blocks it is refused without another size.
-pub fn skip_extended_data(s: &[u8], at: usize) -> Reading<bool>
-    requires { length s.now ≤ limit }
+pub fn skip_extended_data(s: &Payload, at: usize) -> Reading<bool>
     ensures { outcome result ≡ extended.read s.now at }
 {
     let mut p = at;
@@ -46,8 +42,7 @@ pub fn skip_extended_data(s: &[u8], at: usize) -> Reading<bool>
 }
 
 #[tactic(auto, using(bitcursor::proofs::Steps::reading), unfolding(bitcursor::specs::Codes::RL, bitcursor::specs::Handles::checked))]
-fn read_graphics_size(s: &[u8], at: usize, bll: bool) -> Reading<u64>
-    requires { length s.now ≤ limit }
+fn read_graphics_size(s: &Payload, at: usize, bll: bool) -> Reading<u64>
     ensures { outcome result ≡ (checked bll BLL RL).read s.now at }
 {
     if bll {
@@ -58,8 +53,7 @@ fn read_graphics_size(s: &[u8], at: usize, bll: bool) -> Reading<u64>
 
 // A bit, and where it is set a size, as a BLL or an RL, and that many bytes.
 #[tactic(auto, using(bitcursor::proofs::Steps::reading), unfolding(prefix_format::specs::Prefix::graphics, prefix_format::specs::Prefix::graphics_block, bitcursor::specs::Handles::checked))]
-pub fn skip_graphics(s: &[u8], at: usize, bll: bool) -> Reading<bool>
-    requires { length s.now ≤ limit }
+pub fn skip_graphics(s: &Payload, at: usize, bll: bool) -> Reading<bool>
     ensures { outcome result ≡ (graphics bll).read s.now at }
 {
     let (had, p) = within::read_flag(s, at)?;
@@ -71,15 +65,11 @@ pub fn skip_graphics(s: &[u8], at: usize, bll: bool) -> Reading<bool>
     Ok((true, end))
 }
 
-// Past a colour's name, if it is present.
-#[tactic(auto, using(bitcursor::proofs::Steps::reading, crate::proofs::Laws::name_there, crate::proofs::Laws::name_short), unfolding(bitcursor::specs::Held::held))]
-pub fn skip_name(s: &[u8], at: usize, has: bool, two_bytes: bool) -> Passing
-    requires { length s.now ≤ limit }
-    ensures { passing result ≡ (held has (name two_bytes) tt).read s.now at }
+// A colour's name, read past.
+#[tactic(auto, using(bitcursor::proofs::Steps::reading, crate::proofs::Laws::name_there, crate::proofs::Laws::name_short))]
+pub fn skip_name(s: &Payload, at: usize, two_bytes: bool) -> Reading<()>
+    ensures { outcome result ≡ (name two_bytes).read s.now at }
 {
-    if !has {
-        return Ok(at);
-    }
     let (_, p) = text::within::read_tv_by(s, at, two_bytes)?;
-    Ok(p)
+    Ok(((), p))
 }

@@ -4,7 +4,8 @@ ghost use Rattle.prefix_format.specs.Rows.{rows, row_of};
 
 use text::version::Version;
 
-// One release: whether it has each field that not all have.
+// One release: whether it has each field that not all have. A bool too where it picks one of two codes: the table of specs/Rows is of yes and no, and an
+// enum of the two codes would be asked once each, by an `if` that stands now.
 #[derive(Clone, Copy, Debug, PartialEq, Eq)]
 pub struct Row {
     // the graphics size is a BLL, not an RL

@@ -3,14 +3,14 @@
 // specs/ has what each part is, by prefix_format's definitions of its fields, and that the five in a row read what prefix_format's definition reads.
 #![tactic(auto)]
 
-ghost use Rattle.std.specs.Prelude.{◌≡◌, ◌≤◌, ◌<◌, length};
-ghost use Rattle.loads.specs.Bits.{limit};
+ghost use Rattle.std.specs.Prelude.{◌≡◌, ◌<◌};
 ghost use Rattle.bitcursor.specs.Answers.{outcome};
 ghost use Rattle.prefix_format.specs.Values.{flag};
 ghost use Rattle.prefix_parts.specs.Parts.{head, modes, colours, styles, tail, present_fields};
 
-use bitcursor::{Reading, within};
+use bitcursor::{Payload, Reading, within};
 use prefix_format::table::Row;
+use sequence::{held, held_bits, marked, read_long, read_raw_long};
 
 // Up to the mode: XDATA, graphics and, in release 1, the data end.
 #[derive(Clone, Copy)]
@@ -40,7 +40,7 @@ pub struct Colours {
 }
 
 // Which of the fields behind a colour are present.
-#[derive(Clone, Copy)]
+#[derive(Clone, Copy, Default)]
 pub struct PresentFields {
     pub rgb: bool,
     pub alpha: bool,
@@ -66,16 +66,16 @@ pub struct Tail {
     pub lineweight: u8,
 }
 
-// The five are put into their one caller, so that no part is handed over by memory.
-#[tactic(auto, using(bitcursor::proofs::Steps::reading), unfolding(crate::specs::Parts::head))]
+// The five are put into their one caller, so that no part is handed over by memory. A struct of the payload and the row, which all five take, would be made
+// once, in that caller, and every field here would name them through it (`self.row.nolinks`): longer, and no argument less at a field.
+#[tactic(auto, using(bitcursor::proofs::Steps::reading, sequence::specs::Present::present), unfolding(crate::specs::Parts::head))]
 #[inline(always)]
-pub fn read_head(s: &[u8], at: usize, row: Row) -> Reading<Head>
-    requires { length s.now ≤ limit }
+pub fn read_head(s: &Payload, at: usize, row: Row) -> Reading<Head>
     ensures { outcome result ≡ (head row).read s.now at }
 {
     let (had_extended_data, p) = prefix_fields::skip_extended_data(s, at)?;
     let (had_graphics, q) = prefix_fields::skip_graphics(s, p, row.graphics_bll)?;
-    let (data_end_bits, end) = sequence::marked_rl(s, q, row.data_end)?;
+    let (data_end_bits, end) = marked(s, q, row.data_end, read_raw_long)?;
     let head = Head {
         had_extended_data,
         had_graphics,
@@ -84,21 +84,20 @@ pub fn read_head(s: &[u8], at: usize, row: Row) -> Reading<Head>
     Ok((head, end))
 }
 
-#[tactic(auto, using(bitcursor::proofs::Steps::reading, bitcursor::proofs::Smalls::smalls), unfolding(crate::specs::Parts::modes, bitcursor::specs::Codes::BB))]
+#[tactic(auto, using(bitcursor::proofs::Steps::reading, sequence::specs::Present::present, bitcursor::proofs::Smalls::smalls), unfolding(crate::specs::Parts::modes, bitcursor::specs::Codes::BB))]
 #[inline(always)]
-pub fn read_modes(s: &[u8], at: usize, row: Row) -> Reading<Modes>
-    requires { length s.now ≤ limit }
+pub fn read_modes(s: &Payload, at: usize, row: Row) -> Reading<Modes>
     ensures { outcome result ≡ (modes row).read s.now at }
 {
     let (mode, p) = within::read_bits(s, at, 2)?;
-    let (reactors, p) = within::read_bl_u(s, p)?;
-    let (no_xdictionary, p) = sequence::held_flag(s, p, row.no_xdictionary, true)?;
-    let (binary_chain, p) = sequence::held_flag(s, p, row.binary_chain, false)?;
-    let (by_layer_ltype, p) = sequence::held_flag(s, p, row.by_layer_ltype, true)?;
-    let (nolinks, p) = sequence::held_flag(s, p, row.nolinks, true)?;
+    let (num_reactors, p) = read_long(s, p)?;
+    let (no_xdictionary, p) = held(s, p, row.no_xdictionary, true, within::read_flag)?;
+    let (binary_chain, p) = held(s, p, row.binary_chain, false, within::read_flag)?;
+    let (by_layer_ltype, p) = held(s, p, row.by_layer_ltype, true, within::read_flag)?;
+    let (nolinks, p) = held(s, p, row.nolinks, true, within::read_flag)?;
     let modes = Modes {
         raw_mode: mode as u8,
-        num_reactors: reactors as u32,
+        num_reactors,
         no_xdictionary,
         binary_chain,
         by_layer_ltype,
@@ -120,12 +119,7 @@ fn present_fields(row: Row, colour: u64) -> PresentFields
     ensures { result ≡ present_fields row colour }
 {
     if !row.color_flags {
-        return PresentFields {
-            rgb: false,
-            alpha: false,
-            name: false,
-            book_name: false,
-        };
+        return PresentFields::default();
     }
     let book = flag(colour, 14);
     PresentFields {
@@ -136,10 +130,9 @@ fn present_fields(row: Row, colour: u64) -> PresentFields
     }
 }
 
-#[tactic(auto, using(bitcursor::proofs::Steps::reading, bitcursor::proofs::Smalls::smalls), unfolding(crate::specs::Parts::colours))]
+#[tactic(auto, using(bitcursor::proofs::Steps::reading, sequence::specs::Present::present, bitcursor::proofs::Smalls::smalls), unfolding(crate::specs::Parts::colours))]
 #[inline(always)]
-pub fn read_colours(s: &[u8], at: usize, row: Row) -> Reading<Colours>
-    requires { length s.now ≤ limit }
+pub fn read_colours(s: &Payload, at: usize, row: Row) -> Reading<Colours>
     ensures { outcome result ≡ (colours row).read s.now at }
 {
     let (colour, p) = within::read_bs_u(s, at)?;
@@ -153,10 +146,11 @@ pub fn read_colours(s: &[u8], at: usize, row: Row) -> Reading<Colours>
         return Ok((plain, p));
     }
     let has = present_fields(row, colour);
-    let (color_rgb, p) = sequence::marked_bl(s, p, has.rgb)?;
-    let (color_alpha, p) = sequence::marked_bl(s, p, has.alpha)?;
-    let p = prefix_fields::skip_name(s, p, has.name, row.wide_names)?;
-    let p = prefix_fields::skip_name(s, p, has.book_name, row.wide_names)?;
+    let (color_rgb, p) = marked(s, p, has.rgb, read_long)?;
+    let (color_alpha, p) = marked(s, p, has.alpha, read_long)?;
+    let skip_name = |s: &Payload, at: usize| prefix_fields::skip_name(s, at, row.wide_names);
+    let (_, p) = held(s, p, has.name, (), skip_name)?;
+    let (_, p) = held(s, p, has.book_name, (), skip_name)?;
     let colours = Colours {
         color_raw: colour as u16,
         color_rgb,
@@ -168,15 +162,14 @@ pub fn read_colours(s: &[u8], at: usize, row: Row) -> Reading<Colours>
 // An RC is read as eight bits (here and below): that is one comparison less than a byte's reader has.
 #[tactic(auto, using(bitcursor::proofs::Steps::reading, sequence::specs::OneByte::held_byte), unfolding(crate::specs::Parts::styles, bitcursor::specs::Codes::BB))]
 #[inline(always)]
-pub fn read_styles(s: &[u8], at: usize, row: Row) -> Reading<Styles>
-    requires { length s.now ≤ limit }
+pub fn read_styles(s: &Payload, at: usize, row: Row) -> Reading<Styles>
     ensures { outcome result ≡ (styles row).read s.now at }
 {
     let (ltype_scale, p) = within::read_bd_bits(s, at)?;
-    let (ltype_flags, p) = sequence::held_bits(s, p, 2, row.ltype_and_plotstyle)?;
-    let (plotstyle_flag, p) = sequence::held_bits(s, p, 2, row.ltype_and_plotstyle)?;
-    let (material_flag, p) = sequence::held_bits(s, p, 2, row.material_and_shadow)?;
-    let (shadow_flags, p) = sequence::held_bits(s, p, 8, row.material_and_shadow)?;
+    let (ltype_flags, p) = held_bits(s, p, 2, row.ltype_and_plotstyle)?;
+    let (plotstyle_flag, p) = held_bits(s, p, 2, row.ltype_and_plotstyle)?;
+    let (material_flag, p) = held_bits(s, p, 2, row.material_and_shadow)?;
+    let (shadow_flags, p) = held_bits(s, p, 8, row.material_and_shadow)?;
     let styles = Styles {
         ltype_scale,
         ltype_flags,
@@ -187,17 +180,16 @@ pub fn read_styles(s: &[u8], at: usize, row: Row) -> Reading<Styles>
     Ok((styles, p))
 }
 
-#[tactic(auto, using(bitcursor::proofs::Steps::reading, bitcursor::proofs::Smalls::smalls, sequence::specs::OneByte::held_byte), unfolding(crate::specs::Parts::tail, bitcursor::specs::Codes::signed_BS))]
+#[tactic(auto, using(bitcursor::proofs::Steps::reading, sequence::specs::Present::present, sequence::specs::OneByte::held_byte, bitcursor::proofs::Smalls::smalls), unfolding(crate::specs::Parts::tail, bitcursor::specs::Codes::signed_BS))]
 #[inline(always)]
-pub fn read_tail(s: &[u8], at: usize, row: Row) -> Reading<Tail>
-    requires { length s.now ≤ limit }
+pub fn read_tail(s: &Payload, at: usize, row: Row) -> Reading<Tail>
     ensures { outcome result ≡ (tail row).read s.now at }
 {
-    let (full, p) = sequence::held_flag(s, at, row.visual_styles, false)?;
-    let (face, p) = sequence::held_flag(s, p, row.visual_styles, false)?;
-    let (edge, p) = sequence::held_flag(s, p, row.visual_styles, false)?;
+    let (full, p) = held(s, at, row.visual_styles, false, within::read_flag)?;
+    let (face, p) = held(s, p, row.visual_styles, false, within::read_flag)?;
+    let (edge, p) = held(s, p, row.visual_styles, false, within::read_flag)?;
     let (invisible, p) = within::read_bs_u(s, p)?;
-    let (lineweight, p) = sequence::held_bits(s, p, 8, row.lineweight)?;
+    let (lineweight, p) = held_bits(s, p, 8, row.lineweight)?;
     let tail = Tail {
         visual_style_flags: [full, face, edge],
         invisibility: bitcursor::values::short_of(invisible),

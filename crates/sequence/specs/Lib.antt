@@ -1,1 +1,2 @@
 pub mod OneByte
+pub mod Present

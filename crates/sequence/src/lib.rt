@@ -1,23 +1,61 @@
-// Fields that a release may lack, for callers that know the payload's limit: src/common_entity.rs of dwg-rs; section 20.4.1 of the
-// specification. A field that is lacking is not read, and `absent`, or None, stands for it.
-// specs/ has what each reads by bitcursor's `held`, and that an RC is eight raw bits.
+// Fields that a release may lack: src/common_entity.rs of dwg-rs; section 20.4.1 of the specification. A field that is lacking is not read,
+// and `absent`, or None, stands for it; and codes whose numbers are those of a record's fields.
+// specs/ has what a field that may lack reads, by bitcursor's `held` and `marked`, and that an RC is eight raw bits.
 #![tactic(auto)]
 
-ghost use Rattle.std.specs.Prelude.{◌≡◌, ◌^◌, ◌≤◌, ◌<◌, length};
+ghost use Rattle.std.specs.Prelude.{◌≡◌, ◌≤◌};
 ghost use Rattle.bitcursor.specs.Code.{raw};
-ghost use Rattle.bitcursor.specs.Codes.{B, BL, RL};
+ghost use Rattle.bitcursor.specs.Codes.{BL, RL};
 ghost use Rattle.bitcursor.specs.Answers.{outcome};
-ghost use Rattle.bitcursor.specs.Held.{held, marked};
-ghost use Rattle.loads.specs.Bits.{limit};
+ghost use Rattle.bitcursor.specs.Held.{held};
+ghost use Rattle.sequence.specs.Present.{Reads, read_if, marked_if};
 
-use bitcursor::{Reading, within};
+use bitcursor::{Payload, Reading, within};
 
-// n bits (BB, RC), if the release has them; else 0. This and the next stand in a row of fields many times, and the compiler would leave them calls that
-// hand their answers over by memory: so they are marked.
+// A field, if the release has it, by whatever reads it: where that reads as `f`, this reads as `read_if` of `f`. It stands in a row of fields many
+// times, and the compiler would leave it a call that hands its answer over by memory: so it is marked, and `held_bits` too.
+#[tactic(auto, unfolding(crate::specs::Present::read_if))]
+#[inline(always)]
+pub fn held<T: Copy, F: Fn(&Payload, usize) -> Reading<T> + Copy>(
+    s: &Payload,
+    at: usize,
+    has: bool,
+    absent: T,
+    read: F,
+) -> Reading<T>
+    requires { F.IsAlwaysCallable read }
+    ensures { (f : Reads T) → ((r : _) → F.post read s.entry at r → outcome r ≡ f s.now at) → outcome result ≡ read_if has f absent s.now at }
+{
+    if !has {
+        return Ok((absent, at));
+    }
+    read(s, at)
+}
+
+// The same where the answer says whether the field was there.
+#[tactic(auto, unfolding(crate::specs::Present::marked_if))]
+pub fn marked<T: Copy, F: Fn(&Payload, usize) -> Reading<T> + Copy>(
+    s: &Payload,
+    at: usize,
+    has: bool,
+    read: F,
+) -> Reading<Option<T>>
+    requires { F.IsAlwaysCallable read }
+    ensures { (f : Reads T) → ((r : _) → F.post read s.entry at r → outcome r ≡ f s.now at) → outcome result ≡ marked_if has f s.now at }
+{
+    if !has {
+        return Ok((None, at));
+    }
+    let (value, p) = read(s, at)?;
+    Ok((Some(value), p))
+}
+
+// n bits (BB, RC), if the release has them; else 0. By `held`, over a reader of n bits, the compiler would leave that reader a call: of a prefix of 39 bits
+// that makes 618 instructions in place of 485.
 #[tactic(auto, using(bitcursor::proofs::Steps::reading), unfolding(bitcursor::specs::Held::held))]
 #[inline(always)]
-pub fn held_bits(s: &[u8], at: usize, n: usize, has: bool) -> Reading<u8>
-    requires { (length s.now ≤ limit) × ((1 ≤ n) × (n ≤ 8)) }
+pub fn held_bits(s: &Payload, at: usize, n: usize, has: bool) -> Reading<u8>
+    requires { (1 ≤ n) × (n ≤ 8) }
     ensures { outcome result ≡ (held has (raw n) 0).read s.now at }
 {
     if !has {
@@ -27,41 +65,20 @@ pub fn held_bits(s: &[u8], at: usize, n: usize, has: bool) -> Reading<u8>
     Ok((v as u8, p))
 }
 
-// B, if the release has it.
-#[tactic(auto, using(bitcursor::proofs::Steps::reading), unfolding(bitcursor::specs::Held::held))]
-#[inline(always)]
-pub fn held_flag(s: &[u8], at: usize, has: bool, absent: bool) -> Reading<bool>
-    requires { length s.now ≤ limit }
-    ensures { outcome result ≡ (held has B absent).read s.now at }
+// BL, as the 32 bits that it is.
+#[tactic(auto, using(bitcursor::proofs::Steps::reading, bitcursor::proofs::Smalls::smalls))]
+pub fn read_long(s: &Payload, at: usize) -> Reading<u32>
+    ensures { outcome result ≡ BL.read s.now at }
 {
-    if !has {
-        return Ok((absent, at));
-    }
-    within::read_flag(s, at)
-}
-
-// BL, or nothing.
-#[tactic(auto, using(bitcursor::proofs::Steps::reading, bitcursor::proofs::Smalls::smalls), unfolding(bitcursor::specs::Held::held, bitcursor::specs::Held::marked))]
-pub fn marked_bl(s: &[u8], at: usize, has: bool) -> Reading<Option<u32>>
-    requires { length s.now ≤ limit }
-    ensures { outcome result ≡ (marked has BL).read s.now at }
-{
-    if !has {
-        return Ok((None, at));
-    }
     let (v, p) = within::read_bl_u(s, at)?;
-    Ok((Some(v as u32), p))
+    Ok((v as u32, p))
 }
 
-// RL, or nothing.
-#[tactic(auto, using(bitcursor::proofs::Steps::reading), unfolding(bitcursor::specs::Held::held, bitcursor::specs::Codes::RL, bitcursor::specs::Held::marked))]
-pub fn marked_rl(s: &[u8], at: usize, has: bool) -> Reading<Option<u32>>
-    requires { length s.now ≤ limit }
-    ensures { outcome result ≡ (marked has RL).read s.now at }
+// RL, as the 32 bits that it is.
+#[tactic(auto, using(bitcursor::proofs::Steps::reading), unfolding(bitcursor::specs::Codes::RL))]
+pub fn read_raw_long(s: &Payload, at: usize) -> Reading<u32>
+    ensures { outcome result ≡ RL.read s.now at }
 {
-    if !has {
-        return Ok((None, at));
-    }
     let (v, p) = within::read_low(s, at, 4)?;
-    Ok((Some(v as u32), p))
+    Ok((v as u32, p))
 }

@@ -73,6 +73,7 @@ pub trait Values {
     fn put(self, answer: &mut Answer);
 }
 
+// One impl for each type: one over `Into<u64>` and one over `Into<i64>` would both be of bool, and two impls of a trait may not meet in a type.
 impl Values for u64 {
     fn put(self, answer: &mut Answer) {
         answer.push(self);
@@ -124,16 +125,24 @@ impl From<Refused<Places>> for Answer {
     }
 }
 
-// The answer of a reading without a string reader.
-impl<T: Values> From<Reading<T>> for Answer {
-    fn from(reading: Reading<T>) -> Answer {
+impl Answer {
+    // The answer of a reading without a string reader; `put` puts its value.
+    pub fn of<T, F: FnOnce(&mut Answer, T)>(reading: Reading<T>, put: F) -> Answer
+        requires { F.IsAlwaysCallable put }
+    {
         match reading {
             Ok((value, place)) => {
                 let mut answer = Answer::read(place, 0);
-                value.put(&mut answer);
+                put(&mut answer, value);
                 answer
             }
             Err(refused) => Answer::from(refused),
         }
+    }
+}
+
+impl<T: Values> From<Reading<T>> for Answer {
+    fn from(reading: Reading<T>) -> Answer {
+        Answer::of(reading, |answer, value| value.put(answer))
     }
 }

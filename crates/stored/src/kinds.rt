@@ -32,7 +32,7 @@ pub enum Kind {
 }
 
 impl Kind {
-    // Every kind, in the order of the numbers.
+    // Every kind, in the order of the numbers; by hand, since no derive lists an enum's variants.
     pub const ALL: [Kind; 24] = [
         Kind::Unknown,
         Kind::B,
@@ -92,12 +92,10 @@ impl Kind {
 
 impl From<u64> for Kind {
     fn from(number: u64) -> Kind {
-        for kind in Kind::ALL {
-            if kind as u64 == number {
-                return kind;
-            }
-        }
-        Kind::Unknown
+        Kind::ALL
+            .into_iter()
+            .find(|kind| *kind as u64 == number)
+            .unwrap_or(Kind::Unknown)
     }
 }
 

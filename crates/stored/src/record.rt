@@ -56,12 +56,7 @@ impl<'a> Record<'a> {
 
 // The first `size` bytes, and what stands behind them and the bytes that pad them to whole items, if all are there.
 fn padded(bytes: &[u8], size: usize) -> Option<(&[u8], &[u8])> {
-    if bytes.len() < size {
-        return None;
-    }
-    let end = size.next_multiple_of(8);
-    if bytes.len() < end {
-        return None;
-    }
-    Some((&bytes[..size], &bytes[end..]))
+    let part = bytes.get(..size)?;
+    let rest = bytes.get(size.next_multiple_of(8)..)?;
+    Some((part, rest))
 }

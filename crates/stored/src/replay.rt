@@ -24,22 +24,23 @@ fn judged<W: Write>(out: &mut W, record: &Record, answer: Option<Answer>) -> io:
     Ok(Found::Differs(kind))
 }
 
-// Replays a record by `answer`, and where that is the stored answer by `lent`, which has none of most kinds.
-fn replay<W: Write, A: Fn(&Record) -> Option<Answer>, L: Fn(&Record) -> Option<Answer>>(
-    out: &mut W,
-    record: &Record,
-    answer: &A,
-    lent: &L,
-) -> io::Result<Found>
-    requires first { A.IsAlwaysCallable answer.now }
-    requires second { L.IsAlwaysCallable lent.now }
-{
+// The calls of a program, on a record: the answer, and where that is the stored one the answer by a lent cursor, which most kinds have none of.
+pub trait Calls {
+    fn answer(&self, record: &Record) -> Option<Answer>;
+
+    fn lent(&self, _record: &Record) -> Option<Answer> {
+        None
+    }
+}
+
+// Replays a record by the program's calls.
+fn replay<W: Write, C: Calls>(out: &mut W, record: &Record, calls: &C) -> io::Result<Found> {
     let kind = record.kind;
-    let found = judged(out, record, answer(record))?;
+    let found = judged(out, record, calls.answer(record))?;
     if found != Found::Same(kind) {
         return Ok(found);
     }
-    let Some(second) = lent(record) else {
+    let Some(second) = calls.lent(record) else {
         return Ok(found);
     };
     match judged(out, record, Some(second))? {
@@ -49,17 +50,13 @@ fn replay<W: Write, A: Fn(&Record) -> Option<Answer>, L: Fn(&Record) -> Option<A
 }
 
 // The next record, the index-th, and the counts with it; whether to go on.
-fn step<R: Read, W: Write, A: Fn(&Record) -> Option<Answer>, L: Fn(&Record) -> Option<Answer>>(
+fn step<R: Read, W: Write, C: Calls>(
     file: &mut R,
     out: &mut W,
     index: u64,
     counts: &mut Counts,
-    answer: &A,
-    lent: &L,
-) -> io::Result<bool>
-    requires first { A.IsAlwaysCallable answer.now }
-    requires second { L.IsAlwaysCallable lent.now }
-{
+    calls: &C,
+) -> io::Result<bool> {
     let mut first = [0u8; 8];
     if read_full(file, &mut first) == 0 {
         return Ok(false);
@@ -72,23 +69,19 @@ fn step<R: Read, W: Write, A: Fn(&Record) -> Option<Answer>, L: Fn(&Record) -> O
         counts.add(Found::Malformed);
         return Ok(false);
     };
-    counts.add(replay(out, &record, answer, lent)?);
+    counts.add(replay(out, &record, calls)?);
     Ok(true)
 }
 
 // Every record, and then what was compared. A loop has to end, and nothing says that a file does: so it stops after a million.
-pub fn replay_all<
-    R: Read,
-    W: Write,
-    A: Fn(&Record) -> Option<Answer>,
-    L: Fn(&Record) -> Option<Answer>,
->(file: &mut R, out: &mut W, answer: A, lent: L) -> io::Result<()>
-    requires first { A.IsAlwaysCallable answer }
-    requires second { L.IsAlwaysCallable lent }
-{
+pub fn replay_all<R: Read, W: Write, C: Calls>(
+    file: &mut R,
+    out: &mut W,
+    calls: &C,
+) -> io::Result<()> {
     let mut counts = Counts::new();
     for index in 1..1_000_000 {
-        if !step(file, out, index, &mut counts, &answer, &lent)? {
+        if !step(file, out, index, &mut counts, calls)? {
             break;
         }
     }

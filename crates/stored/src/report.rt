@@ -14,7 +14,8 @@ pub enum Found {
     Malformed,
 }
 
-// How many requests were compared: of each kind, the codes by a lent cursor too, all, and those that differ.
+// How many requests were compared: of each kind, the codes by a lent cursor too, all, and those that differ. The kinds' counts are an array, by the
+// kind's number, and no map, since a map is on the heap.
 #[derive(Drop)]
 pub struct Counts {
     kinds: [u64; 24],

@@ -13,6 +13,7 @@ use text::Text;
 pub mod readings;
 
 // The payload, the bit at which the next text starts, and the end bit. Any two numbers are allowed, past the payload too.
+// The payload is bytes and no `Payload`: every value of the public fields is promised an answer, and `next_text` has one above the limit.
 #[derive(Clone, Copy, Debug, PartialEq, Eq)]
 pub struct StringReader<'a> {
     pub payload: &'a [u8],

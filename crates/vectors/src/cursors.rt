@@ -1,25 +1,18 @@
 // The requests for one code once more, each by a cursor that is lent to its reader: the answer, and the place at which the cursor
 // then stands.
-use bitcursor::{Refusal, Refused, values};
+use bitcursor::{Refusal, values};
 use cursor::BitCursor;
 use stored::answers::{Answer, Values};
 use stored::kinds::Kind;
 use stored::record::Record;
 
 // Reads by a cursor at `at`.
-fn read<T: Values, F: FnOnce(&mut BitCursor) -> Result<T, Refusal>>(
-    at: usize,
-    read: F,
-) -> Option<Answer>
+fn read<T: Values, F: FnOnce(&mut BitCursor) -> Result<T, Refusal>>(at: usize, read: F) -> Answer
     requires { F.IsAlwaysCallable read }
 {
     let mut cursor = BitCursor::at(at);
     let value = read(&mut cursor);
-    let place = cursor.position_bits();
-    Some(match value {
-        Ok(value) => Answer::from(Ok((value, place))),
-        Err(refusal) => Answer::from(Refused { refusal, place }),
-    })
+    crate::reading(value, cursor.position_bits()).into()
 }
 
 // The answer of the kinds of `codes` whose readers take a lent cursor: none that gives a double's 64 bits does.
@@ -27,7 +20,7 @@ pub fn answer(record: &Record) -> Option<Answer> {
     let s = record.payload;
     let at = record.start;
     let default = values::double_of(record.more);
-    match record.kind {
+    Some(match record.kind {
         Kind::B => read(at, |c| c.read_b(s)),
         Kind::Bb => read(at, |c| c.read_bb(s)),
         Kind::ThreeB => read(at, |c| c.read_3b(s)),
@@ -43,6 +36,6 @@ pub fn answer(record: &Record) -> Option<Answer> {
         Kind::Bd => read(at, |c| c.read_bd(s)),
         Kind::Rd => read(at, |c| c.read_rd(s)),
         Kind::Dd => read(at, |c| c.read_dd(s, default)),
-        _ => None,
-    }
+        _ => return None,
+    })
 }

@@ -10,22 +10,42 @@ mod prefixes;
 mod readers;
 mod texts;
 
+use bitcursor::{Reading, Refusal, Refused};
 use std::{fs, io};
 use stored::answers::Answer;
 use stored::kinds::Kind;
 use stored::record::Record;
+use stored::replay;
+use stored::replay::Calls;
 
-// The answer of the call that the record asks for.
-fn answer(record: &Record) -> Option<Answer> {
-    match record.kind {
-        Kind::Prefix => Some(prefixes::answer(record)),
-        Kind::Text => Some(texts::answer(record)),
-        Kind::Reader => readers::answer(record),
-        _ => codes::answer(record),
+// What was read up to a place, or the refusal there.
+fn reading<T>(ended: Result<T, Refusal>, place: usize) -> Reading<T> {
+    match ended {
+        Ok(value) => Ok((value, place)),
+        Err(refusal) => Err(Refused { refusal, place }),
+    }
+}
+
+// The calls of codes, texts and prefixes.
+struct Given;
+
+impl Calls for Given {
+    // The answer of the call that the record asks for.
+    fn answer(&self, record: &Record) -> Option<Answer> {
+        match record.kind {
+            Kind::Prefix => Some(prefixes::answer(record)),
+            Kind::Text => Some(texts::answer(record)),
+            Kind::Reader => readers::answer(record),
+            _ => codes::answer(record),
+        }
+    }
+
+    fn lent(&self, record: &Record) -> Option<Answer> {
+        cursors::answer(record)
     }
 }
 
 fn main(rt: HostRuntime) -> io::Result<()> {
     let mut file = fs::open(&rt, "packed")?;
-    stored::replay::replay_all(&mut file, &mut io::writer(&rt), answer, cursors::answer)
+    replay::replay_all(&mut file, &mut io::writer(&rt), &Given)
 }

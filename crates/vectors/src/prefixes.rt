@@ -44,16 +44,18 @@ fn put_tail(answer: &mut Answer, b: &CommonEntityData<u64>) {
     put_maybe(answer, b.data_end_bits);
 }
 
+fn put(answer: &mut Answer, b: CommonEntityData<u64>) {
+    put_modes(answer, &b);
+    put_flags(answer, &b);
+    put_styles(answer, &b);
+    put_tail(answer, &b);
+}
+
 pub fn answer(record: &Record) -> Answer {
-    match common_entity::read_common_entity_data(record.payload, record.start, record.release) {
-        Ok((b, place)) => {
-            let mut answer = Answer::read(place, 0);
-            put_modes(&mut answer, &b);
-            put_flags(&mut answer, &b);
-            put_styles(&mut answer, &b);
-            put_tail(&mut answer, &b);
-            answer
-        }
-        Err(refused) => Answer::from(refused),
-    }
+    let reading = common_entity::read_common_entity_data(
+        record.payload,
+        record.start,
+        record.release,
+    );
+    Answer::of(reading, put)
 }

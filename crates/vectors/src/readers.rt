@@ -20,13 +20,8 @@ pub fn answer(record: &Record) -> Option<Answer> {
     if !is_consistent(n, end) {
         return None;
     }
-    let place = n.position;
-    match n.start.and(n.text) {
-        Ok(t) => {
-            let mut answer = Answer::read(place, 0);
-            texts::put(&mut answer, strings, t);
-            Some(answer)
-        }
-        Err(refusal) => Some(Answer::refused(refusal, place, 0)),
-    }
+    let reading = crate::reading(n.start.and(n.text), n.position);
+    Some(Answer::of(reading, |answer, t| {
+        texts::put(answer, strings, t);
+    }))
 }

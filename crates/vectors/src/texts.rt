@@ -5,12 +5,6 @@ use stored::texts;
 
 pub fn answer(record: &Record) -> Answer {
     let s = record.payload;
-    match text::read_tv(s, record.start, record.release) {
-        Ok((t, place)) => {
-            let mut answer = Answer::read(place, 0);
-            texts::put(&mut answer, s, t);
-            answer
-        }
-        Err(refused) => Answer::from(refused),
-    }
+    let reading = text::read_tv(s, record.start, record.release);
+    Answer::of(reading, |answer, t| texts::put(answer, s, t))
 }

@@ -4,6 +4,7 @@
 #![tactic(auto)]
 
 ghost use Rattle.std.specs.Prelude.{◌≡◌, false, Some, ◌≤◌, ◌<◌, length};
+ghost use Rattle.hatch_format.specs.Caps.{document_caps};
 ghost use Rattle.hatch_lists.specs.Items.{item_size};
 ghost use Rattle.hatch_lists.specs.Whole.{switches, counted, fitting};
 ghost use Rattle.list_items.specs.Found.{Small};
@@ -45,7 +46,7 @@ impl Place {
     }
 }
 
-// The word and the number behind all items of a walk.
+// The word and the number behind all items of a walk: of a place there these two alone, since its counts of what is left are 0.
 #[derive(Clone, Copy, Debug, PartialEq, Eq)]
 pub struct ListEnd {
     pub word: usize,
@@ -60,98 +61,116 @@ pub fn item_size(i: Item) -> usize
     i.before + (i.points * i.stride + (i.fit_points * 2 + i.behind))
 }
 
-// An item that ends before a place, with its numbers passed, if there are so many.
-fn pass(numbers: usize, i: Item, to: Place) -> Option<(Item, Place)>
-    requires { Small i × (to.number ≤ numbers) }
-    ensures { result ≡ passed_to numbers i to }
-{
-    let size = item_size(i);
-    if numbers - to.number < size {
-        return None;
+// A walk over lists: their words, how many numbers there are, which are counted and not looked at, and where it stands in them.
+#[derive(Clone, Copy)]
+pub struct ListWalk<'a> {
+    pub words: &'a [u32],
+    pub numbers: usize,
+    pub at: Place,
+    ghost within: { Within words.now numbers at },
+}
+
+impl<'a> ListWalk<'a> {
+    // An item that ends before a place, with its numbers passed, if there are so many.
+    fn pass(self, i: Item, to: Place) -> Option<(Item, Place)>
+        requires { Small i × (to.number ≤ self.numbers) }
+        ensures { result ≡ passed_to self.entry.numbers i to }
+    {
+        let size = item_size(i);
+        if self.numbers - to.number < size {
+            return None;
+        }
+        let to = Place {
+            number: to.number + size,
+            ..to
+        };
+        Some((i, to))
     }
-    let to = Place {
-        number: to.number + size,
-        ..to
-    };
-    Some((i, to))
-}
 
-// The next part of a path under way: an edge, or its handle count, which is the last.
-fn part_step(words: &[u32], numbers: usize, at: Place) -> Option<(Item, Place)>
-    requires { Within words.now numbers at × (0 < at.parts) }
-    ensures { Steps words.now numbers at result }
-{
-    let (i, word) = if at.parts == 1 {
-        list_items::handles_item(words, at.word)?
-    } else {
-        list_items::edge_item(words, at.word)?
-    };
-    let to = Place {
-        word,
-        parts: at.parts - 1,
-        ..at
-    };
-    pass(numbers, i, to)
-}
-
-// The head of the next path: a polyline whole, or the count of its edges, which follow as its parts.
-fn path_step(words: &[u32], numbers: usize, at: Place) -> Option<(Item, Place)>
-    requires { Within words.now numbers at × ((at.parts ≡ 0) × (0 < at.paths)) }
-    ensures { Steps words.now numbers at result }
-{
-    let (head, word) = list_items::path_head(words, at.word)?;
-    let to = Place {
-        word,
-        parts: head.parts,
-        paths: at.paths - 1,
-        ..at
-    };
-    pass(numbers, head.item, to)
-}
-
-// The next pattern line.
-fn line_step(words: &[u32], numbers: usize, at: Place) -> Option<(Item, Place)>
-    requires { Within words.now numbers at × ((at.parts ≡ 0) × ((at.paths ≡ 0) × (0 < at.lines))) }
-    ensures { Steps words.now numbers at result }
-{
-    let (i, word) = list_items::line_item(words, at.word)?;
-    let to = Place {
-        word,
-        lines: at.lines - 1,
-        ..at
-    };
-    pass(numbers, i, to)
-}
-
-// The next item of lists of so many numbers, whose numbers begin where the walk stood, and the place behind it; or the lists are not whole.
-pub fn next_item(words: &[u32], numbers: usize, at: Place) -> Option<(Item, Place)>
-    requires { Within words.now numbers at × (finished at ≡ false) }
-    ensures { Steps words.now numbers at result }
-{
-    if 0 < at.parts {
-        part_step(words, numbers, at)
-    } else if 0 < at.paths {
-        path_step(words, numbers, at)
-    } else {
-        line_step(words, numbers, at)
+    // The next part of a path under way: an edge, or its handle count, which is the last.
+    fn part_step(self) -> Option<(Item, Place)>
+        requires { 0 < self.at.parts }
+        ensures { Steps self.entry.words.now self.entry.numbers self.entry.at result }
+    {
+        let at = self.at;
+        let (i, word) = if at.parts == 1 {
+            list_items::handles_item(self.words, at.word)?
+        } else {
+            list_items::edge_item(self.words, at.word)?
+        };
+        let to = Place {
+            word,
+            parts: at.parts - 1,
+            ..at
+        };
+        self.pass(i, to)
     }
-}
 
-// All items from a place on: the word and the number behind the last of them; or the lists are not whole. An iterator of items would hold the place,
-// and its end is what is asked for: it would be no plainer.
-#[tactic(auto, using(crate::proofs::Loops::along_next))]
-fn pass_all(words: &[u32], numbers: usize, from: Place) -> Option<ListEnd>
-    requires { Within words.now numbers from }
-    ensures { Ends words.now numbers from result }
-{
-    let mut at = from;
-    while !at.is_finished() {
-        (_, at) = next_item(words, numbers, at)?;
+    // The head of the next path: a polyline whole, or the count of its edges, which follow as its parts.
+    fn path_step(self) -> Option<(Item, Place)>
+        requires { (self.at.parts ≡ 0) × (0 < self.at.paths) }
+        ensures { Steps self.entry.words.now self.entry.numbers self.entry.at result }
+    {
+        let at = self.at;
+        let (head, word) = list_items::path_head(self.words, at.word)?;
+        let to = Place {
+            word,
+            parts: head.parts,
+            paths: at.paths - 1,
+            ..at
+        };
+        self.pass(head.item, to)
     }
-    Some(ListEnd {
-        word: at.word,
-        number: at.number,
-    })
+
+    // The next pattern line.
+    fn line_step(self) -> Option<(Item, Place)>
+        requires { (self.at.parts ≡ 0) × ((self.at.paths ≡ 0) × (0 < self.at.lines)) }
+        ensures { Steps self.entry.words.now self.entry.numbers self.entry.at result }
+    {
+        let at = self.at;
+        let (i, word) = list_items::line_item(self.words, at.word)?;
+        let to = Place {
+            word,
+            lines: at.lines - 1,
+            ..at
+        };
+        self.pass(i, to)
+    }
+
+    // The next item, whose numbers begin where the walk stands, and the place behind it; or the lists are not whole.
+    pub fn next_item(self) -> Option<(Item, Place)>
+        requires { finished self.at ≡ false }
+        ensures { Steps self.entry.words.now self.entry.numbers self.entry.at result }
+    {
+        if 0 < self.at.parts {
+            self.part_step()
+        } else if 0 < self.at.paths {
+            self.path_step()
+        } else {
+            self.line_step()
+        }
+    }
+
+    // All items from here on: the word and the number behind the last of them; or the lists are not whole. An iterator of items would hold the place, and
+    // its end is what is asked for: it would be no plainer.
+    #[tactic(auto, using(crate::proofs::Loops::along_next))]
+    fn pass_all(self) -> Option<ListEnd>
+        ensures { Ends self.entry.words.now self.entry.numbers self.entry.at result }
+    {
+        let mut at = self.at;
+        while !at.is_finished() {
+            let walk = ListWalk {
+                words: self.words,
+                numbers: self.numbers,
+                at,
+            };
+            (_, at) = walk.next_item()?;
+        }
+        Some(ListEnd {
+            word: at.word,
+            number: at.number,
+        })
+    }
 }
 
 // Where the path that begins at a word and a number ends, in lists of so many numbers; or it is not whole.
@@ -160,14 +179,15 @@ pub fn next_path(words: &[u32], numbers: usize, word: usize, number: usize) -> O
     requires { (word ≤ length words.now) × (number ≤ numbers) }
     ensures { EndsPath words.now numbers word number result }
 {
-    let from = Place {
+    let at = Place {
         word,
         number,
         parts: 0,
         paths: 1,
         lines: 0,
     };
-    pass_all(words, numbers, from)
+    let walk = ListWalk { words, numbers, at };
+    walk.pass_all()
 }
 
 // Each switch of a record is 0 or 1.
@@ -181,10 +201,11 @@ fn are_switches(c: HatchCounts) -> bool
 fn are_counts(c: HatchCounts) -> bool
     ensures { result ≡ counted c }
 {
-    c.num_colors <= 16
-        && c.num_paths <= 10_000
-        && c.num_pattern_lines <= 4_096
-        && c.num_seed_points <= 1_024
+    let caps = hatch_format::document_caps();
+    c.num_colors <= caps.colors
+        && c.num_paths <= caps.paths
+        && c.num_pattern_lines <= caps.pattern_lines
+        && c.num_seed_points <= caps.seed_points
 }
 
 // A record by itself, and beside lists of these lengths.
@@ -196,7 +217,7 @@ fn is_fitting(c: HatchCounts, words: usize, numbers: usize) -> bool
 
 // Whether a walk over a record's lists ended behind the last word, before the numbers of the seed points and no more.
 fn is_end(end: ListEnd, c: HatchCounts) -> bool
-    requires { (end.number ≤ c.numbers_used) × (c.num_seed_points ≤ 1_024) }
+    requires { (end.number ≤ c.numbers_used) × (c.num_seed_points ≤ document_caps.seed_points) }
     ensures { result ≡ ends_whole c (Some end) }
 {
     c.words_used <= end.word && c.numbers_used - end.number == c.num_seed_points * 2
@@ -209,8 +230,12 @@ pub fn is_whole(c: HatchCounts, words: &[u32], numbers: usize) -> bool
     if !is_fitting(c, words.len(), numbers) {
         return false;
     }
-    let used = &words[..c.words_used];
-    match pass_all(used, c.numbers_used, Place::start(c)) {
+    let walk = ListWalk {
+        words: &words[..c.words_used],
+        numbers: c.numbers_used,
+        at: Place::start(c),
+    };
+    match walk.pass_all() {
         Some(end) => is_end(end, c),
         None => false,
     }

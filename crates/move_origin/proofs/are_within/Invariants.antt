@@ -5,8 +5,8 @@ use Rattle.whole_lists.specs.Ended.{start_of}
 use Rattle.move_origin.proofs.Walking.{InRange}
 use Rattle.move_origin.proofs.are_within.Given as goal
 
-abbrev pub invariant-loop-i : goal.invariant-loop-i
-invariant-loop-i g l = InRange g.C.Coordinate.within l.words l.c.numbers_used l.numbers (start_of l.c) l.at
+abbrev pub invariant-loop-walk : goal.invariant-loop-walk
+invariant-loop-walk g l = InRange g.C.Coordinate.within l.words l.c.numbers_used l.numbers (start_of l.c) l.at
 
-abbrev pub decreases-loop-i : goal.decreases-loop-i
-decreases-loop-i g l = length l.words - l.at.word
+abbrev pub decreases-loop-walk : goal.decreases-loop-walk
+decreases-loop-walk g l = length l.words - l.at.word

@@ -5,8 +5,8 @@ use Rattle.whole_lists.specs.Ended.{start_of}
 use Rattle.move_origin.proofs.Walking.{MovedSoFar}
 use Rattle.move_origin.proofs.move_all.Given as goal
 
-abbrev pub invariant-loop-i : goal.invariant-loop-i
-invariant-loop-i g l = MovedSoFar g.C.Coordinate.minus l.x l.y l.words l.c.numbers_used l.initial.numbers (start_of l.c) l.at l.numbers
+abbrev pub invariant-loop-walk : goal.invariant-loop-walk
+invariant-loop-walk g l = MovedSoFar g.C.Coordinate.minus l.x l.y l.words l.c.numbers_used l.initial.numbers (start_of l.c) l.at l.numbers
 
-abbrev pub decreases-loop-i : goal.decreases-loop-i
-decreases-loop-i g l = length l.words - l.at.word
+abbrev pub decreases-loop-walk : goal.decreases-loop-walk
+decreases-loop-walk g l = length l.words - l.at.word

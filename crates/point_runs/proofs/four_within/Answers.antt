@@ -8,4 +8,4 @@ pub returns : goal.returns
 returns g c =
     let a = c.args in
     c.and.ensures ∙ ap₂ (λ b d. b && d) c.pair_within-first.ensures c.pair_within-second.ensures
-    ∙ sym (run_then g.C.Coordinate.within a.stride c.requires.1 a.numbers.now a.at 2 2)
+    ∙ sym (run_then g.C.Coordinate.within a.stride.numbers a.stride.two a.numbers.now a.at 2 2)

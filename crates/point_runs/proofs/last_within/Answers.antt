@@ -13,5 +13,5 @@ returns g c =
     let within = g.C.Coordinate.within in
     let three : 3 ≡ a.n = omega arith in
     c.and.ensures ∙ ap₂ (λ b d. b && d) c.pair_within-first.ensures c.point_within-2.ensures
-    ∙ sym (run_then within a.stride c.requires.1 a.numbers.now a.at 2 1)
-    ∙ ap (λ n. in_range_from within a.at (point_run a.stride n) a.numbers.now) three
+    ∙ sym (run_then within a.stride.numbers a.stride.two a.numbers.now a.at 2 1)
+    ∙ ap (λ n. in_range_from within a.at (point_run a.stride.numbers n) a.numbers.now) three

@@ -8,7 +8,6 @@ pub move_points-requires : goal.move_points-requires
 move_points-requires g c =
     let a = c.args in (
       omega arith,
-      c.requires.0.from_two,
       points_movable a.i a.from g.C.Coordinate.minus a.x a.y c.requires.0.from_two a.numbers.now (omega arith) c.requires.2,
     )
 
@@ -16,7 +15,6 @@ pub move_points-requires-2 : goal.move_points-requires-2
 move_points-requires-2 g c =
     let a = c.args in (
       search rules,
-      omega arith,
       fits_movable a.i a.from g.C.Coordinate.minus a.x a.y c.requires.0.from_two a.numbers.now (omega arith) c.requires.2 c.move_points.ensures,
     )
 

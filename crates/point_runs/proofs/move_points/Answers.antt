@@ -12,11 +12,10 @@ move_point-requires g c =
     let l = c.loop-i in
     let minus = g.C.Coordinate.minus in
     let more : l.i + 1 ≤ a.n = omega arith in
-    let there = fewer_there a.stride a.from more in
-    let room : a.from + (l.i + 1) * a.stride ≤ length a.numbers.now = omega (arith, there, c.requires.0) in (
-      next_there minus a.x a.y a.stride c.requires.1 a.numbers.now a.from l.i room l.invariant,
-      c.requires.1,
-      next_movable minus a.x a.y a.stride c.requires.1 a.numbers.now a.from l.i room l.invariant more c.requires.2,
+    let there = fewer_there a.stride.numbers a.from more in
+    let room : a.from + (l.i + 1) * a.stride.numbers ≤ length a.numbers.now = omega (arith, there, c.requires.0) in (
+      next_there minus a.x a.y a.stride.numbers a.stride.two a.numbers.now a.from l.i room l.invariant,
+      next_movable minus a.x a.y a.stride.numbers a.stride.two a.numbers.now a.from l.i room l.invariant more c.requires.1,
     )
 
 pub loop-i-preserved : goal.loop-i-preserved
@@ -24,6 +23,6 @@ loop-i-preserved g c =
     let a = c.args in
     let l = c.loop-i in
     let more : l.i + 1 ≤ a.n = omega arith in
-    let there = fewer_there a.stride a.from more in
-    let room : a.from + (l.i + 1) * a.stride ≤ length a.numbers.now = omega (arith, there, c.requires.0) in
-    c.move_point.ensures ∙ next_moved g.C.Coordinate.minus a.x a.y a.stride c.requires.1 a.numbers.now a.from l.i room l.invariant
+    let there = fewer_there a.stride.numbers a.from more in
+    let room : a.from + (l.i + 1) * a.stride.numbers ≤ length a.numbers.now = omega (arith, there, c.requires.0) in
+    c.move_point.ensures ∙ next_moved g.C.Coordinate.minus a.x a.y a.stride.numbers a.stride.two a.numbers.now a.from l.i room l.invariant

@@ -8,4 +8,4 @@ pub returns : goal.returns
 returns g c =
     let a = c.args in
     c.and.ensures ∙ ap₂ (λ b d. b && d) c.point_within.ensures c.point_within-2.ensures
-    ∙ sym (run_two g.C.Coordinate.within a.stride c.requires.1 a.numbers.now a.at)
+    ∙ sym (run_two g.C.Coordinate.within a.stride.numbers a.stride.two a.numbers.now a.at)

@@ -9,5 +9,5 @@ pub returns : goal.returns
 returns g c =
     let a = c.args in
     c.and.ensures ∙ ap₂ (λ b d. b && d) c.within.ensures c.within-2.ensures
-    ∙ sym (run_one g.C.Coordinate.within a.stride c.requires.1 a.numbers.now
+    ∙ sym (run_one g.C.Coordinate.within a.stride.numbers a.stride.two a.numbers.now
     (record { there = omega arith; is_x = c.index-numbers-at.is; is_y = c.index-numbers-at-2.is }))

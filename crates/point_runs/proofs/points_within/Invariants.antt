@@ -7,4 +7,4 @@ use Rattle.moved_hatch.specs.Parts.{in_range_from}
 use Rattle.point_runs.proofs.points_within.Given as goal
 
 abbrev pub invariant-loop-turn : goal.invariant-loop-turn
-invariant-loop-turn g l = in_range_from g.C.Coordinate.within l.from (point_run l.stride (4 * l.turn)) l.numbers ≡ true
+invariant-loop-turn g l = in_range_from g.C.Coordinate.within l.from (point_run l.stride.numbers (4 * l.turn)) l.numbers ≡ true

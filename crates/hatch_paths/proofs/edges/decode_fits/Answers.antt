@@ -1,5 +1,5 @@
 -- The count is a word, and behind it there are two RD a point and four of the tangents, or nothing.
-use mathlib.Core.Path.{sym, ap, ◌∙◌}
+use mathlib.Core.Path.{refl, sym, ap, ◌∙◌}
 use Prim.Native.Nat.{ℕ}
 use native.Mathlib.Omega.{arith}
 use mathlib.Core.Bool.{Bool}
@@ -21,11 +21,14 @@ returns-then-is_from g c =
     let s = a.s.now in
     let n = c.in_ok-n.n in
     let cap = a.rules.caps.fit_points in
-    walks_as
-    (word_then (raw_run (fitted_raw n)) n c.put_word.ensures
-    (words_kept _ c.put_word.new.words (raw_wordless (fitted_raw n) s _)
-    (rw (← c.with_words.ensures) (walks_as c.raw_run.ensures (ap (λ (k : ℕ). (raw_run k).read s c.in_ok-n.p) c.fitted_raw.ensures.0)))))
-    (sym (ap (λ (b : Bool). (fits_walk cap b).read s a.at) (sym c.is_from.ensures ∙ c.if-is_from.true) ∙ then_read (bounded cap BL) _ s c.in_ok-n.ensures))
+    record {
+      same = (refl, refl);
+      walk = walks_as
+          (word_then (raw_run (fitted_raw n)) n c.put_word.ensures
+          (words_kept _ c.put_word.new.words (raw_wordless (fitted_raw n) s _)
+          (rw (← c.with_words.ensures) (walks_as c.raw_run.ensures (ap (λ (k : ℕ). (raw_run k).read s c.in_ok-n.p) c.fitted_raw.ensures.0)))))
+          (sym (ap (λ (b : Bool). (fits_walk cap b).read s a.at) (sym c.is_from.ensures ∙ c.if-is_from.true) ∙ then_read (bounded cap BL) _ s c.in_ok-n.ensures));
+    }
 
 pub returns-in_err-n : goal.returns-in_err-n
 unfolding fits_walk
@@ -33,8 +36,11 @@ returns-in_err-n g c =
     let a = c.args in
     let s = a.s.now in
     let cap = a.rules.caps.fit_points in
-    leaves _ c.from_residual.ensures
-    (refuses (ap (λ (b : Bool). (fits_walk cap b).read s a.at) (sym c.is_from.ensures ∙ c.if-is_from.true) ∙ then_none (bounded cap BL) _ s c.in_err-n.ensures) kept_same)
+    record {
+      same = (refl, refl);
+      walk = leaves _ c.from_residual.ensures
+          (refuses (ap (λ (b : Bool). (fits_walk cap b).read s a.at) (sym c.is_from.ensures ∙ c.if-is_from.true) ∙ then_none (bounded cap BL) _ s c.in_err-n.ensures) kept_same);
+    }
 
 pub returns : goal.returns
 unfolding fits_walk pure
@@ -42,6 +48,9 @@ returns g c =
     let a = c.args in
     let s = a.s.now in
     let h = c.requires.0 in
-    ends (word 0) (ap (λ (b : Bool). (fits_walk a.rules.caps.fit_points b).read s a.at) (sym c.is_from.ensures ∙ c.if-is_from.false))
-    (record { lists = λ i. lists a.numbers.now (c.put_word-2.ensures i); sizes = c.with_words-2.ensures ∙ one_word a.used 0 })
-    (h.0, (h.1.0, (omega arith, omega (arith, c.requires.1))))
+    record {
+      same = (refl, refl);
+      walk = ends (word 0) (ap (λ (b : Bool). (fits_walk a.rules.caps.fit_points b).read s a.at) (sym c.is_from.ensures ∙ c.if-is_from.false))
+          (record { lists = λ i. lists a.lent.now.numbers.now (c.put_word-2.ensures i); sizes = c.with_words-2.ensures ∙ one_word a.used 0 })
+          (h.0, (h.1.0, (omega arith, omega (arith, c.requires.1))));
+    }

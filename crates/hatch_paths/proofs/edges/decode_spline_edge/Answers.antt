@@ -11,17 +11,23 @@ returns g c =
     let a = c.args in
     let s = a.s.now in
     let h = c.in_ok-head.head in
-    walks_as
-    (words_then (spline_lists_walk a.rules.caps (has_fits a.rules.version) h.rational h.knots h.controls) (head_words h) 5 refl c.put_spline_head.ensures
-    (rw (← c.with_words.ensures) c.decode_spline_lists.ensures))
-    (sym (then_read (spline_head a.rules.caps) (spline_after_counts a.rules.caps (has_fits a.rules.version)) s c.in_ok-head.ensures)
-    ∙ spline_reads s a.rules.caps (has_fits a.rules.version) a.at)
+    record {
+      same = c.decode_spline_lists.ensures.same;
+      walk = walks_as
+          (words_then (spline_lists_walk a.rules.caps (has_fits a.rules.version) h.rational h.knots h.controls) (head_words h) 5 refl c.put_spline_head.ensures
+          (rw (← c.with_words.ensures) c.decode_spline_lists.ensures.walk))
+          (sym (then_read (spline_head a.rules.caps) (spline_after_counts a.rules.caps (has_fits a.rules.version)) s c.in_ok-head.ensures)
+          ∙ spline_reads s a.rules.caps (has_fits a.rules.version) a.at);
+    }
 
 pub returns-in_err-head : goal.returns-in_err-head
 returns-in_err-head g c =
     let a = c.args in
     let s = a.s.now in
-    leaves _ c.from_residual.ensures
-    (refuses
-    (sym (spline_reads s a.rules.caps (has_fits a.rules.version) a.at)
-    ∙ then_none (spline_head a.rules.caps) (spline_after_counts a.rules.caps (has_fits a.rules.version)) s c.in_err-head.ensures) kept_same)
+    record {
+      same = (refl, refl);
+      walk = leaves _ c.from_residual.ensures
+          (refuses
+          (sym (spline_reads s a.rules.caps (has_fits a.rules.version) a.at)
+          ∙ then_none (spline_head a.rules.caps) (spline_after_counts a.rules.caps (has_fits a.rules.version)) s c.in_err-head.ensures) kept_same);
+    }

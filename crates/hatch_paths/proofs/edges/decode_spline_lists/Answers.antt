@@ -1,5 +1,5 @@
 -- Knots, control points and fit points, one behind the other.
-use mathlib.Core.Path.{sym, ◌∙◌}
+use mathlib.Core.Path.{refl, sym, ◌∙◌}
 use native.Mathlib.Omega.{arith}
 use Rattle.bitcursor.specs.Format.{then_got, then_refused}
 use Rattle.hatch_points.specs.Gathered.{plus}
@@ -30,29 +30,38 @@ unfolding spline_lists_walk
 returns g c =
     let a = c.args in
     let s = a.s.now in
-    let h = walk_finished (words_kept _ a.words.now (double_wordless a.head.knots s a.at) c.in_ok-used.ensures) in
-    let k = walk_finished (words_kept _ a.words.now (vertices_wordless a.head.rational a.head.controls s _) c.in_ok-used-2.ensures) in
-    walks_as
-    (behind (fits_walk a.rules.caps.fit_points (has_fits a.rules.version)) (λ e. plus h.entries (plus k.entries e)) (h.step ⊕ k.step)
-    (λ e. plus_again h.entries k.entries e) c.decode_fits.ensures)
-    (sym (then_got (double_run a.head.knots) _ s h.read ∙ then_got (vertices_walk a.head.rational a.head.controls) _ s k.read))
+    let h = walk_finished (words_kept _ a.lent.now.words.now (double_wordless a.head.knots s a.at) c.in_ok-used.ensures) in
+    let k = walk_finished (words_kept _ a.lent.now.words.now (vertices_wordless a.head.rational a.head.controls s _) c.in_ok-used-2.ensures) in
+    record {
+      same = c.decode_fits.ensures.same;
+      walk = walks_as
+          (behind (fits_walk a.rules.caps.fit_points (has_fits a.rules.version)) (λ e. plus h.entries (plus k.entries e)) (h.step ⊕ k.step)
+          (λ e. plus_again h.entries k.entries e) c.decode_fits.ensures.walk)
+          (sym (then_got (double_run a.head.knots) _ s h.read ∙ then_got (vertices_walk a.head.rational a.head.controls) _ s k.read));
+    }
 
 pub returns-in_err-used-2 : goal.returns-in_err-used-2
 unfolding spline_lists_walk
 returns-in_err-used-2 g c =
     let a = c.args in
     let s = a.s.now in
-    let h = walk_finished (words_kept _ a.words.now (double_wordless a.head.knots s a.at) c.in_ok-used.ensures) in
+    let h = walk_finished (words_kept _ a.lent.now.words.now (double_wordless a.head.knots s a.at) c.in_ok-used.ensures) in
     let walk = c.in_err-used-2.ensures in
-    leaves _ c.from_residual-in_err-used-2.ensures
-    (refuses
-    (then_got (double_run a.head.knots) _ s h.read ∙ then_refused (vertices_walk a.head.rational a.head.controls) _ s (walk_refused walk))
-    (kept_then h.step (kept_numbers a.words.now (walk_kept walk))))
+    record {
+      same = (refl, refl);
+      walk = leaves _ c.from_residual-in_err-used-2.ensures
+          (refuses
+          (then_got (double_run a.head.knots) _ s h.read ∙ then_refused (vertices_walk a.head.rational a.head.controls) _ s (walk_refused walk))
+          (kept_then h.step (kept_numbers a.lent.now.words.now (walk_kept walk))));
+    }
 
 pub returns-in_err-used : goal.returns-in_err-used
 unfolding spline_lists_walk
 returns-in_err-used g c =
     let a = c.args in
     let walk = c.in_err-used.ensures in
-    leaves _ c.from_residual.ensures
-    (refuses (then_refused (double_run a.head.knots) _ a.s.now (walk_refused walk)) (kept_numbers a.words.now (walk_kept walk)))
+    record {
+      same = (refl, refl);
+      walk = leaves _ c.from_residual.ensures
+          (refuses (then_refused (double_run a.head.knots) _ a.s.now (walk_refused walk)) (kept_numbers a.lent.now.words.now (walk_kept walk)));
+    }

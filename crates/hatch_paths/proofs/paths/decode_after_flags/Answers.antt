@@ -14,14 +14,20 @@ returns g c =
     let a = c.args in
     let s = a.s.now in
     let cap = a.rules.caps.boundary_handles in
-    let t = walk_finished c.in_ok-used.ensures in
-    walks_as (behind (handles_walk cap) (plus t.entries) t.step (λ e. refl) (numbers_kept _ _ (handles_numberless cap s _) c.put_handle_count.ensures))
-    (sym (then_got (segments_walk a.rules.caps (has_fits a.rules.version) a.polyline) _ s t.read))
+    let t = walk_finished c.in_ok-used.ensures.walk in
+    record {
+      same = c.in_ok-used.ensures.same;
+      walk = walks_as (behind (handles_walk cap) (plus t.entries) t.step (λ e. refl) (numbers_kept _ _ (handles_numberless cap s _) c.put_handle_count.ensures))
+          (sym (then_got (segments_walk a.rules.caps (has_fits a.rules.version) a.polyline) _ s t.read));
+    }
 
 pub returns-in_err-used : goal.returns-in_err-used
 unfolding after_flags_walk
 returns-in_err-used g c =
     let a = c.args in
-    let walk = c.in_err-used.ensures in
-    leaves _ c.from_residual.ensures
-    (refuses (then_refused (segments_walk a.rules.caps (has_fits a.rules.version) a.polyline) _ a.s.now (walk_refused walk)) (walk_kept walk))
+    let walk = c.in_err-used.ensures.walk in
+    record {
+      same = c.in_err-used.ensures.same;
+      walk = leaves _ c.from_residual.ensures
+          (refuses (then_refused (segments_walk a.rules.caps (has_fits a.rules.version) a.polyline) _ a.s.now (walk_refused walk)) (walk_kept walk));
+    }

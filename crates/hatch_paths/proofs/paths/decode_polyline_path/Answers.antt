@@ -19,29 +19,38 @@ returns g c =
     let x = c.in_ok-bulge.bulge in
     let y = c.in_ok-closed.closed in
     let n = c.in_ok-n.n in
-    walks_as
-    (words_then (vertices_walk x n) (bit x ∷ (bit y ∷ (n ∷ []))) 3 refl c.put_polyline_head.ensures
-    (words_kept _ c.put_polyline_head.new.words (vertices_wordless x n s _) (rw (← c.with_words.ensures) c.decode_points.ensures)))
-    (sym (then_read (coded B) _ s c.in_ok-bulge.ensures ∙ then_read (coded B) _ s c.in_ok-closed.ensures
-    ∙ then_read (bounded a.rules.caps.vertices BL) _ s c.in_ok-n.ensures))
+    record {
+      same = (refl, refl);
+      walk = walks_as
+          (words_then (vertices_walk x n) (bit x ∷ (bit y ∷ (n ∷ []))) 3 refl c.put_polyline_head.ensures
+          (words_kept _ c.put_polyline_head.new.words (vertices_wordless x n s _) (rw (← c.with_words.ensures) c.decode_points.ensures)))
+          (sym (then_read (coded B) _ s c.in_ok-bulge.ensures ∙ then_read (coded B) _ s c.in_ok-closed.ensures
+          ∙ then_read (bounded a.rules.caps.vertices BL) _ s c.in_ok-n.ensures));
+    }
 
 pub returns-in_err-bulge : goal.returns-in_err-bulge
 unfolding polyline_walk
 returns-in_err-bulge g c =
-    leaves _ c.from_residual.ensures (refuses (then_none (coded B) _ c.args.s.now c.in_err-bulge.ensures) kept_same)
+    record { same = (refl, refl); walk = leaves _ c.from_residual.ensures (refuses (then_none (coded B) _ c.args.s.now c.in_err-bulge.ensures) kept_same) }
 
 pub returns-in_err-closed : goal.returns-in_err-closed
 unfolding polyline_walk
 returns-in_err-closed g c =
     let s = c.args.s.now in
-    leaves _ c.from_residual-in_err-closed.ensures
-    (refuses (then_read (coded B) _ s c.in_ok-bulge.ensures ∙ then_none (coded B) _ s c.in_err-closed.ensures) kept_same)
+    record {
+      same = (refl, refl);
+      walk = leaves _ c.from_residual-in_err-closed.ensures
+          (refuses (then_read (coded B) _ s c.in_ok-bulge.ensures ∙ then_none (coded B) _ s c.in_err-closed.ensures) kept_same);
+    }
 
 pub returns-in_err-n : goal.returns-in_err-n
 unfolding polyline_walk
 returns-in_err-n g c =
     let s = c.args.s.now in
-    leaves _ c.from_residual-in_err-n.ensures
-    (refuses
-    (then_read (coded B) _ s c.in_ok-bulge.ensures ∙ then_read (coded B) _ s c.in_ok-closed.ensures
-    ∙ then_none (bounded c.args.rules.caps.vertices BL) _ s c.in_err-n.ensures) kept_same)
+    record {
+      same = (refl, refl);
+      walk = leaves _ c.from_residual-in_err-n.ensures
+          (refuses
+          (then_read (coded B) _ s c.in_ok-bulge.ensures ∙ then_read (coded B) _ s c.in_ok-closed.ensures
+          ∙ then_none (bounded c.args.rules.caps.vertices BL) _ s c.in_err-n.ensures) kept_same);
+    }

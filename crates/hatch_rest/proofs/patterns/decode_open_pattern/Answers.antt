@@ -1,5 +1,5 @@
 -- The fields in front of the lines, and so many lines.
-use mathlib.Core.Path.{sym, ◌∙◌}
+use mathlib.Core.Path.{refl, sym, ◌∙◌}
 use Rattle.bitcursor.specs.Format.{pure, then_got, then_refused}
 use Rattle.hatch_format.specs.Counts.{times}
 use Rattle.hatch_format.specs.Patterns.{pattern_line}
@@ -26,14 +26,17 @@ returns g c =
     let line = pattern_line a.caps.dashes in
     let h = c.in_ok-pattern.pattern in
     let p = c.in_ok-pattern.p in
-    let walk = c.in_ok-used.ensures in
+    let walk = c.in_ok-used.ensures.walk in
     let t = value_read (all line_entries) ((times h.lines line).read s p)
     (walks_as walk (sym (times_gather line s line_entries (line_walk a.caps.dashes) (line_gathers s a.caps.dashes) h.lines p))) in
     let m = times_length line s h.lines p t.read in
-    gives_ends (record { angle = h.angle; scale = h.scale; double = h.double; lines = t.value })
-    (pattern_reads s a.caps a.at ∙ read_on (pattern_head a.caps.pattern_lines) (pattern_after_head a.caps) s c.in_ok-pattern.ensures
-    ∙ then_got (times h.lines line) _ s t.read)
-    (λ i. record { angle = h.angle; scale = h.scale; double = h.double; lines = sym m i }) t.step walk.ready
+    record {
+      same = c.in_ok-used.ensures.same;
+      gives = gives_ends (record { angle = h.angle; scale = h.scale; double = h.double; lines = t.value })
+          (pattern_reads s a.caps a.at ∙ read_on (pattern_head a.caps.pattern_lines) (pattern_after_head a.caps) s c.in_ok-pattern.ensures
+          ∙ then_got (times h.lines line) _ s t.read)
+          (λ i. record { angle = h.angle; scale = h.scale; double = h.double; lines = sym m i }) t.step walk.ready;
+    }
 
 pub returns-in_err-used : goal.returns-in_err-used
 returns-in_err-used g c =
@@ -42,18 +45,24 @@ returns-in_err-used g c =
     let line = pattern_line a.caps.dashes in
     let h = c.in_ok-pattern.pattern in
     let p = c.in_ok-pattern.p in
-    let walk = c.in_err-used.ensures in
+    let walk = c.in_err-used.ensures.walk in
     let no = value_refused (all line_entries) ((times h.lines line).read s p)
     (walks_as walk (sym (times_gather line s line_entries (line_walk a.caps.dashes) (line_gathers s a.caps.dashes) h.lines p))) in
-    gives_leaves _ c.from_residual-in_err-used.ensures
-    (gives_refused
-    (pattern_reads s a.caps a.at ∙ read_on (pattern_head a.caps.pattern_lines) (pattern_after_head a.caps) s c.in_ok-pattern.ensures
-    ∙ then_refused (times h.lines line) _ s no) (walk_kept walk))
+    record {
+      same = c.in_err-used.ensures.same;
+      gives = gives_leaves _ c.from_residual-in_err-used.ensures
+          (gives_refused
+          (pattern_reads s a.caps a.at ∙ read_on (pattern_head a.caps.pattern_lines) (pattern_after_head a.caps) s c.in_ok-pattern.ensures
+          ∙ then_refused (times h.lines line) _ s no) (walk_kept walk));
+    }
 
 pub returns-in_err-pattern : goal.returns-in_err-pattern
 returns-in_err-pattern g c =
     let a = c.args in
     let s = a.s.now in
-    gives_leaves _ c.from_residual.ensures
-    (gives_refused
-    (pattern_reads s a.caps a.at ∙ read_not (pattern_head a.caps.pattern_lines) (pattern_after_head a.caps) s c.in_err-pattern.ensures) kept_same)
+    record {
+      same = (refl, refl);
+      gives = gives_leaves _ c.from_residual.ensures
+          (gives_refused
+          (pattern_reads s a.caps a.at ∙ read_not (pattern_head a.caps.pattern_lines) (pattern_after_head a.caps) s c.in_err-pattern.ensures) kept_same);
+    }

@@ -12,9 +12,9 @@ pub returns-then-solid : goal.returns-then-solid
 unfolding pattern pattern_read relay pure
 returns-then-solid g c =
     let a = c.args in
-    gives_ends no_pattern (ap (λ (b : Bool). (pattern a.caps b).read a.s.now a.at) c.if-solid.true) refl no_step c.requires
+    record { same = (refl, refl); gives = gives_ends no_pattern (ap (λ (b : Bool). (pattern a.caps b).read a.s.now a.at) c.if-solid.true) refl no_step c.requires }
 
 pub returns : goal.returns
 returns g c =
     let a = c.args in
-    gives_as c.decode_open_pattern.ensures (ap (λ (b : Bool). (pattern a.caps b).read a.s.now a.at) (sym c.if-solid.false))
+    record { same = c.decode_open_pattern.ensures.same; gives = gives_as c.decode_open_pattern.ensures.gives (ap (λ (b : Bool). (pattern a.caps b).read a.s.now a.at) (sym c.if-solid.false)) }

@@ -1,5 +1,5 @@
 -- Two switches and a count, the paths, and what follows them, one behind the other.
-use mathlib.Core.Path.{◌≡◌, sym, ap, ◌∙◌}
+use mathlib.Core.Path.{refl, ◌≡◌, sym, ap, ◌∙◌}
 use mathlib.Core.Bool.{Bool}
 use mathlib.Core.List.{List}
 use Prim.Native.Nat.{ℕ, ◌≤◌}
@@ -66,7 +66,7 @@ unfolding rest rest_read
 returns-then-size-at g c =
     let s = c.args.s.now in
     let past = B_past s c.args.at (omega (arith, c.size.ensures.all)) in
-    rw c.refuse.ensures (gives_refused (then_refused (coded B) _ s past) kept_same)
+    record { same = (refl, refl); gives = rw c.refuse.ensures (gives_refused (then_refused (coded B) _ s past) kept_same) }
 
 pub repeat-requires : goal.repeat-requires
 repeat-requires g c =
@@ -87,22 +87,25 @@ returns g c =
     let n = c.in_ok-n.n in
     let p = c.in_ok-n.p in
     let item = path a.rules.caps in_payload a.rules.version 0 in
-    let t = value_read (all path_entries) ((times n item).read s p) (paths_walk s a.rules.caps a.rules.version n p c.in_ok-used.ensures) in
+    let t = value_read (all path_entries) ((times n item).read s p) (paths_walk s a.rules.caps a.rules.version n p c.in_ok-used.ensures.walk) in
     let o = (tail a.rules.caps c.in_ok-solid.solid c.in_ok-used.used.derived).read s c.in_ok-used.p in
-    let u = given o c.in_ok-tail.ensures in
+    let u = given o c.in_ok-tail.ensures.gives in
     let m = times_length item s n p t.read in
-    gives_ends
-    (record { solid = c.in_ok-solid.solid; associative = c.in_ok-associative.associative; paths = t.value; tail = u.0.value })
-    (read_on (coded B) _ s c.in_ok-solid.ensures ∙ read_on (coded B) _ s c.in_ok-associative.ensures ∙ paths_row s a.rules.caps a.rules.version _ _
-    ∙ read_on (bounded a.rules.caps.paths BL) _ s c.in_ok-n.ensures ∙ then_got (times n item) _ s t.read
-    ∙ then_got (tail a.rules.caps c.in_ok-solid.solid (derived t.value)) _ s
-    (ap (λ (b : Bool). (tail a.rules.caps c.in_ok-solid.solid b).read s c.in_ok-used.p) (sym (has t)) ∙ u.0.read))
-    (λ i. record {
-      solid = c.in_ok-solid.solid;
-      associative = c.in_ok-associative.associative;
-      paths = sym m i;
-      tail = u.1 i;
-    }) (t.step ⊕ u.0.step) c.in_ok-tail.ensures.ready
+    record {
+      same = (c.in_ok-tail.ensures.same.0 ∙ c.in_ok-used.ensures.same.0, c.in_ok-tail.ensures.same.1 ∙ c.in_ok-used.ensures.same.1);
+      gives = gives_ends
+          (record { solid = c.in_ok-solid.solid; associative = c.in_ok-associative.associative; paths = t.value; tail = u.0.value })
+          (read_on (coded B) _ s c.in_ok-solid.ensures ∙ read_on (coded B) _ s c.in_ok-associative.ensures ∙ paths_row s a.rules.caps a.rules.version _ _
+          ∙ read_on (bounded a.rules.caps.paths BL) _ s c.in_ok-n.ensures ∙ then_got (times n item) _ s t.read
+          ∙ then_got (tail a.rules.caps c.in_ok-solid.solid (derived t.value)) _ s
+          (ap (λ (b : Bool). (tail a.rules.caps c.in_ok-solid.solid b).read s c.in_ok-used.p) (sym (has t)) ∙ u.0.read))
+          (λ i. record {
+            solid = c.in_ok-solid.solid;
+            associative = c.in_ok-associative.associative;
+            paths = sym m i;
+            tail = u.1 i;
+          }) (t.step ⊕ u.0.step) c.in_ok-tail.ensures.gives.ready;
+    }
 
 pub returns-in_err-tail : goal.returns-in_err-tail
 unfolding rest rest_read
@@ -112,16 +115,19 @@ returns-in_err-tail g c =
     let n = c.in_ok-n.n in
     let p = c.in_ok-n.p in
     let item = path a.rules.caps in_payload a.rules.version 0 in
-    let t = value_read (all path_entries) ((times n item).read s p) (paths_walk s a.rules.caps a.rules.version n p c.in_ok-used.ensures) in
+    let t = value_read (all path_entries) ((times n item).read s p) (paths_walk s a.rules.caps a.rules.version n p c.in_ok-used.ensures.walk) in
     let o = (tail a.rules.caps c.in_ok-solid.solid c.in_ok-used.used.derived).read s c.in_ok-used.p in
-    let no = c.in_err-tail.ensures in
-    gives_leaves _ c.from_residual-in_err-tail.ensures
-    (gives_refused
-    (read_on (coded B) _ s c.in_ok-solid.ensures ∙ read_on (coded B) _ s c.in_ok-associative.ensures ∙ paths_row s a.rules.caps a.rules.version _ _
-    ∙ read_on (bounded a.rules.caps.paths BL) _ s c.in_ok-n.ensures ∙ then_got (times n item) _ s t.read
-    ∙ then_refused (tail a.rules.caps c.in_ok-solid.solid (derived t.value)) _ s
-    (ap (λ (b : Bool). (tail a.rules.caps c.in_ok-solid.solid b).read s c.in_ok-used.p) (sym (has t)) ∙ not_given o no))
-    (kept_then t.step (given_kept o no)))
+    let no = c.in_err-tail.ensures.gives in
+    record {
+      same = (c.in_err-tail.ensures.same.0 ∙ c.in_ok-used.ensures.same.0, c.in_err-tail.ensures.same.1 ∙ c.in_ok-used.ensures.same.1);
+      gives = gives_leaves _ c.from_residual-in_err-tail.ensures
+          (gives_refused
+          (read_on (coded B) _ s c.in_ok-solid.ensures ∙ read_on (coded B) _ s c.in_ok-associative.ensures ∙ paths_row s a.rules.caps a.rules.version _ _
+          ∙ read_on (bounded a.rules.caps.paths BL) _ s c.in_ok-n.ensures ∙ then_got (times n item) _ s t.read
+          ∙ then_refused (tail a.rules.caps c.in_ok-solid.solid (derived t.value)) _ s
+          (ap (λ (b : Bool). (tail a.rules.caps c.in_ok-solid.solid b).read s c.in_ok-used.p) (sym (has t)) ∙ not_given o no))
+          (kept_then t.step (given_kept o no)));
+    }
 
 pub returns-in_err-used : goal.returns-in_err-used
 unfolding rest rest_read
@@ -131,31 +137,40 @@ returns-in_err-used g c =
     let n = c.in_ok-n.n in
     let p = c.in_ok-n.p in
     let item = path a.rules.caps in_payload a.rules.version 0 in
-    let walk = paths_walk s a.rules.caps a.rules.version n p c.in_err-used.ensures in
-    gives_leaves _ c.from_residual-in_err-used.ensures
-    (gives_refused
-    (read_on (coded B) _ s c.in_ok-solid.ensures ∙ read_on (coded B) _ s c.in_ok-associative.ensures ∙ paths_row s a.rules.caps a.rules.version _ _
-    ∙ read_on (bounded a.rules.caps.paths BL) _ s c.in_ok-n.ensures
-    ∙ then_refused (times n item) _ s (value_refused (all path_entries) ((times n item).read s p) walk)) (walk_kept walk))
+    let walk = paths_walk s a.rules.caps a.rules.version n p c.in_err-used.ensures.walk in
+    record {
+      same = c.in_err-used.ensures.same;
+      gives = gives_leaves _ c.from_residual-in_err-used.ensures
+          (gives_refused
+          (read_on (coded B) _ s c.in_ok-solid.ensures ∙ read_on (coded B) _ s c.in_ok-associative.ensures ∙ paths_row s a.rules.caps a.rules.version _ _
+          ∙ read_on (bounded a.rules.caps.paths BL) _ s c.in_ok-n.ensures
+          ∙ then_refused (times n item) _ s (value_refused (all path_entries) ((times n item).read s p) walk)) (walk_kept walk));
+    }
 
 pub returns-in_err-n : goal.returns-in_err-n
 unfolding rest rest_read
 returns-in_err-n g c =
     let a = c.args in
     let s = a.s.now in
-    gives_leaves _ c.from_residual-in_err-n.ensures
-    (gives_refused
-    (read_on (coded B) _ s c.in_ok-solid.ensures ∙ read_on (coded B) _ s c.in_ok-associative.ensures ∙ paths_row s a.rules.caps a.rules.version _ _
-    ∙ read_not (bounded a.rules.caps.paths BL) _ s c.in_err-n.ensures) kept_same)
+    record {
+      same = (refl, refl);
+      gives = gives_leaves _ c.from_residual-in_err-n.ensures
+          (gives_refused
+          (read_on (coded B) _ s c.in_ok-solid.ensures ∙ read_on (coded B) _ s c.in_ok-associative.ensures ∙ paths_row s a.rules.caps a.rules.version _ _
+          ∙ read_not (bounded a.rules.caps.paths BL) _ s c.in_err-n.ensures) kept_same);
+    }
 
 pub returns-in_err-associative : goal.returns-in_err-associative
 unfolding rest rest_read
 returns-in_err-associative g c =
     let s = c.args.s.now in
-    gives_leaves _ c.from_residual-in_err-associative.ensures
-    (gives_refused (read_on (coded B) _ s c.in_ok-solid.ensures ∙ read_not (coded B) _ s c.in_err-associative.ensures) kept_same)
+    record {
+      same = (refl, refl);
+      gives = gives_leaves _ c.from_residual-in_err-associative.ensures
+          (gives_refused (read_on (coded B) _ s c.in_ok-solid.ensures ∙ read_not (coded B) _ s c.in_err-associative.ensures) kept_same);
+    }
 
 pub returns-in_err-solid : goal.returns-in_err-solid
 unfolding rest rest_read
 returns-in_err-solid g c =
-    gives_leaves _ c.from_residual.ensures (gives_refused (read_not (coded B) _ c.args.s.now c.in_err-solid.ensures) kept_same)
+    record { same = (refl, refl); gives = gives_leaves _ c.from_residual.ensures (gives_refused (read_not (coded B) _ c.args.s.now c.in_err-solid.ensures) kept_same) }

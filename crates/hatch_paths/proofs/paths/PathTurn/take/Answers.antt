@@ -1,5 +1,5 @@
 -- The flags are a word, and say what follows and whether it came from a boundary object.
-use mathlib.Core.Path.{sym}
+use mathlib.Core.Path.{refl, sym}
 use Prim.Native.Nat.{◌/◌}
 use Rattle.loads.specs.Bits.{odd}
 use Rattle.bitcursor.specs.Codes.{BL}
@@ -15,13 +15,16 @@ returns g c =
     let a = c.args in
     let s = a.s.now in
     let f = c.in_ok-flags.flags in
-    let rest = rw c.with_words.ensures at c.decode_after_flags.ensures in
-    walks_as
-    (flags_then (after_flags_walk a.self.0.caps (has_fits a.self.0.version) (odd (f / 2))) f c.put_word.ensures
-    (walks_by (after_flags_walk a.self.0.caps (has_fits a.self.0.version)) a.used.derived c.has_flag-2.ensures c.has_flag.ensures rest))
-    (sym (then_read (coded BL) _ s c.in_ok-flags.ensures))
+    let rest = rw c.with_words.ensures at c.decode_after_flags.ensures.walk in
+    record {
+      same = c.decode_after_flags.ensures.same;
+      walk = walks_as
+          (flags_then (after_flags_walk a.self.0.caps (has_fits a.self.0.version) (odd (f / 2))) f c.put_word.ensures
+          (walks_by (after_flags_walk a.self.0.caps (has_fits a.self.0.version)) a.used.derived c.has_flag-2.ensures c.has_flag.ensures rest))
+          (sym (then_read (coded BL) _ s c.in_ok-flags.ensures));
+    }
 
 pub returns-in_err-flags : goal.returns-in_err-flags
 unfolding path_walk
 returns-in_err-flags g c =
-    leaves _ c.from_residual.ensures (refuses (then_none (coded BL) _ c.args.s.now c.in_err-flags.ensures) kept_same)
+    record { same = (refl, refl); walk = leaves _ c.from_residual.ensures (refuses (then_none (coded BL) _ c.args.s.now c.in_err-flags.ensures) kept_same) }

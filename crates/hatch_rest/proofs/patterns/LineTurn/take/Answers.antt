@@ -1,5 +1,5 @@
 -- Five doubles, a count that is put as a word, and that many doubles, one behind the other.
-use mathlib.Core.Path.{sym, ◌∙◌}
+use mathlib.Core.Path.{refl, sym, ◌∙◌}
 use native.Mathlib.Omega.{arith}
 use Rattle.bitcursor.specs.Codes.{BS}
 use Rattle.bitcursor.specs.Ranges.{BS_below}
@@ -32,25 +32,34 @@ returns g c =
     let a = c.args in
     let s = a.s.now in
     let n = c.in_ok-n.n in
-    let t = walk_finished (double_words 5 a.at a.words.now c.in_ok-used.ensures) in
-    walks_as
-    (behind (double_run n) (λ e. plus t.entries (plus (word n) e)) (t.step ⊕ word_step _ n c.put_word.ensures) (plus_again t.entries (word n))
-    (double_words n _ _ (rw (← c.with_words.ensures) c.double_run-2.ensures)))
-    (sym (then_got (double_run 5) _ s t.read ∙ read_on (bounded a.self.0 BS) _ s c.in_ok-n.ensures))
+    let t = walk_finished (double_words 5 a.at a.lent.now.words.now c.in_ok-used.ensures) in
+    record {
+      same = (refl, refl);
+      walk = walks_as
+          (behind (double_run n) (λ e. plus t.entries (plus (word n) e)) (t.step ⊕ word_step _ n c.put_word.ensures) (plus_again t.entries (word n))
+          (double_words n _ _ (rw (← c.with_words.ensures) c.double_run-2.ensures)))
+          (sym (then_got (double_run 5) _ s t.read ∙ read_on (bounded a.self.0 BS) _ s c.in_ok-n.ensures));
+    }
 
 pub returns-in_err-n : goal.returns-in_err-n
 unfolding line_walk
 returns-in_err-n g c =
     let a = c.args in
     let s = a.s.now in
-    let t = walk_finished (double_words 5 a.at a.words.now c.in_ok-used.ensures) in
-    leaves _ c.from_residual-in_err-n.ensures
-    (refuses (then_got (double_run 5) _ s t.read ∙ read_not (bounded a.self.0 BS) _ s c.in_err-n.ensures) (kept_step t.step))
+    let t = walk_finished (double_words 5 a.at a.lent.now.words.now c.in_ok-used.ensures) in
+    record {
+      same = (refl, refl);
+      walk = leaves _ c.from_residual-in_err-n.ensures
+          (refuses (then_got (double_run 5) _ s t.read ∙ read_not (bounded a.self.0 BS) _ s c.in_err-n.ensures) (kept_step t.step));
+    }
 
 pub returns-in_err-used : goal.returns-in_err-used
 unfolding line_walk
 returns-in_err-used g c =
     let a = c.args in
     let walk = c.in_err-used.ensures in
-    leaves _ c.from_residual.ensures
-    (refuses (then_refused (double_run 5) _ a.s.now (walk_refused walk)) (kept_numbers a.words.now (walk_kept walk)))
+    record {
+      same = (refl, refl);
+      walk = leaves _ c.from_residual.ensures
+          (refuses (then_refused (double_run 5) _ a.s.now (walk_refused walk)) (kept_numbers a.lent.now.words.now (walk_kept walk)));
+    }
