@@ -1,6 +1,7 @@
 // The bit codes of DWG, read from bytes at any bit by value: src/bitcursor.rs of dwg-rs, section 2 of the ODA's specification.
 // The specs/ of crate `bitcursor` promise, for every payload and place, the value and place of a layout by the code's table, or document 01's
 // refusal. Each call takes any bytes and any place; the readers of `bitcursor::within` do the work once the payload is known to be within the limit.
+// One call for each code, as the Rust has them: each is named for its code and promises it, and what they share is `payload` and a reader of `within`.
 #![tactic(auto, using(crate::proofs::Readings::calls))]
 
 ghost use Rattle.std.specs.Prelude.{◌≡◌};

@@ -3,6 +3,5 @@ pub mod FormatSteps
 pub mod Smalls
 pub mod Longs
 pub mod Nans
-pub mod Signs
 pub mod Steps
 pub mod Shorts

@@ -30,7 +30,7 @@ impl Places {
         }
     }
 
-    // The same of the string payload.
+    // The same of the string payload: which field is set is no parameter, and a closure that sets it would be longer than the match.
     pub fn after_string<T>(self, read: Reading<T>) -> Reading<T, Places>
         ensures { outcome result ≡ lifted string self (outcome read) }
     {

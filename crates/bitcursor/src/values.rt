@@ -66,7 +66,8 @@ impl Number for u64 {
     }
 }
 
-// The signed number of 16 bits.
+// The signed number of 16 bits. One for each width: `cast_signed` is a method of each type, so one function for both would be a trait with these two
+// as its members.
 pub fn short_of(v: u64) -> i16
     requires { v < 2 ^ 16 }
     ensures { result ≡ signed 16 v }

@@ -1,4 +1,5 @@
 // The readers of a payload, which is within document 01's limit: raw bits and bytes, and the codes over them.
+// Payload and place are two: the place goes from field to field and the payload does not, so a struct of both would be made anew at each.
 ghost use Rattle.std.specs.Prelude.{◌≡◌, ◌+◌, ◌/◌, ◌^◌, ◌≤◌, ◌<◌, length};
 ghost use Rattle.bitcursor.specs.Code.{raw};
 ghost use Rattle.bitcursor.specs.Bytes.{low_first, high_first, skip};
@@ -11,6 +12,8 @@ use crate::{Handle, Passing, Payload, Reading, Refusal, refuse};
 
 // The next n bits. A payload that is not empty has n bits, so that its last place for them is known, and one comparison tells. A row of flags
 // has it many times, and the compiler would leave it a call that hands its answer over by memory: so it is marked.
+// That n is at most 8 stands in a clause, here and below: callers have a literal, a count of three or four bits just read, or the n that they were given,
+// and would make a value of such a type at each call.
 #[tactic(auto, using(crate::specs::Bytes::raw_there, crate::specs::Bytes::raw_short))]
 #[inline(always)]
 pub fn read_bits(s: &Payload, at: usize, n: usize) -> Reading<u64>
@@ -82,6 +85,8 @@ fn read_high(s: &Payload, at: usize, n: usize) -> Reading<u64>
 
 // What follows the tags 00 and 01 of a BS or a BL: n bytes, or one. BS and BL share it, so that the compiler leaves it a call, and puts the
 // two, which have the codes that are a tag alone before it, into their callers.
+// Tags are matched as the two bits that they are, here and below: each code gives them other meanings (11 is 256 in a BS, refused in a BL, eight bytes
+// in a DD), so that an enum of the four would have no names but theirs.
 #[tactic(auto, using(crate::proofs::Steps::reading), unfolding(crate::specs::Codes::by_tag))]
 fn read_tagged(s: &Payload, at: usize, tag: u64, n: usize) -> Reading<u64>
     requires { n ≤ 8 }
@@ -124,6 +129,7 @@ pub fn read_bl_u(s: &Payload, at: usize) -> Reading<u64>
 }
 
 // The tag of a BD, by the bits that are left. Loops over many BD have this test in them, and hold no number for it but the payload's end.
+// By `read_bits(s, at, 2)` they would hold the last place for two bits too: "bulges in all their bytes" took 6% more instructions (docs/SPEED.md).
 #[tactic(auto, using(crate::specs::Bytes::raw_there, crate::specs::Bytes::raw_short))]
 fn read_tag(s: &Payload, at: usize) -> Reading<u64>
     ensures { outcome result ≡ (raw 2).read s.now at }

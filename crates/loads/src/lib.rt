@@ -11,7 +11,8 @@ mod payload;
 
 pub use payload::{LIMIT, Payload};
 
-// The n bits at `at`.
+// The n bits at `at`. How many bits or bytes, and that they are there, is asked by each load: its caller has just compared, and a type that says it
+// would be made for one call.
 #[tactic(auto, using(crate::proofs::Parts::in_one, crate::proofs::Parts::in_two))]
 pub fn bits_at(s: &[u8], at: usize, n: usize) -> u64
     requires { (1 ≤ n) × ((n ≤ 8) × (at + n ≤ 8 * length s.now)) }
@@ -113,7 +114,8 @@ pub fn top_at(s: &[u8], at: usize) -> u64
     eight_bytes(s, at / 8) << (at % 8)
 }
 
-// The 64 bits behind the two at `at`; `top` is what `top_at` has there.
+// The 64 bits behind the two at `at`; `top` is what `top_at` has there. Bytes, place and top are lent side by side: one reader alone has them
+// (`read_bd_there`), and a struct of the three would be made and taken apart in it.
 #[tactic(auto, using(crate::proofs::LoadLaws::from_two, crate::proofs::LoadLaws::top_behind, crate::proofs::LoadLaws::window_lt))]
 fn word_behind(s: &[u8], at: usize, top: u64) -> u64
     requires { (at / 8 + 10 ≤ length s.now) × (top ≡ number (window s.now at (64 - at % 8)) * 2 ^ (at % 8)) }

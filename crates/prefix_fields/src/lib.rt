@@ -41,6 +41,7 @@ pub fn skip_extended_data(s: &Payload, at: usize) -> Reading<bool>
     refuse(Refusal::TooManyXdataBlocks, p)
 }
 
+// Which of the two codes it is, a bool of the row says (prefix_format's table has why it is a bool).
 #[tactic(auto, using(bitcursor::proofs::Steps::reading), unfolding(bitcursor::specs::Codes::RL, bitcursor::specs::Handles::checked))]
 fn read_graphics_size(s: &Payload, at: usize, bll: bool) -> Reading<u64>
     ensures { outcome result ≡ (checked bll BLL RL).read s.now at }

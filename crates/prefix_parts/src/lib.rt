@@ -13,7 +13,7 @@ use prefix_format::table::Row;
 use sequence::{held, held_bits, marked, read_long, read_raw_long};
 
 // Up to the mode: XDATA, graphics and, in release 1, the data end.
-#[derive(Clone, Copy)]
+#[derive(Clone, Copy, Debug, PartialEq, Eq)]
 pub struct Head {
     pub had_extended_data: bool,
     pub had_graphics: bool,
@@ -21,7 +21,7 @@ pub struct Head {
 }
 
 // From the mode to the colour.
-#[derive(Clone, Copy)]
+#[derive(Clone, Copy, Debug, PartialEq, Eq)]
 pub struct Modes {
     pub raw_mode: u8,
     pub num_reactors: u32,
@@ -32,7 +32,7 @@ pub struct Modes {
 }
 
 // The colour, and the fields behind it that the record keeps.
-#[derive(Clone, Copy)]
+#[derive(Clone, Copy, Debug, PartialEq, Eq)]
 pub struct Colours {
     pub color_raw: u16,
     pub color_rgb: Option<u32>,
@@ -40,7 +40,7 @@ pub struct Colours {
 }
 
 // Which of the fields behind a colour are present.
-#[derive(Clone, Copy, Default)]
+#[derive(Clone, Copy, Debug, Default, PartialEq, Eq)]
 pub struct PresentFields {
     pub rgb: bool,
     pub alpha: bool,
@@ -49,7 +49,7 @@ pub struct PresentFields {
 }
 
 // The linetype scale, as its 64 bits, and the flags behind it.
-#[derive(Clone, Copy)]
+#[derive(Clone, Copy, Debug, PartialEq, Eq)]
 pub struct Styles {
     pub ltype_scale: u64,
     pub ltype_flags: u8,
@@ -59,7 +59,7 @@ pub struct Styles {
 }
 
 // From the visual styles to the end.
-#[derive(Clone, Copy)]
+#[derive(Clone, Copy, Debug, PartialEq, Eq)]
 pub struct Tail {
     pub visual_style_flags: [bool; 3],
     pub invisibility: i16,

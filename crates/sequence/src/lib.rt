@@ -14,6 +14,7 @@ use bitcursor::{Payload, Reading, within};
 
 // A field, if the release has it, by whatever reads it: where that reads as `f`, this reads as `read_if` of `f`. It stands in a row of fields many
 // times, and the compiler would leave it a call that hands its answer over by memory: so it is marked, and `held_bits` too.
+// That the reader is always callable is a clause, since no bound says it of a closure's type.
 #[tactic(auto, unfolding(crate::specs::Present::read_if))]
 #[inline(always)]
 pub fn held<T: Copy, F: Fn(&Payload, usize) -> Reading<T> + Copy>(

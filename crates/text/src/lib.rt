@@ -19,7 +19,8 @@ pub mod within;
 
 pub use payloads::Payloads;
 
-// Which payload a text lies in; an absent gradient's name lies in none.
+// Which payload a text lies in; an absent gradient's name lies in none. Absent is a source and no None around the text: document 01's record has a
+// name, of source 0, where there is no gradient.
 #[derive(Clone, Copy, Debug, PartialEq, Eq)]
 pub enum Source {
     Absent,
@@ -41,7 +42,7 @@ impl From<Source> for u8 {
 
 // Document 01's text: the payload, the bits of a unit, the bit position of the first unit, and how many units there are once a
 // closing zero is dropped; and document 02's: whether one was dropped. That stands beside the width, where it takes no room. Characters
-// are left to the host.
+// are left to the host. A position in bits and no slice: a text starts at any bit.
 #[derive(Clone, Copy, Debug, PartialEq, Eq)]
 pub struct Text {
     pub source: Source,

@@ -5,7 +5,7 @@ ghost use Rattle.text.specs.Releases.{release_number, known, known_at, version_o
 use bitcursor::{Refusal, Refused};
 
 // src/version.rs of dwg-rs; document 01's release numbers are 1 to 7 in this order.
-#[derive(Clone, Copy, Debug, PartialEq, Eq)]
+#[derive(Clone, Copy, Debug, PartialEq, Eq, PartialOrd, Ord)]
 pub enum Version {
     R14,
     R2000,
@@ -37,7 +37,8 @@ impl TryFrom<u64> for Version {
 }
 
 impl Version {
-    // Document 01's number of a release.
+    // Document 01's number of a release. A method, and no From: `row_of` counts rows by it, and a bare `usize::from(v)` would not say which number of a
+    // release it is.
     pub fn release_number(self) -> usize
         ensures { result ≡ release_number self }
     {
@@ -63,6 +64,6 @@ impl Version {
     pub fn is_from(self, first: Version) -> bool
         ensures { result ≡ leb (release_number first) (release_number self) }
     {
-        first.release_number() <= self.release_number()
+        first <= self
     }
 }
