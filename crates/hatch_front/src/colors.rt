@@ -44,7 +44,7 @@ fn read_color(s: &Payload, at: usize) -> Reading<GradientColorBits>
     Ok((color, t))
 }
 
-// The place behind n colours.
+// The place behind n colours. No Turn of hatch_points: there are no lists and no lengths used here.
 pub fn pass_colors(s: &Payload, at: usize, n: usize) -> Passing
     ensures { passing result ≡ passed_of ((times n color).read s.now at) }
 {
