@@ -35,6 +35,7 @@ impl From<Text> for TextFields {
     }
 }
 
+// Here and below what is made of doubles and what is made of their bits are twins, since the structs that cross to C are two (bodies.rt says why).
 impl From<GradientFill> for GradientFields {
     ghost from_gives = { λ fill fields. fields ≡ gradient_fields fill };
 
@@ -132,7 +133,6 @@ fn zero_hatch<N: Number, C: Color>(places: Places) -> Hatch<N, C>
     }
 }
 
-// Here and below what is made of doubles and what is made of their bits are twins, since the structs that cross to C are two (bodies.rt says why).
 impl BodyAnswer {
     fn new(refusal: u64, h: Hatch) -> BodyAnswer
         ensures { result ≡ body_with refusal h }

@@ -4,6 +4,7 @@ ghost use Rattle.std.specs.Prelude.{◌≡◌};
 ghost use Rattle.code_page.specs.Cp1252.{cp1252};
 
 // Marks a byte that the file leaves undefined; no byte's unit.
+// A mark and no Option: the table is specs/Cp1252's number by number, and a search compares all entries with one unit, many at once.
 pub const UNDEFINED: u16 = 0xFFFF;
 
 const CP1252: [u16; 256] = [

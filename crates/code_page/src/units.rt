@@ -36,7 +36,7 @@ impl Character for u16 {
 }
 
 // The byte of a unit that is not its own byte, if there is one: among bytes 80 to 9F (hexadecimal), by 32 comparisons.
-// There is no way out before the last, as `position` has, so that the compiler makes many at once.
+// A loop over the bytes, and no `position`: that leaves at the first hit, so one comparison at a time; the last hit is the only one (`one_byte`).
 #[tactic(auto, unfolding(crate::specs::Mapping::byte_of))]
 fn byte_80_to_9f(table: &Table, unit: u16) -> Option<u8>
     requires { is_own unit ≡ false }

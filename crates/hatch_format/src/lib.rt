@@ -98,8 +98,9 @@ impl Color for GradientColorBits {
 }
 
 // The gradient of a hatch; colours past their count are zero. `present` is a field, and not an Option around the others, since document 01
-// has the record zero throughout where there is no gradient. Fields of an open type come last, here and in Hatch: where the types are open, each field behind
-// one doubles the term that says how large the struct is, and the proofs of generic calls meet the check's limit.
+// has the record zero throughout where there is no gradient; the colours are sixteen and how many, since a record is of fixed memory. Fields of an open
+// type come last, here and in Hatch: where the types are open, each field behind one doubles the term that says how large the struct is, and the proofs of
+// generic calls meet the check's limit.
 #[derive(Copy)]
 pub struct GradientFill<N = f64, C = GradientColor> {
     pub present: bool,

@@ -1,9 +1,10 @@
 -- Colours one behind the other, and the record's sixteen filled with them from the front. Assumes nothing.
-use mathlib.Core.Path.{◌≡◌, refl, sym, ap, ◌∙◌}
+use mathlib.Core.Path.{◌≡◌, refl, sym, ap, ap₂, ◌∙◌}
 use mathlib.Core.List.{List, [], ◌∷◌, ◌++◌}
-use Prim.Native.Nat.{ℕ, zero, suc, ◌+◌, ◌-◌, ◌<◌}
+use Prim.Native.Nat.{ℕ, zero, suc, ◌+◌, ◌-◌, ◌≤◌, ◌<◌}
 use native.Mathlib.Omega.{arith}
-use lib.ListN.{set, replicate}
+use lib.ListN.{set, replicate, take, drop, length}
+use Rattle.std.proofs.lemmas.List.{take-map, drop-map, take-replicate, drop-replicate, map-append, append-nil}
 use Rattle.std.specs.Prelude.{map}
 use lib.Seq.{set_at, append_snoc}
 use Rattle.bitcursor.specs.declared.Refusal.{Refusal}
@@ -43,25 +44,18 @@ module _ {xs : List ℕ} {at i p : ℕ} (h : ReadTo xs at i p) where
   pub all_read : {n : ℕ} → i ≡ n → (times n color).read xs at ≡ got h.items p
   all_read e = ap (λ (m : ℕ). (times m color).read xs at) (sym e) ∙ h.are
 
--- ---- the sixteen: what was read, and zero behind it
-abbrev pub filled : {xs : List ℕ} {at i p : ℕ} → ReadTo xs at i p → List GradientColorBits
-filled {xs} {at} {i} {p} h = h.items ++ replicate (16 - i) zero_color
+-- ---- room for n, taken of the sixteen: what was read, and zero behind it
+abbrev pub filled : (n : ℕ) {xs : List ℕ} {at i p : ℕ} → ReadTo xs at i p → List GradientColorBits
+filled n {xs} {at} {i} {p} h = h.items ++ replicate (n - i) zero_color
 
-module _ {xs : List ℕ} {at i p : ℕ} (h : ReadTo xs at i p) where
-  pub filled_all : filled h ≡ sixteen h.items
-  filled_all = ap (λ (m : ℕ). h.items ++ replicate (16 - m) zero_color) (sym (times_length color xs i at h.are))
-
-  pub filled_more : {c : GradientColorBits} {q : ℕ} (e : color.read xs p ≡ got c q) → i < 16 → set (filled h) i c ≡ filled (one_read h e)
-  unfolding one_read
-  filled_more {c} {q} e lt =
-      let l = times_length color xs i at h.are in
-      let g : 16 - i ≡ suc (16 - (i + 1)) = omega arith in
-      let behind = replicate (16 - (i + 1)) zero_color in
-      ap (λ (m : ℕ). set (h.items ++ replicate m zero_color) i c) g ∙ set_at h.items zero_color behind c i l ∙ sym (append_snoc h.items c behind)
-
-pub filled_none : (xs : List ℕ) (at : ℕ) → sixteen [] ≡ filled (none_read xs at)
-unfolding none_read
-filled_none xs at = refl
+pub filled_more : {n : ℕ} {xs : List ℕ} {at i p : ℕ} (h : ReadTo xs at i p) {c : GradientColorBits} {q : ℕ} (e : color.read xs p ≡ got c q) → i < n
+    → set (filled n h) i c ≡ filled n (one_read h e)
+unfolding one_read
+filled_more {n} {xs} {at} {i} h {c} {q} e lt =
+    let l = times_length color xs i at h.are in
+    let g : n - i ≡ suc (n - (i + 1)) = omega (arith, lt) in
+    let behind = replicate (n - (i + 1)) zero_color in
+    ap (λ (m : ℕ). set (h.items ++ replicate m zero_color) i c) g ∙ set_at h.items zero_color behind c i l ∙ sym (append_snoc h.items c behind)
 
 -- ---- the same, each colour as a caller has it
 pub set_as : {C : Type 0} (of : GradientColorBits → C) (l : List GradientColorBits) (i : ℕ) (c : GradientColorBits)
@@ -69,3 +63,20 @@ pub set_as : {C : Type 0} (of : GradientColorBits → C) (l : List GradientColor
 set_as of [] i c = refl
 set_as of (a ∷ l) zero c = refl
 set_as of (a ∷ l) (suc i) c = ap (λ (m : List _). of a ∷ m) (set_as of l i c)
+
+pub filled_none : {C : Type 0} (of : GradientColorBits → C) (n : ℕ) (xs : List ℕ) (at : ℕ) → n ≤ 16
+    → take n (map of (sixteen [])) ≡ map of (filled n (none_read xs at))
+unfolding none_read
+filled_none of n xs at few =
+    let all : n ≡ n - 0 = omega arith in
+    take-map of n (sixteen []) ∙ ap (map of) (take-replicate n 16 zero_color few) ∙ ap (λ (m : ℕ). map of (replicate m zero_color)) all
+
+-- all n are read: with the zeros behind them they are the sixteen
+pub filled_all : {C : Type 0} (of : GradientColorBits → C) {n : ℕ} {xs : List ℕ} {at i p : ℕ} (h : ReadTo xs at i p) → i ≡ n
+    → map of (filled n h) ++ drop n (map of (sixteen [])) ≡ map of (sixteen h.items)
+filled_all of {n} {xs} {at} {i} h e =
+    let none : n - i ≡ 0 = omega (arith, e) in
+    let long : length h.items ≡ n = times_length color xs i at h.are ∙ e in
+    let read = ap (λ (m : ℕ). map of (h.items ++ replicate m zero_color)) none ∙ ap (map of) (append-nil h.items) in
+    let zeros = drop-map of n (sixteen []) ∙ ap (map of) (drop-replicate n 16 zero_color) ∙ ap (λ (m : ℕ). map of (replicate (16 - m) zero_color)) (sym long) in
+    ap₂ (λ (a b : List _). a ++ b) read zeros ∙ sym (map-append of h.items (replicate (16 - length h.items) zero_color))

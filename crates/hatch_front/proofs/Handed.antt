@@ -1,6 +1,8 @@
 -- What is passed over of a front is what the format reads, and its colours stand where it is said. Assumes nothing.
-use Rattle.std.specs.Prelude.{◌≡◌, refl, Bool, true, false, List, [], ℕ, ◌≤◌, eqb, leb, length, Option}
-use Rattle.std.proofs.Common.{sym, ap, ◌∙◌, arith, true≢false}
+use Rattle.std.specs.Prelude.{◌≡◌, refl, Bool, true, false, List, [], ℕ, ◌≤◌, eqb, leb, length, Option, Result}
+use Rattle.std.proofs.Common.{sym, ap, subst, ◌∙◌, arith, true≢false}
+use Rattle.bitcursor.specs.declared.Refused.{Refused}
+use Rattle.bitcursor.specs.Answers.{outcome}
 use Rattle.bitcursor.specs.Reading.{Out, got, refused, and_then}
 use Rattle.bitcursor.specs.Codes.{BL}
 use Rattle.bitcursor.specs.Doubles.{BD}
@@ -19,9 +21,10 @@ use Rattle.hatch_format.specs.Gradients.{color, takes_color, block_read, block, 
 use Rattle.hatch_format.specs.Hatch.{plane}
 use Rattle.hatch_points.specs.Heads.{count_capped}
 use Rattle.hatch_points.specs.Runs.{times_length}
+use Rattle.hatch_front.specs.declared.Front.{Front}
 use Rattle.hatch_front.specs.declared.Gradient.{Gradient}
 use Rattle.hatch_front.specs.declared.gradients.Block.{Block}
-use Rattle.hatch_front.specs.Answers.{ColorsAt, FillAt, Handed, block_of, gradient_of, shown_of, plane_as, front_of}
+use Rattle.hatch_front.specs.Answers.{ColorsAt, FillAt, Handed, FrontIs, block_of, gradient_of, shown_of, plane_as, front_of}
 use Rattle.hatch_front.specs.Fronts.{named_as, named, front_with, front}
 use Rattle.hatch_front.specs.Passed.{passed, block_passed, gradient_passed, front_passed}
 
@@ -151,3 +154,8 @@ module _ (caps : Caps) (few : caps.colors ≤ 16) (v : Version) (γ : Payloads) 
           (λ a r. and_then ((TV_field v).read γ r) (λ name q. got (record { gradient = g; plane = plane_as a; name = name }) q))))
       go (got g q) o' h = rw h.1 (planes h.0 g h.2 (lifted main q (plane.read γ.main q.main)))
       go (refused k q) o' h = rw h refl
+
+  -- a front that is what was passed over
+  pub front_is : (p : Places) (r : Result (Front × Places) (Refused Places)) → outcome r ≡ (front_passed caps v).read γ p
+      → FrontIs γ.main ((front caps v).read γ p) r
+  front_is p r e = subst (Handed front_of (λ n b. FillAt γ.main n b.gradient) ((front caps v).read γ p)) (sym e) (front_handed p)

@@ -44,7 +44,7 @@ fn read_color(s: &Payload, at: usize) -> Reading<GradientColorBits>
     Ok((color, t))
 }
 
-// The place behind n colours.
+// The place behind n colours. No Turn of hatch_points: there are no lists and no lengths used here.
 pub fn pass_colors(s: &Payload, at: usize, n: usize) -> Passing
     ensures { passing result ≡ passed_of ((times n color).read s.now at) }
 {
@@ -63,11 +63,11 @@ pub fn read_colors<C: Color>(s: &Payload, at: usize, n: usize) -> [C; 16]
 {
     let mut colors = zero_colors();
     let mut p = at;
-    for i in 0..n {
+    for slot in colors[..n].iter_mut() {
         let Ok((color, q)) = read_color(s, p) else {
             return zero_colors();
         };
-        colors[i] = C::from_bits(color);
+        *slot = C::from_bits(color);
         p = q;
     }
     colors

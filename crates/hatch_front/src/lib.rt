@@ -57,6 +57,8 @@ fn read_plane(s: &Payload, at: usize) -> Reading<Plane>
 }
 
 // A body up to its pattern's name.
+// Release and caps, and no Rules: of the caps it asks for the colours' alone, and Rules would ask of all.
+#[tactic(auto, using(bitcursor::proofs::FormatSteps::fields, crate::proofs::Handed::front_is), unfolding(crate::specs::Passed::front_passed))]
 pub fn read_front(payloads: &Payloads, at: Places, v: Version, caps: Caps) -> Reading<Front, Places>
     requires { caps.colors ≤ 16 }
     ensures { FrontIs payloads.now.main ((front caps v).read payloads.now at) result }

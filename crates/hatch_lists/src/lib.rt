@@ -3,7 +3,7 @@
 // specs/ read words and numbers back into paths, lines and seeds, prove that this is the inverse of writing them, and say which are coordinates.
 #![tactic(auto)]
 
-// What a record says of its lists: its switches as bytes, its counts, and the lengths used.
+// What a record says of its lists: its switches as bytes, since across the boundary any byte may stand there, its counts, and the lengths used.
 #[derive(Clone, Copy, Debug, PartialEq, Eq)]
 pub struct HatchCounts {
     pub solid_fill: u8,

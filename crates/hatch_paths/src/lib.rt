@@ -1,5 +1,6 @@
 // The boundary paths of a hatch, with their edges: src/entities/hatch.rs of dwg-rs; section 20.4.75 of the specification, boundary paths.
 // A path is its flags, a polyline or edges, and the count of its boundary handles; walks over it measure and fill, as those of hatch_points.
+// Why payload, place and lengths used are no struct, stands above `Lent` in hatch_points/src/lists.rt.
 // specs/ promises that each walk gathers for the lists what the path, edge or spline that hatch_format reads there holds.
 #![tactic(auto)]
 

@@ -59,6 +59,7 @@ fn decode_edge_path<N: Number>(
     turns::repeat(Edge(rules), s, p, n as usize, lent, used.with_words(1))
 }
 
+// A polyline or edges. Which of the two, the path's flags say: a closure in its place would put this `if` into its caller.
 #[tactic(auto, unfolding(crate::specs::PathWalks::segments_walk))]
 fn decode_segments<N: Number>(
     s: &Payload,
@@ -102,7 +103,7 @@ fn put_handle_count(
     Ok((used.with_words(1), p))
 }
 
-// What follows a path's flags: segments and handle count.
+// What follows a path's flags: segments and handle count. Which segments is handed on, as `decode_segments` has it.
 fn decode_after_flags<N: Number>(
     s: &Payload,
     at: usize,
@@ -118,7 +119,7 @@ fn decode_after_flags<N: Number>(
     put_handle_count(s, p, rules, lent.words, used)
 }
 
-// A path: its flags, a polyline where they say so and else edges, and its handle count.
+// A path: its flags, a polyline where they say so and else edges, and its handle count. A type beside Edge, since the walk of a turn is its type's.
 #[derive(Clone, Copy)]
 pub struct Path(pub Rules);
 

@@ -1,11 +1,10 @@
--- A vertex is the two RD at its place and the BD behind them; and three stores one behind the other. Assumes nothing.
-use mathlib.Core.Path.{◌≡◌, refl, sym, ap, ap₂, ◌∙◌}
+-- A vertex is the two RD at its place and the BD behind them. Assumes nothing.
+use mathlib.Core.Path.{◌≡◌, refl, sym, ap, ◌∙◌}
 use mathlib.Core.List.{List, [], ◌∷◌}
-use Prim.Native.Nat.{ℕ, suc, ◌+◌, ◌-◌, ◌*◌, ◌/◌, ◌≤◌, ◌<◌}
+use Prim.Native.Nat.{ℕ, ◌+◌, ◌-◌, ◌*◌, ◌/◌, ◌≤◌, ◌<◌}
 use native.Mathlib.Omega.{arith}
-use lib.ListN.{length, length-append, set}
-use lib.Seq.{sets}
-use Rattle.std.specs.Prelude.{map, Result, Ok, Err}
+use lib.ListN.{length, length-append}
+use Rattle.std.specs.Prelude.{Result, Ok, Err}
 use Rattle.bitcursor.specs.declared.Refusal.{Refusal}
 use Rattle.bitcursor.specs.declared.Refusal.TheVariants.{TooFewBits}
 use Rattle.bitcursor.specs.declared.Refused.{Refused}
@@ -99,13 +98,3 @@ vertex_long xs p e q i = first ((times 2 (coded RD)).read xs p) refl i
         → length e.numbers ≡ 3
     first (got ns r) j f = second ns (times_length (coded RD) xs 2 p j) r ((times 1 (coded BD)).read xs r) refl f
     first (refused x r) j f = never f
-
--- three stores
-pub three : {N : Type 0} (of : ℕ → N) (l : List N) (i : ℕ) {a b : ℕ} (c : ℕ) {l₁ l₂ l₃ : List N} {a' b' : ℕ} → l₁ ≡ set l i (of a') → a' ≡ a
-    → l₂ ≡ set l₁ (i + 1) (of b') → b' ≡ b → l₃ ≡ set l₂ (i + 2) (of c)
-    → l₃ ≡ sets l i (map of (a ∷ (b ∷ (c ∷ []))))
-three {N} of l i {a} {b} c h₁ ha h₂ hb h₃ =
-    let e : i + 1 ≡ suc i = omega arith in
-    let g : i + 2 ≡ suc (suc i) = omega arith in
-    h₃ ∙ ap (λ (m : List N). set m (i + 2) (of c)) (h₂ ∙ ap₂ (λ (m : List N) (x : ℕ). set m (i + 1) (of x)) (h₁ ∙ ap (λ (x : ℕ). set l i (of x)) ha) hb)
-    ∙ ap₂ (λ (j k : ℕ). set (set (set l i (of a)) j (of b)) k (of c)) e g

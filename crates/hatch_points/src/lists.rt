@@ -13,7 +13,7 @@ pub struct Sizes {
 }
 
 impl Sizes {
-    // n numbers more.
+    // n numbers more. One for each field, since a field is no parameter.
     pub fn with_numbers(self, n: usize) -> Sizes
         requires { self.numbers + n < 2 ^ 64 }
         ensures { result ≡ with_numbers self n }
@@ -37,6 +37,8 @@ impl Sizes {
 }
 
 // The two lists that a caller lends, which a walk fills.
+// Payload, place and lengths used go side by side, and `Ready` ties them in each walk's clause: a struct of the three would be made again behind each of 21
+// steps, since a walk's answer is place and lengths, and clauses would name all through it. That was not tried.
 // No impl Model: its Value would hide which two references these are, and the caller that lends them could not say what was stored.
 #[derive(Drop)]
 pub struct Lent<'a, N> {
@@ -44,6 +46,8 @@ pub struct Lent<'a, N> {
     pub words: &'a mut [u32],
 }
 
+// A number, if the list has room for it. This and the next are two, since what is stored is made of u64 in two ways: a function over the entry would be
+// a third, and these would still be here to call it.
 pub fn put_number<N: Number>(numbers: &mut [N], at: usize, v: u64)
     ensures { numbers.new ≡ set numbers.old at (N.of_bits v) }
 {
@@ -52,6 +56,7 @@ pub fn put_number<N: Number>(numbers: &mut [N], at: usize, v: u64)
     }
 }
 
+// A word, likewise.
 pub fn put_word(words: &mut [u32], at: usize, w: u64)
     requires { w < 2 ^ 32 }
     ensures { words.new ≡ set words.old at w }

@@ -21,6 +21,7 @@ pub fn stores(n: usize, from: usize, room: usize) -> usize
 }
 
 // Stores the n RD at `at`, which are all there, in a list that has room for them: no turn tests the list's length.
+// By the index of each, which says where the double stands too: over `iter_mut` the run would be cut out of the list, and the index come of `enumerate`.
 #[tactic(auto, using(crate::proofs::RawRuns::one_more), unfolding(crate::specs::Stores::raw_at))]
 fn put_run<N: Number>(s: &Payload, at: usize, n: usize, numbers: &mut [N], from: usize)
     requires { (at + 64 * n ≤ 8 * length s.now) × (from + n ≤ length numbers.old) }
@@ -79,7 +80,8 @@ fn read_knot(s: &Payload, at: usize) -> Reading<u64>
 }
 
 // n BD, read and stored. As a `Turn`, with `pass_doubles` the same turn over no lists, a stored double took 44 instructions and not 36, and a passed one
-// 23 and not 18: each turn hands on the lengths, and one that stores nothing makes the value too.
+// 23 and not 18: each turn hands on the lengths, and one that stores nothing makes the value too. By the index of each: a list that ends before the first
+// has no run that could be cut out of it, so `iter_mut` would need a test in front, where `put_number` has it.
 fn put_doubles<N: Number>(
     s: &Payload,
     at: usize,
@@ -100,7 +102,7 @@ fn put_doubles<N: Number>(
     Ok((used.with_numbers(n), p))
 }
 
-// n BD that no list has room for: their places alone are wanted.
+// n BD that no list has room for: their places alone are wanted. A loop of its own for what is said at `put_doubles`.
 fn pass_doubles(s: &Payload, at: usize, n: usize, used: Sizes) -> Reading<Sizes>
     requires { Ready s.now at used }
     ensures { Passes s.now ((repeated n single_walk).read s.now at) used result }

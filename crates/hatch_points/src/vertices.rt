@@ -35,7 +35,8 @@ fn put_vertex<N: Number>(s: &Payload, at: usize, extra: u64, numbers: &mut [N], 
     lists::put_number(numbers, from + 2, extra);
 }
 
-// n of them, read and stored: a loop of its own, and so the next, for what is said at `put_doubles`.
+// n of them, read and stored: a loop of its own, and so the next, for what is said at `put_doubles`; by the index of each, since the list may
+// have room for a part of the last alone.
 fn put_vertices<N: Number>(
     s: &Payload,
     at: usize,

@@ -106,6 +106,7 @@ fn spline_item(words: &[u32], at: usize) -> Option<(Item, usize)>
 }
 
 // An edge: its kind, and what the kind has.
+// The kinds are document 01's numbers, matched where the word is read: an enum of them would be made and matched here alone.
 pub fn edge_item(words: &[u32], at: usize) -> Option<(Item, usize)>
     ensures { Finds Small words.now at result (edge_step document_caps) }
 {

@@ -13,6 +13,7 @@ use differences::{Coordinate, Judgement};
 use hatch_lists::Item;
 
 // How many numbers lie from each point to the next: two at least, its x and its y.
+// List and index are no fields of it: the list that is moved is lent, and a run would be made anew for one point, two and four.
 #[derive(Clone, Copy)]
 pub struct Stride {
     pub numbers: usize,
@@ -82,7 +83,8 @@ fn points_within<C: Coordinate>(numbers: &[C], from: usize, n: usize, stride: St
     last_within(numbers, from + (n - last) * stride.numbers, last, stride).holds()
 }
 
-// The x of the point at an index less x, and its y less y. What is moved may be subtracted from: then no pattern is a NaN's, and none is looked for.
+// The x of the point at an index less x, and its y less y. Both are arguments, as the C call has them: each is subtracted by itself, and an origin of
+// both would be named in every clause. What is moved may be subtracted from: then no pattern is a NaN's, and none is looked for.
 fn move_point<C: Coordinate>(numbers: &mut [C], at: usize, stride: Stride, x: C, y: C)
     requires { (at + stride.numbers ≤ length numbers.old) × Movable C.can_minus x y at (point_run stride.numbers 1) numbers.old }
     ensures { numbers.new ≡ moved_from C.minus x y at (point_run stride.numbers 1) numbers.old }

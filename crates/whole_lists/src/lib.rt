@@ -54,6 +54,8 @@ pub struct ListEnd {
 }
 
 // How many numbers an item has.
+// That an item is small is a clause: Item is hatch_lists', of any numbers, and a bound in it would ask more of who makes one; a type around it would be
+// opened at each use.
 pub fn item_size(i: Item) -> usize
     requires { Small i }
     ensures { (result ≡ item_size i) × (result ≤ 600_100) }

@@ -1,32 +1,35 @@
 -- Each turn reads one colour more, or all are zero.
-use Rattle.std.specs.Prelude.{List, ◌<◌, map}
+use Rattle.std.specs.Prelude.{List, ◌≡◌, ◌++◌, map}
 use Rattle.std.proofs.Common.{sym, ap, ap₂, ◌∙◌, arith}
-use lib.ListN.{set}
+use lib.ListN.{set, take, drop}
 use Rattle.hatch_front.specs.Answers.{sixteen_of}
 use Rattle.hatch_front.proofs.ColorLaws.{none_read, one_read, one_refused, all_read, filled, filled_none, filled_all, filled_more, set_as}
 use Rattle.hatch_front.proofs.colors.read_colors.Goals as goal
 
-pub loop-i-init : goal.loop-i-init
-loop-i-init g c =
+pub loop-slot-init : goal.loop-slot-init
+loop-slot-init g c =
     let a = c.args in
-    (none_read a.s.now a.at, c.zero_colors-colors.ensures ∙ ap (map g.C.Color.of_bits) (filled_none a.s.now a.at))
+    (none_read a.s.now a.at, ap (take a.n) c.zero_colors-colors.ensures ∙ filled_none g.C.Color.of_bits a.n a.s.now a.at c.requires)
 
-pub loop-i-preserved : goal.loop-i-preserved
-loop-i-preserved g c =
-    let l = c.loop-i in
+pub loop-slot-preserved : goal.loop-slot-preserved
+loop-slot-preserved g c =
+    let l = c.loop-slot in
     let h = l.invariant.0 in
     let got = sym c.in-Ok.ensures in
-    let fits : l.i < 16 = omega (arith, c.requires, c.loop-i-test.true) in
-    let stored = ap₂ (λ (m : List _) (v : _). set m l.i v) l.invariant.1 c.from_bits.ensures in
-    (one_read h got, stored ∙ set_as g.C.Color.of_bits (filled h) l.i c.in-Ok.color ∙ ap (map g.C.Color.of_bits) (filled_more h got fits))
+    let stored = ap₂ (λ (m : List _) (v : _). set m l.slot-index v) l.invariant.1 c.from_bits.ensures in (
+      one_read h got,
+      stored ∙ set_as g.C.Color.of_bits (filled c.args.n h) l.slot-index c.in-Ok.color ∙ ap (map g.C.Color.of_bits) (filled_more h got (omega arith)),
+    )
 
 pub returns-in_default : goal.returns-in_default
 returns-in_default g c =
-    let no = one_refused c.loop-i.invariant.0 c.loop-i-test.true (sym c.in_default.ensures) in
+    let no = one_refused c.loop-slot.invariant.0 (omega arith) (sym c.in_default.ensures) in
     c.zero_colors.ensures ∙ ap (map g.C.Color.of_bits) (sym (ap sixteen_of no))
 
 pub returns : goal.returns
 returns g c =
-    let l = c.loop-i in
+    let l = c.loop-slot in
     let h = l.invariant.0 in
-    l.invariant.1 ∙ ap (map g.C.Color.of_bits) (filled_all h ∙ sym (ap sixteen_of (all_read h (omega (arith, l.auto.i-end, c.loop-i-test.false)))))
+    let all : l.slot-index ≡ c.args.n = omega arith in
+    ap₂ (λ (a b : List _). a ++ drop c.args.n b) l.invariant.1 c.zero_colors-colors.ensures
+    ∙ filled_all g.C.Color.of_bits h all ∙ ap (map g.C.Color.of_bits) (sym (ap sixteen_of (all_read h all)))
