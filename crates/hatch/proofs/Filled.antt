@@ -1,7 +1,7 @@
 -- A call's answer from the parts that were handed on, and its lists: where it read, its entries fit, so what was laid over them is their front. Assumes
 -- nothing.
-use Rattle.std.specs.Prelude.{◌≡◌, refl, Bool, true, false, List, ◌++◌, ℕ, ◌+◌, ◌≤◌, length, drop, map, Result, Ok}
-use Rattle.std.proofs.Common.{ap, subst, ◌∙◌, arith, zero-add}
+use Rattle.std.specs.Prelude.{◌≡◌, refl, Bool, true, false, List, ◌++◌, ℕ, ◌+◌, ◌≤◌, length, drop, map, is_none, unwrap_or, Result, Ok}
+use Rattle.std.proofs.Common.{sym, ap, subst, ◌∙◌, arith, zero-add}
 use Rattle.std.proofs.lemmas.List.{length-map}
 use Rattle.std.proofs.lemmas.List.Edits.{sets}
 use lib.Seq.{sets-eq}
@@ -11,19 +11,20 @@ use Rattle.bitcursor.specs.Inputs.{Places, Payloads}
 use Rattle.hatch_format.specs.declared.Caps.{Caps}
 use Rattle.hatch_format.specs.HandleRule.{in_payload}
 use Rattle.hatch_format.specs.declared.GradientColorBits.{GradientColorBits}
-use Rattle.hatch_format.specs.declared.GradientFill.{GradientFill}
-use Rattle.hatch_format.specs.Values.{Gradient, Body}
+use Rattle.hatch_format.specs.Values.{Pattern, no_pattern, Gradient, Body}
 use Rattle.hatch_format.specs.Entries.{words, numbers}
 use Rattle.hatch_format.specs.Record.{fill_of, fill_as, record_of, hatch_as}
 use Rattle.hatch_format.specs.Call.{Call, call_on, hatch_call}
 use Rattle.hatch_format.proofs.Demand3.{read_iff_laid}
 use Rattle.hatch_points.specs.Lists.{Lists}
+use Rattle.hatch_rest.specs.Tails.{open_of, pattern_of}
+use Rattle.hatch_rest.specs.Rests.{SolidBlank}
 use Rattle.hatch_front.specs.Answers.{FillAt, gradient_of}
 use Rattle.hatch_body.specs.declared.Parts.{Parts}
-use Rattle.hatch_body.specs.Parts.{BodyIs}
+use Rattle.hatch_body.specs.Parts.{parts_of, BodyIs}
 use Rattle.hatch_body.proofs.BodyLaws.{laid_words, laid_numbers, used_words, used_numbers}
 use Rattle.hatch_call.specs.Calls.{laid_over, CallIs}
-use Rattle.hatch_record.specs.Records.{fill_by, colors_in, answer_in, lengths_of}
+use Rattle.hatch_record.specs.Records.{fill_by, pattern_in, colors_in, answer_in, lengths_of}
 use Rattle.hatch.specs.Calls.{as_hatch, filled, numbers_as, as_lengths, ReadsParts}
 
 -- ---- the record from the parts is the definition's
@@ -36,13 +37,35 @@ fill_is of make xs at g h = go g.present refl
     go true e = rw (e, h.colors.read) refl
     go false e = rw (h.absent e) refl
 
+-- the pattern's fields; zero where the hatch is solid, and then there is none
+pattern_is : (at : ℕ) (a : Body) (q : Places) → SolidBlank a.rest
+    → (is_none (parts_of at a q).rest.tail.pattern ≡ a.rest.solid) × (pattern_in (parts_of at a q) ≡ open_of a.rest.tail.pattern)
+pattern_is at a q h = go a.rest.solid h
+  where
+    p : Pattern
+    p = a.rest.tail.pattern
+
+    go : (b : Bool) → (b ≡ true → p ≡ no_pattern) → (is_none (pattern_of b p) ≡ b) × (unwrap_or (pattern_of b p) (open_of no_pattern) ≡ open_of p)
+    go true k = (refl, ap open_of (sym (k refl)))
+    go false k = (refl, refl)
+
 pub answer_is : {N C : Type 0} (of : ℕ → N) (make : GradientColorBits → C) (xs : List ℕ) (o : Out Places Body) (r : Result Parts (Refused Places))
     → BodyIs xs o r → answer_in of make xs r ≡ as_hatch of make o
 answer_is of make xs (refused k q) r e = ap (answer_in of make xs) e
 answer_is of make xs (got a q) r e =
     let fill = fill_is of make xs e.0 a.gradient e.2 in
+    let pattern = pattern_is e.0 a q e.3 in
     ap (answer_in of make xs) e.1
-    ∙ rw (used_words a.rest, used_numbers a.rest) (ap (λ (g : GradientFill _ _). Ok (record (hatch_as of make (record_of a q)) { gradient = g })) fill)
+    ∙ (λ i. Ok (record (hatch_as of make (record_of a q)) {
+      gradient = fill i;
+      solid_fill = pattern.0 i;
+      pattern_angle = of (pattern.1 i).angle;
+      pattern_scale = of (pattern.1 i).scale;
+      pattern_double = (pattern.1 i).double;
+      num_pattern_lines = (pattern.1 i).lines;
+      words_used = used_words a.rest i;
+      numbers_used = used_numbers a.rest i;
+    }))
 
 pub lengths_are : (xs : List ℕ) (o : Out Places Body) (r : Result Parts (Refused Places)) → BodyIs xs o r → lengths_of r ≡ as_lengths o
 lengths_are xs (refused k q) r e = ap lengths_of e

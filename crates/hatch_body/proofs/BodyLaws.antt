@@ -23,6 +23,7 @@ use Rattle.hatch_format.specs.declared.Caps.{Caps}
 use Rattle.hatch_format.specs.HandleRule.{Handles}
 use Rattle.hatch_format.specs.Values.{Rest as RestValue}
 use Rattle.hatch_format.specs.Entries.{every, words, numbers, line_words, line_numbers, point_numbers}
+use Rattle.hatch_format.specs.Layouts.{PatternLaid}
 use Rattle.hatch_format.specs.Patterns.{rest}
 use Rattle.hatch_points.specs.declared.lists.Sizes.{Sizes}
 use Rattle.hatch_points.specs.Gathered.{Entries, gathered}
@@ -31,7 +32,7 @@ use Rattle.hatch_points.specs.Lists.{Lists, lists, store, grow, Stored}
 use Rattle.hatch_points.proofs.Laws.{stays, kept_same, sets_out}
 use Rattle.hatch_paths.specs.PathGathers.{all_paths}
 use Rattle.hatch_rest.specs.declared.rests.Rest.{Rest}
-use Rattle.hatch_rest.specs.Rests.{no_sizes, rest_of, rest_entries, rest_walk}
+use Rattle.hatch_rest.specs.Rests.{no_sizes, rest_of, SolidBlank, rest_entries, rest_walk}
 use Rattle.hatch_front.specs.declared.Front.{Front}
 use Rattle.hatch_body.specs.declared.Parts.{Parts}
 use Rattle.hatch_body.specs.Parts.{placed, none_lent, long_enough, parts_if, rest_read, laid_if, rest_lists}
@@ -42,6 +43,14 @@ unfolding rest
 rest_range caps handles v xs p {a} {q} e =
     let l = (rest_to caps handles v xs a p q ((rest caps handles v).sound xs a p q e)).2.2.2 in
     (BS_below a.tail.pattern_style l.1.code l.1.listed, BS_below a.tail.pattern_type l.2.1.code l.2.1.listed)
+
+-- the pattern of a solid hatch is zero
+pub rest_blank : (caps : Caps) (handles : Handles) (v : Version) (xs : List ℕ) (p : ℕ) {a : RestValue} {q : ℕ} → (rest caps handles v).read xs p ≡ got a q
+    → SolidBlank a
+unfolding rest
+rest_blank caps handles v xs p {a} {q} e s =
+    let l = (rest_to caps handles v xs a p q ((rest caps handles v).sound xs a p q e)).2.2.2 in
+    (subst (λ (b : Bool). PatternLaid xs caps b a.tail.pattern l.2.0 l.2.2.0) s l.2.2.1).0
 
 -- ---- what the rest lays is the definition's words and numbers
 pub laid_words : (a : RestValue) → (rest_entries a).words ≡ words a

@@ -8,7 +8,7 @@ use Rattle.bitcursor.specs.Inputs.{Places}
 use Rattle.hatch_format.specs.Values.{Body, Rest as RestValue}
 use Rattle.hatch_points.specs.declared.lists.Sizes.{Sizes}
 use Rattle.hatch_points.specs.Lists.{Lists, store, grow}
-use Rattle.hatch_rest.specs.Rests.{no_sizes, rest_of, rest_entries}
+use Rattle.hatch_rest.specs.Rests.{no_sizes, rest_of, SolidBlank, rest_entries}
 use Rattle.hatch_front.specs.declared.Front.{Front}
 use Rattle.hatch_front.specs.Answers.{FillAt, num_colors, front_of}
 use Rattle.hatch_body.specs.declared.Parts.{Parts}
@@ -25,7 +25,7 @@ parts_of at a q =
 
 -- what is answered for a reading or a refusal
 abbrev pub BodyIs : List ℕ → Out Places Body → Result Parts (Refused Places) → Type 0
-BodyIs xs (got a q) r = (at : ℕ) × (r ≡ Ok (parts_of at a q)) × FillAt xs at a.gradient
+BodyIs xs (got a q) r = (at : ℕ) × (r ≡ Ok (parts_of at a q)) × FillAt xs at a.gradient × SolidBlank a.rest
 BodyIs xs (refused k q) r = r ≡ Err (record { refusal = k; place = q })
 
 -- small enough for the record's fields, and the payload, of which colours are read again, within the limit

@@ -25,14 +25,14 @@ use Rattle.hatch_format.specs.Call.{room_for, call_on}
 use Rattle.hatch_format.specs.Starts.{call_from}
 use Rattle.hatch_points.specs.Lists.{Lists, grow}
 use Rattle.hatch_points.proofs.Laws.{stays}
-use Rattle.hatch_rest.specs.Rests.{no_sizes, rest_entries}
+use Rattle.hatch_rest.specs.Rests.{no_sizes, SolidBlank, rest_entries}
 use Rattle.hatch_front.specs.declared.Front.{Front as CodeFront}
 use Rattle.hatch_front.specs.Fronts.{Front, front, whole, hatch_front}
 use Rattle.hatch_front.specs.Answers.{FillAt, num_colors, gradient_if, gradient_of, front_of, FrontIs}
 use Rattle.hatch_body.specs.declared.Parts.{Parts}
 use Rattle.hatch_body.specs.Parts.{placed, long_enough, parts_if, rest_read, laid_if, rest_lists}
 use Rattle.hatch_call.specs.Calls.{CallIs}
-use Rattle.hatch_body.proofs.BodyLaws.{used_words, used_numbers, rest_range}
+use Rattle.hatch_body.proofs.BodyLaws.{used_words, used_numbers, rest_range, rest_blank}
 
 -- ---- from the front's answer, what was read
 pub front_got : (xs : List ℕ) (o : Out Places Front) {f : CodeFront} {p : Places} → FrontIs xs o (Ok (f, p))
@@ -77,18 +77,18 @@ module _ {N : Type 0} (of : ℕ → N) (caps : Caps) (handles : Handles) (v : Ve
       go true = h
       go false = omega arith
 
-  answered : (l : Lists N) (a : RestValue) (t : ℕ) → (a.tail.pattern_style < 2 ^ 16) × (a.tail.pattern_type < 2 ^ 16) → (b : Bool)
+  answered : (l : Lists N) (a : RestValue) (t : ℕ) → (a.tail.pattern_style < 2 ^ 16) × (a.tail.pattern_type < 2 ^ 16) → SolidBlank a → (b : Bool)
       → CallIs of γ.main (elim b [ true ↦ got (body a) (moved_in main q t) | false ↦ refused ListTooShort (moved_in main q t) ]) l (laid_if of b l a)
       (parts_if b (front_of at f) a (placed q t))
-  answered l a t small true = record { body = (at, refl, fill); readable = (within, (few f.gradient fill.colors.few, small)); lists = refl }
-  answered l a t small false = record { body = refl; readable = tt; lists = refl }
+  answered l a t small blank true = record { body = (at, refl, fill, blank); readable = (within, (few f.gradient fill.colors.few, small)); lists = refl }
+  answered l a t small blank false = record { body = refl; readable = tt; lists = refl }
 
   pub behind_is : (l : Lists N) (p : ℕ) (o : Out ℕ RestValue) → (rest caps handles v).read γ.main p ≡ o
       → CallIs of γ.main (behind o) l (rest_lists of l nw nn o) (rest_read (front_of at f) nw nn q o)
   behind_is l p (refused k t) e = record { body = refl; readable = tt; lists = refl }
   behind_is l p (got a t) e =
       subst (λ (b : Bool). CallIs of γ.main (behind (got a t)) l (laid_if of b l a) (parts_if b (front_of at f) a (placed q t))) (same_room a)
-      (answered l a t (rest_range caps handles v γ.main p e) (leb (length (words a)) nw && leb (length (numbers a)) nn))
+      (answered l a t (rest_range caps handles v γ.main p e) (rest_blank caps handles v γ.main p e) (leb (length (words a)) nw && leb (length (numbers a)) nn))
 
 module _ (caps : Caps) (handles : Handles) (v : Version) (γ : Payloads) where
   abbrev whole_read : Places → ℕ → ℕ → Out Places Body

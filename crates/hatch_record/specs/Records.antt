@@ -1,5 +1,5 @@
 -- The record, the answers and the lengths from a body's parts. Assumes nothing.
-use Rattle.std.specs.Prelude.{Bool, List, [], ℕ, map, Option, Some, None, is_some, unwrap_or, Result, Ok, Err}
+use Rattle.std.specs.Prelude.{Bool, false, List, [], ℕ, map, Option, Some, None, is_some, is_none, unwrap_or, Result, Ok, Err}
 use Rattle.bitcursor.specs.declared.Refused.{Refused}
 use Rattle.bitcursor.specs.Inputs.{Places}
 use Rattle.hatch_format.specs.declared.GradientColorBits.{GradientColorBits}
@@ -11,11 +11,16 @@ use Rattle.hatch_format.specs.Counts.{times}
 use Rattle.hatch_format.specs.Gradients.{color}
 use Rattle.hatch_front.specs.declared.Gradient.{Gradient}
 use Rattle.hatch_front.specs.Answers.{sixteen_of, num_colors as colors_of}
+use Rattle.hatch_rest.specs.declared.patterns.Pattern.{Pattern}
 use Rattle.hatch_body.specs.declared.Parts.{Parts}
 use Rattle.hatch_body.specs.Parts.{Small}
 use Rattle.hatch_record.specs.declared.Lengths.{Lengths}
 
 -- ---- the record from the parts and sixteen colours, with each double as what `of` makes of its 64 bits
+-- the pattern's fields; zero where the hatch is solid
+abbrev pub pattern_in : Parts → Pattern
+pattern_in a = unwrap_or a.rest.tail.pattern (record { angle = 0; scale = 0; double = false; lines = 0 })
+
 -- an absent gradient is zero throughout
 abbrev pub no_fields : Gradient
 no_fields =
@@ -53,15 +58,15 @@ module _ {N : Type 0} (of : ℕ → N) {C : Type 0} (colors : List C) where
         elevation = of a.front.plane.elevation;
         extrusion = record { x = of a.front.plane.x; y = of a.front.plane.y; z = of a.front.plane.z };
         pattern_name = a.front.name;
-        solid_fill = a.rest.solid;
+        solid_fill = is_none a.rest.tail.pattern;
         associative = a.rest.associative;
         num_paths = a.rest.paths;
         pattern_style = a.rest.tail.style;
         pattern_type = a.rest.tail.kind;
-        pattern_angle = of a.rest.tail.pattern.angle;
-        pattern_scale = of a.rest.tail.pattern.scale;
-        pattern_double = a.rest.tail.pattern.double;
-        num_pattern_lines = a.rest.tail.pattern.lines;
+        pattern_angle = of (pattern_in a).angle;
+        pattern_scale = of (pattern_in a).scale;
+        pattern_double = (pattern_in a).double;
+        num_pattern_lines = (pattern_in a).lines;
         pixel_size = of a.rest.tail.ending.pixel_size;
         num_seed_points = a.rest.tail.ending.seed_points;
         words_used = a.used.words;

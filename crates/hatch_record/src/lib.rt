@@ -14,6 +14,7 @@ use bitcursor::{Payload, Places, Refused};
 use hatch_body::{BodyRead, Parts};
 use hatch_format::{Color, GradientColor, GradientFill, Hatch, Vec3D};
 use hatch_front::{Gradient, colors};
+use hatch_rest::patterns::Pattern;
 use text::{Source, Text};
 
 // What a call hands over by value, with doubles and colours as a caller has them; or its refusal and the places of that.
@@ -67,6 +68,7 @@ fn fill<N: Number, C: Color>(gradient: Option<Gradient>, colors: [C; 16]) -> Gra
     }
 }
 
+// The record; of a solid hatch, which has no pattern, the pattern's fields are zero, as document 01 has it.
 fn record<N: Number, C: Color>(a: Parts, colors: [C; 16]) -> Hatch<N, C>
     requires { Small a }
     ensures { result ≡ record_by N.of_bits colors a }
@@ -74,7 +76,12 @@ fn record<N: Number, C: Color>(a: Parts, colors: [C; 16]) -> Hatch<N, C>
     let plane = a.front.plane;
     let rest = a.rest;
     let tail = rest.tail;
-    let pattern = tail.pattern;
+    let pattern = tail.pattern.unwrap_or(Pattern {
+        angle: 0,
+        scale: 0,
+        double: false,
+        lines: 0,
+    });
     let ending = tail.ending;
     Hatch {
         gradient: fill(a.front.gradient, colors),
@@ -85,7 +92,7 @@ fn record<N: Number, C: Color>(a: Parts, colors: [C; 16]) -> Hatch<N, C>
             z: N::from_bits(plane.z),
         },
         pattern_name: a.front.name,
-        solid_fill: rest.solid,
+        solid_fill: tail.pattern.is_none(),
         associative: rest.associative,
         num_paths: rest.paths,
         pattern_style: tail.style as u16,

@@ -41,9 +41,6 @@ module _ {N : Type 0} {of : ℕ → N} {xs : List ℕ} {A V : Type 0} {value : A
       → Gives of xs value e o l z l' (Err x) → Gives of xs value e o l z l' r
   gives_leaves r m h = stays (Gives of xs value e o l z l') r m h
 
-  pub gives_as : {o' : Out ℕ A} {r : Result ((V × Sizes) × ℕ) (Refused ℕ)} → Gives of xs value e o l z l' r → o ≡ o' → Gives of xs value e o' l z l' r
-  gives_as {r = r} h i = subst (λ (w : Out ℕ A). Gives of xs value e w l z l' r) i h
-
 -- ---- what is told
 same_got : {A : Type 0} {a b : A} {p q : ℕ} → got a p ≡ got b q → (a ≡ b) × (p ≡ q)
 same_got e = (cc, cc)

@@ -1,5 +1,5 @@
 -- Walks that give values beside what they gather: the pattern, the last fields, and what follows the paths. Assumes nothing.
-use Rattle.std.specs.Prelude.{◌≡◌, List, ℕ, length, Result, Ok, Err}
+use Rattle.std.specs.Prelude.{◌≡◌, Bool, true, false, List, ℕ, length, Option, Some, None, Result, Ok, Err}
 use Rattle.bitcursor.specs.declared.Refused.{Refused}
 use Rattle.bitcursor.specs.Answers.{outcome, value_as}
 use Rattle.bitcursor.specs.Reading.{Out}
@@ -36,9 +36,13 @@ pub record LentGives {N : Type 0} (of : ℕ → N) (xs : List ℕ) {A V : Type 0
   pub gives : Gives of xs value e o (lent l) z (lent l') r
   pub same : SameLists l l'
 
--- ---- the pattern
-abbrev pub pattern_of : PatternValue → Pattern
-pattern_of a = record { angle = a.angle; scale = a.scale; double = a.double; lines = length a.lines }
+-- ---- the pattern; a solid hatch has none
+abbrev pub open_of : PatternValue → Pattern
+open_of a = record { angle = a.angle; scale = a.scale; double = a.double; lines = length a.lines }
+
+abbrev pub pattern_of : Bool → PatternValue → Option Pattern
+pattern_of true a = None
+pattern_of false a = Some (open_of a)
 
 abbrev pub pattern_entries : PatternValue → Entries
 pattern_entries a = all line_entries a.lines
@@ -51,8 +55,8 @@ abbrev pub ending_entries : EndingValue → Entries
 ending_entries a = numbers (every point_numbers a.seed_points)
 
 -- ---- what follows the paths
-abbrev pub tail_of : TailValue → Tail
-tail_of a = record { style = a.pattern_style; kind = a.pattern_type; pattern = pattern_of a.pattern; ending = ending_of a.ending }
+abbrev pub tail_of : Bool → TailValue → Tail
+tail_of solid a = record { style = a.pattern_style; kind = a.pattern_type; pattern = pattern_of solid a.pattern; ending = ending_of a.ending }
 
 abbrev pub tail_entries : TailValue → Entries
 tail_entries a = plus (pattern_entries a.pattern) (ending_entries a.ending)

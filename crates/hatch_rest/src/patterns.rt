@@ -1,5 +1,5 @@
 // What follows the paths: the pattern with its lines, and the last fields.
-ghost use Rattle.std.specs.Prelude.{◌≡◌, false, []};
+ghost use Rattle.std.specs.Prelude.{◌≡◌, []};
 ghost use Rattle.bitcursor.specs.Answers.{outcome};
 ghost use Rattle.bitcursor.specs.Doubles.{BD};
 ghost use Rattle.bitcursor.specs.Held.{held};
@@ -16,7 +16,7 @@ use hatch_points::lists::{Lent, Sizes};
 use hatch_points::turns::Turn;
 use hatch_points::{counts, lists, runs, turns};
 
-// What a hatch has that is not solid, with the count of its lines; zero where it is.
+// What a hatch has that is not solid, with the count of its lines.
 #[derive(Clone, Copy, Debug, PartialEq, Eq)]
 pub struct Pattern {
     pub angle: u64,
@@ -32,12 +32,12 @@ pub struct Ending {
     pub seed_points: usize,
 }
 
-// What follows the paths.
+// What follows the paths; no pattern where the hatch is solid.
 #[derive(Clone, Copy, Debug, PartialEq, Eq)]
 pub struct Tail {
     pub style: u64,
     pub kind: u64,
-    pub pattern: Pattern,
+    pub pattern: Option<Pattern>,
     pub ending: Ending,
 }
 
@@ -80,22 +80,6 @@ fn read_pattern_head(s: &Payload, at: usize, cap: usize) -> Reading<Pattern>
     Ok((pattern, p))
 }
 
-// The pattern of a hatch that is not solid.
-fn decode_open_pattern<N: Number>(
-    s: &Payload,
-    at: usize,
-    caps: Caps,
-    lent: &mut Lent<N>,
-    used: Sizes,
-) -> Reading<(Pattern, Sizes)>
-    requires { Ready s.now at used }
-    ensures { LentGives N.of_bits s.now pattern_of pattern_entries ((pattern caps false).read s.now at) lent.old used lent.new result }
-{
-    let (pattern, p) = read_pattern_head(s, at, caps.pattern_lines)?;
-    let (used, p) = turns::repeat(Line(caps.dashes), s, p, pattern.lines, lent, used)?;
-    Ok(((pattern, used), p))
-}
-
 // A solid hatch has no pattern, and nothing is read.
 fn decode_pattern<N: Number>(
     s: &Payload,
@@ -104,20 +88,16 @@ fn decode_pattern<N: Number>(
     caps: Caps,
     lent: &mut Lent<N>,
     used: Sizes,
-) -> Reading<(Pattern, Sizes)>
+) -> Reading<(Option<Pattern>, Sizes)>
     requires { Ready s.now at used }
-    ensures { LentGives N.of_bits s.now pattern_of pattern_entries ((pattern caps solid).read s.now at) lent.old used lent.new result }
+    ensures { LentGives N.of_bits s.now (pattern_of solid) pattern_entries ((pattern caps solid).read s.now at) lent.old used lent.new result }
 {
     if solid {
-        let pattern = Pattern {
-            angle: 0,
-            scale: 0,
-            double: false,
-            lines: 0,
-        };
-        return Ok(((pattern, used), at));
+        return Ok(((None, used), at));
     }
-    decode_open_pattern(s, at, caps, lent, used)
+    let (pattern, p) = read_pattern_head(s, at, caps.pattern_lines)?;
+    let (used, p) = turns::repeat(Line(caps.dashes), s, p, pattern.lines, lent, used)?;
+    Ok(((Some(pattern), used), p))
 }
 
 // The pixel size is there if a path came from a boundary object.
@@ -166,7 +146,7 @@ pub fn decode_tail<N: Number>(
     used: Sizes,
 ) -> Reading<(Tail, Sizes)>
     requires { Ready s.now at used }
-    ensures { LentGives N.of_bits s.now tail_of tail_entries ((tail caps solid has).read s.now at) lent.old used lent.new result }
+    ensures { LentGives N.of_bits s.now (tail_of solid) tail_entries ((tail caps solid has).read s.now at) lent.old used lent.new result }
 {
     let (style, p) = within::read_bs_u(s, at)?;
     let (kind, p) = within::read_bs_u(s, p)?;

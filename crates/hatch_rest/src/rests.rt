@@ -13,9 +13,9 @@ use hatch_paths::paths::Path;
 use hatch_points::lists::{Lent, Sizes};
 use hatch_points::{counts, turns};
 
+// A solid hatch is one without a pattern.
 #[derive(Clone, Copy, Debug, PartialEq, Eq)]
 pub struct Rest {
-    pub solid: bool,
     pub associative: bool,
     pub paths: usize,
     pub tail: Tail,
@@ -48,7 +48,6 @@ pub fn decode_rest<N: Number>(
     let caps = rules.caps;
     let ((tail, used), p) = patterns::decode_tail(s, p, solid, has, caps, lent, used)?;
     let rest = Rest {
-        solid,
         associative,
         paths: count,
         tail,

@@ -1,4 +1,5 @@
-// The lists that are lent, and what their entries hold before a call, so that one that must not change shows it.
+// The lists that are lent, and what their entries hold before a call, so that one that must not change shows it. Arrays and no Vec, since the memory
+// of a replay is fixed.
 
 // How many entries there are to lend of each list.
 const LENT: usize = 512;

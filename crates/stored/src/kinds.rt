@@ -2,7 +2,8 @@
 use std::fmt;
 
 // The codes, each by value; BdBits, RdBits and DdBits hand over a double's 64 bits, Bd, Rd and Dd the double. Then the entity prefix, the
-// inline text, the hatch body without and with a string reader, and the text by a reader. No call answers an unknown one.
+// inline text, the hatch body without and with a string reader, and the text by a reader. No call answers an unknown one,
+// which is a kind and no None, since a record of it is counted and written like any other.
 #[derive(Clone, Copy, Debug, PartialEq, Eq)]
 pub enum Kind {
     Unknown,

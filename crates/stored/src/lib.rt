@@ -17,7 +17,8 @@ pub mod replay;
 pub mod report;
 pub mod texts;
 
-// 65,536 zeros, room for the items of a record. The `ensures` gives only the length, which lending the array as a slice needs.
+// 65,536 zeros, room for the items of a record: an array and no Vec, since the memory of a replay is fixed. The `ensures` gives only the length,
+// which lending the array as a slice needs.
 pub fn large_buffer() -> [u8; 65536]
     ensures { 65536 ≡ length result }
 {

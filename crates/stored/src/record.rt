@@ -12,7 +12,7 @@ use crate::kinds::Kind;
 const HEAD: usize = 80;
 
 // A record that has the payload that it says, in its parts; `more` is item 4. Where it has fewer strings than it says, it has none, and no answer.
-#[derive(Clone, Copy)]
+#[derive(Clone, Copy, Debug, PartialEq, Eq)]
 pub struct Record<'a> {
     pub line: u64,
     pub kind: Kind,

@@ -1,4 +1,5 @@
-// The requests for one code: which call each kind is.
+// The requests for one code: which call each kind is. A match and no table: the calls answer in types of their own, so a table would be one of boxed
+// closures.
 use bitcursor::values;
 use stored::answers::Answer;
 use stored::kinds::Kind;

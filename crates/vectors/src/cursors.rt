@@ -15,7 +15,7 @@ fn read<T: Values, F: FnOnce(&mut BitCursor) -> Result<T, Refusal>>(at: usize, r
     crate::reading(value, cursor.position_bits()).into()
 }
 
-// The answer of the kinds of `codes` whose readers take a lent cursor: none that gives a double's 64 bits does.
+// The answer of the kinds of `codes` whose readers take a lent cursor: none that gives a double's 64 bits does. A match and no table, as in `codes`.
 pub fn answer(record: &Record) -> Option<Answer> {
     let s = record.payload;
     let at = record.start;

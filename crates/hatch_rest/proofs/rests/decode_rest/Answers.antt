@@ -100,7 +100,6 @@ returns g c =
           ∙ then_got (tail a.rules.caps c.in_ok-solid.solid (derived t.value)) _ s
           (ap (λ (b : Bool). (tail a.rules.caps c.in_ok-solid.solid b).read s c.in_ok-used.p) (sym (has t)) ∙ u.0.read))
           (λ i. record {
-            solid = c.in_ok-solid.solid;
             associative = c.in_ok-associative.associative;
             paths = sym m i;
             tail = u.1 i;
