@@ -10,7 +10,7 @@ use bitcursor::values::Number;
 use hatch_body::{BodyRead, Room};
 
 // A lent string reader: its payload, the bit at which it stands and the bit at which it ends.
-#[derive(Clone, Copy)]
+#[derive(Clone, Copy, Debug, PartialEq, Eq)]
 pub struct Strings<'a> {
     pub bytes: &'a [u8],
     pub start: usize,

@@ -17,7 +17,8 @@ pub mod seeds;
 
 pub use calls::Strings;
 
-// A hatch body without a reader, from any bytes at any start bit, of any release number; its doubles as f64 or as their 64 bits.
+// A hatch body without a reader, from any bytes at any start bit, of any release number; its doubles as f64 or as their 64 bits. Bytes, start and release
+// stay arguments, as the C calls have them: a struct of them would be made in each call and taken apart in `calls::call`.
 pub fn decode<N: Number, C: Color>(
     main: &[u8],
     start: usize,

@@ -50,7 +50,8 @@ fn none_lent<N: Number>(numbers: &[N], words: &[u32]) -> bool
     numbers.is_empty() && words.is_empty()
 }
 
-// Fills the lists with the rest. Empty lists take nothing, so a call that is lent none, as a measuring call is, does not walk again.
+// Fills the lists with the rest. Empty lists take nothing, so a call that is lent none, as a measuring call is, does not walk again. Two lists from here
+// up, as the C calls lend them: a Lent is made here, once, where both walks of a body meet.
 fn fill_lists<N: Number>(s: &Payload, at: usize, rules: Rules, numbers: &mut [N], words: &mut [u32])
     ensures { Stored N.of_bits (gathered rest_entries ((rest rules.caps in_payload rules.version).read s.now at))
         (lists numbers.old words.old) no_sizes (lists numbers.new words.new) }

@@ -43,7 +43,8 @@ fn read_body<N: Number>(
     hatch_body::fill_rest(&payloads.main, p, rules, front, room, numbers, words)
 }
 
-// The places with the string reader at its start, or why it stands nowhere.
+// The places with the string reader at its start, or why it stands nowhere. By hand, and not by `after_string`: that takes a value with the place, and
+// a start has none.
 fn standing(strings: &Payload, at: Places) -> Result<Places, Refused<Places>>
     ensures { passing result ≡ lifted string at (start_in (size strings.now) at.string) }
 {
@@ -62,7 +63,8 @@ fn standing(strings: &Payload, at: Places) -> Result<Places, Refused<Places>>
 }
 
 // A call on any input: refusal 9, then 10 of either payload, then a string start past its payload, then the body, read with the
-// reader at its start. A string reader is lent if its end bit is said.
+// reader at its start. A string reader is lent if its end bit is said. Bytes, and no Payloads: here each is found to be within the limit, behind
+// refusal 9.
 pub fn read_call<N: Number>(
     main: &[u8],
     string: &[u8],

@@ -142,7 +142,8 @@ fn colors_in<C: Color>(main: &Payload, gradient: Option<Gradient>) -> [C; 16]
     }
 }
 
-// The answer with the colours read once more, from where they stand; what parts were read of is within the limit.
+// The answer with the colours read once more, from where they stand; what parts were read of is within the limit. Bytes and parts are two: a refusal has
+// no bytes to be read again, and `lengths_of` takes a call's answer without them.
 pub fn colored<N: Number, C: Color>(main: &[u8], r: BodyRead) -> HatchRead<N, C>
     requires { Readable main.now r }
     ensures { result ≡ answer_in N.of_bits C.of_bits main.now r }
@@ -164,6 +165,7 @@ pub fn answer<N: Number, C: Color>(main: &[u8], r: BodyRead) -> HatchRead<N, C>
     plain(r)
 }
 
+// The lengths. No From: both sides are Results, of which no From can be given here.
 pub fn lengths_of(r: BodyRead) -> LengthsRead
     ensures { result ≡ lengths_of r }
 {

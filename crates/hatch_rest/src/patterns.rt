@@ -32,7 +32,7 @@ pub struct Ending {
     pub seed_points: usize,
 }
 
-// What follows the paths; no pattern where the hatch is solid.
+// What follows the paths; no pattern where the hatch is solid. Style and type are handed over as they are read, whatever number they are.
 #[derive(Clone, Copy, Debug, PartialEq, Eq)]
 pub struct Tail {
     pub style: u64,
@@ -80,7 +80,7 @@ fn read_pattern_head(s: &Payload, at: usize, cap: usize) -> Reading<Pattern>
     Ok((pattern, p))
 }
 
-// A solid hatch has no pattern, and nothing is read.
+// A solid hatch has no pattern, and nothing is read. Which, the body says: a closure in its place would put this `if` into its caller.
 fn decode_pattern<N: Number>(
     s: &Payload,
     at: usize,
@@ -100,7 +100,8 @@ fn decode_pattern<N: Number>(
     Ok(((Some(pattern), used), p))
 }
 
-// The pixel size is there if a path came from a boundary object.
+// The pixel size is there if a path came from a boundary object. By hand, and not by sequence's `held`: that crate is the prefix's, beside which the
+// hatch's crates stand.
 #[tactic(auto, using(bitcursor::proofs::Steps::reading), unfolding(bitcursor::specs::Held::held))]
 fn read_pixel_size(s: &Payload, at: usize, has: bool) -> Reading<u64>
     ensures { outcome result ≡ (held has BD 0).read s.now at }
