@@ -6,7 +6,7 @@ ghost use Rattle.boundary.specs.Boundary.{code_answer, bool_answer, signed_answe
 
 use crate::{CodeAnswer, DoubleAnswer, HandleAnswer, SignedAnswer, TextAnswer};
 use bitcursor::{Handle, Reading};
-use text::{Source, Text};
+use text::{NO_TEXT, Text};
 
 // What every answer begins with, and what was read: the refusal's number or 0, the place, and the value or what stands for it on a refusal.
 fn parts<T: Copy>(read: Reading<T>, none: T) -> (u64, usize, T)
@@ -104,15 +104,6 @@ impl From<Reading<Handle>> for HandleAnswer {
         }
     }
 }
-
-// What stands for a text on a refusal, and for the name of a hatch that has none.
-pub const NO_TEXT: Text = Text {
-    source: Source::Absent,
-    width: 0,
-    padded: false,
-    position: 0,
-    count: 0,
-};
 
 impl From<Reading<Text>> for TextAnswer {
     ghost from_gives = { λ read answer. answer ≡ text_answer (outcome read) };

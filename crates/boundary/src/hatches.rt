@@ -6,7 +6,6 @@ ghost use Rattle.hatch_record.specs.Records.{answer_in};
 ghost use Rattle.boundary.specs.HatchBoundary.{text_fields, gradient_fields, gradient_bits, body_fields, body_with, bits_with};
 ghost use Rattle.boundary.specs.HatchBoundary.{body_answer, body_bits, lengths_answer};
 
-use crate::answers::NO_TEXT;
 use crate::bodies::{
     BodyAnswer, BodyBitsAnswer, BodyFields, GradientBits, GradientFields, LengthsAnswer, TextFields,
 };
@@ -19,7 +18,7 @@ use hatch_format::{
 };
 use hatch_front::colors;
 use hatch_record::{HatchRead, LengthsRead};
-use text::Text;
+use text::{NO_TEXT, Text};
 
 impl From<Text> for TextFields {
     ghost from_gives = { λ text fields. fields ≡ text_fields text };

@@ -15,7 +15,7 @@ use hatch_body::{BodyRead, Parts};
 use hatch_format::{Color, GradientColor, GradientFill, Hatch, Vec3D};
 use hatch_front::{Gradient, colors};
 use hatch_rest::patterns::Pattern;
-use text::{Source, Text};
+use text::NO_TEXT;
 
 // What a call hands over by value, with doubles and colours as a caller has them; or its refusal and the places of that.
 pub type HatchRead<N = f64, C = GradientColor> = Result<Hatch<N, C>, Refused<Places>>;
@@ -41,13 +41,7 @@ fn no_fields() -> Gradient
         tint: 0,
         num_colors: 0,
         colors_at: 0,
-        name: Text {
-            source: Source::Absent,
-            width: 0,
-            position: 0,
-            count: 0,
-            padded: false,
-        },
+        name: NO_TEXT,
     }
 }
 

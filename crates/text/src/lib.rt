@@ -52,6 +52,15 @@ pub struct Text {
     pub count: usize,
 }
 
+// What stands for a text where there is none: on a refusal, and for the name of a gradient that a hatch has not.
+pub const NO_TEXT: Text = Text {
+    source: Source::Absent,
+    width: 0,
+    padded: false,
+    position: 0,
+    count: 0,
+};
+
 // Inline text of any release, from any bytes at any place: refusal 9, then 10, then the text's own.
 #[tactic(auto, using(bitcursor::proofs::Steps::limit_within, bitcursor::proofs::Steps::limit_above), unfolding(crate::specs::Answers::released))]
 pub fn read_tv(s: &[u8], at: usize, release: u64) -> Reading<Text>
