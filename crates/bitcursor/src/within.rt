@@ -128,28 +128,12 @@ pub fn read_bl_u(s: &Payload, at: usize) -> Reading<u64>
     read_tagged(s, p, tag, 4)
 }
 
-// The tag of a BD, by the bits that are left. Loops over many BD have this test in them, and hold no number for it but the payload's end.
-// By `read_bits(s, at, 2)` they would hold the last place for two bits too: "bulges in all their bytes" took 6% more instructions (docs/SPEED.md).
-#[tactic(auto, using(crate::specs::Bytes::raw_there, crate::specs::Bytes::raw_short))]
-fn read_tag(s: &Payload, at: usize) -> Reading<u64>
-    ensures { outcome result ≡ (raw 2).read s.now at }
-{
-    let end = s.size();
-    if end <= at {
-        return refuse(Refusal::TooFewBits, at);
-    }
-    if end - at < 2 {
-        return refuse(Refusal::TooFewBits, at);
-    }
-    Ok((loads::bits_at(s.bytes(), at, 2), at + 2))
-}
-
 // BD, as its 64 bits.
 #[tactic(auto, using(crate::proofs::Steps::reading), unfolding(crate::specs::Doubles::BD, crate::specs::Doubles::BD_read, crate::specs::Codes::tagged, crate::specs::Codes::by_tag))]
 pub fn read_bd_bits(s: &Payload, at: usize) -> Reading<u64>
     ensures { outcome result ≡ BD.read s.now at }
 {
-    let (tag, p) = read_tag(s, at)?;
+    let (tag, p) = read_bits(s, at, 2)?;
     match tag {
         0 => read_low(s, p, 8),
         1 => Ok((0x3ff0_0000_0000_0000, p)),
