@@ -9,7 +9,7 @@ use crate::{Coordinate, Judgement};
 use bitcursor::values;
 
 // Tests of patterns: the top bit of 64 is set where one fails, which `|` of many keeps.
-#[derive(Clone, Copy)]
+#[derive(Clone, Copy, Debug, PartialEq, Eq)]
 pub struct TopBit(u64);
 
 impl Judgement for TopBit {

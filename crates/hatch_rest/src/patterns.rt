@@ -42,7 +42,7 @@ pub struct Tail {
 }
 
 // A pattern line, with the cap of its dashes: angle, origin and offset, the count of dashes as a word, and the dashes.
-#[derive(Clone, Copy)]
+#[derive(Clone, Copy, Debug, PartialEq, Eq)]
 struct Line(usize);
 
 impl Turn for Line {

@@ -126,7 +126,8 @@ impl From<Refused<Places>> for Answer {
 }
 
 impl Answer {
-    // The answer of a reading without a string reader; `put` puts its value.
+    // The answer of a reading without a string reader; `put` puts its value. That it is always callable is a clause, since no bound says it of a closure's
+    // type.
     pub fn of<T, F: FnOnce(&mut Answer, T)>(reading: Reading<T>, put: F) -> Answer
         requires { F.IsAlwaysCallable put }
     {

@@ -57,6 +57,7 @@ fn step<R: Read, W: Write, C: Calls>(
     counts: &mut Counts,
     calls: &C,
 ) -> io::Result<bool> {
+    // An array and no Vec, since the memory of a replay is fixed.
     let mut first = [0u8; 8];
     if read_full(file, &mut first) == 0 {
         return Ok(false);

@@ -6,7 +6,7 @@ use stored::answers::{Answer, Values};
 use stored::kinds::Kind;
 use stored::record::Record;
 
-// Reads by a cursor at `at`.
+// Reads by a cursor at `at`. That the reader is always callable is a clause, since no bound says it of a closure's type.
 fn read<T: Values, F: FnOnce(&mut BitCursor) -> Result<T, Refusal>>(at: usize, read: F) -> Answer
     requires { F.IsAlwaysCallable read }
 {

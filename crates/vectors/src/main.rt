@@ -30,7 +30,7 @@ fn reading<T>(ended: Result<T, Refusal>, place: usize) -> Reading<T> {
 struct Given;
 
 impl Calls for Given {
-    // The answer of the call that the record asks for.
+    // The answer of the call that the record asks for. A match and no table, as in `codes`.
     fn answer(&self, record: &Record) -> Option<Answer> {
         match record.kind {
             Kind::Prefix => Some(prefixes::answer(record)),
