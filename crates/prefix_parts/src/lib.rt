@@ -68,7 +68,7 @@ pub struct Tail {
 
 // The five are put into their one caller, so that no part is handed over by memory. A struct of the payload and the row, which all five take, would be made
 // once, in that caller, and every field here would name them through it (`self.row.nolinks`): longer, and no argument less at a field.
-#[tactic(auto, using(bitcursor::proofs::Steps::reading, sequence::specs::Present::present), unfolding(crate::specs::Parts::head))]
+#[tactic(auto, using(crate::proofs::Fields::fields), unfolding(crate::specs::Parts::head))]
 #[inline(always)]
 pub fn read_head(s: &Payload, at: usize, row: Row) -> Reading<Head>
     ensures { outcome result ≡ (head row).read s.now at }
@@ -84,7 +84,7 @@ pub fn read_head(s: &Payload, at: usize, row: Row) -> Reading<Head>
     Ok((head, end))
 }
 
-#[tactic(auto, using(bitcursor::proofs::Steps::reading, sequence::specs::Present::present, bitcursor::proofs::Smalls::smalls), unfolding(crate::specs::Parts::modes, bitcursor::specs::Codes::BB))]
+#[tactic(auto, using(crate::proofs::Fields::fields), unfolding(crate::specs::Parts::modes, bitcursor::specs::Codes::BB))]
 #[inline(always)]
 pub fn read_modes(s: &Payload, at: usize, row: Row) -> Reading<Modes>
     ensures { outcome result ≡ (modes row).read s.now at }
@@ -130,7 +130,7 @@ fn present_fields(row: Row, colour: u64) -> PresentFields
     }
 }
 
-#[tactic(auto, using(bitcursor::proofs::Steps::reading, sequence::specs::Present::present, bitcursor::proofs::Smalls::smalls), unfolding(crate::specs::Parts::colours))]
+#[tactic(auto, using(crate::proofs::Fields::fields), unfolding(crate::specs::Parts::colours))]
 #[inline(always)]
 pub fn read_colours(s: &Payload, at: usize, row: Row) -> Reading<Colours>
     ensures { outcome result ≡ (colours row).read s.now at }
@@ -160,7 +160,7 @@ pub fn read_colours(s: &Payload, at: usize, row: Row) -> Reading<Colours>
 }
 
 // An RC is read as eight bits (here and below): that is one comparison less than a byte's reader has.
-#[tactic(auto, using(bitcursor::proofs::Steps::reading, sequence::specs::OneByte::held_byte), unfolding(crate::specs::Parts::styles, bitcursor::specs::Codes::BB))]
+#[tactic(auto, using(crate::proofs::Fields::fields), unfolding(crate::specs::Parts::styles, bitcursor::specs::Codes::BB))]
 #[inline(always)]
 pub fn read_styles(s: &Payload, at: usize, row: Row) -> Reading<Styles>
     ensures { outcome result ≡ (styles row).read s.now at }
@@ -180,7 +180,7 @@ pub fn read_styles(s: &Payload, at: usize, row: Row) -> Reading<Styles>
     Ok((styles, p))
 }
 
-#[tactic(auto, using(bitcursor::proofs::Steps::reading, sequence::specs::Present::present, sequence::specs::OneByte::held_byte, bitcursor::proofs::Smalls::smalls), unfolding(crate::specs::Parts::tail, bitcursor::specs::Codes::signed_BS))]
+#[tactic(auto, using(crate::proofs::Fields::fields), unfolding(crate::specs::Parts::tail, bitcursor::specs::Codes::signed_BS))]
 #[inline(always)]
 pub fn read_tail(s: &Payload, at: usize, row: Row) -> Reading<Tail>
     ensures { outcome result ≡ (tail row).read s.now at }
