@@ -94,6 +94,19 @@ fn what_is_refused_or_no_request_is_told_with_its_line_and_the_rest_is_read() {
 }
 
 #[test]
+fn a_string_start_past_its_payload_is_told() {
+    let output = call(&["read"], b"hatchs 2 0 A9AAA0 32 33 40504000\nhatchs 2 0 A9AAA0 33 33 40504000\n");
+    let errors = String::from_utf8_lossy(&output.stderr);
+    assert_eq!(errors.lines().collect::<Vec<_>>(), [
+        "dwg-hatch: standard input:1: refusal 1 at bit 8 of the main payload and bit 32 of the string payload: too few bits are left for the next read; \
+         check that the payload is whole, the release and the start bit",
+        "dwg-hatch: standard input:2: refusal 1 at bit 0 of the main payload and bit 32 of the string payload: the string reader's start bit lies past the \
+         string payload, which ends there; check the string start, and that the string payload is whole and is the one that the start is counted in",
+    ]);
+    assert_eq!((output.status.code(), output.stdout), (Some(1), Vec::new()));
+}
+
+#[test]
 fn prefix_reads_prefixes_alone() {
     let output = call(&["prefix"], MIXED);
     let errors = String::from_utf8_lossy(&output.stderr);

@@ -41,6 +41,7 @@ mod rng;
 mod spoil;
 
 mod compare;
+mod reader_starts;
 mod stored;
 mod ways;
 
@@ -52,6 +53,7 @@ const USAGE: &str = "usage: oracle answer [--f64] < REQUESTS
        oracle compare-lines REQUESTS ORACLE-ANSWERS PORT-ANSWERS
        oracle examples
        oracle layouts SEED N
+       oracle reader-starts
        oracle ways < REQUESTS";
 
 fn main() -> ExitCode {
@@ -65,6 +67,7 @@ fn main() -> ExitCode {
         Some((&"compare-lines", [requests, ours, theirs])) => compare::run(requests, ours, theirs),
         Some((&"examples", [])) => examples::run(),
         Some((&"layouts", [seed, count])) => layouts::run(seed, count),
+        Some((&"reader-starts", [])) => reader_starts::run(),
         Some((&"ways", [])) => ways::run(),
         _ => Err(USAGE.to_string()),
     };

@@ -3,4 +3,3 @@ pub mod Calls
 pub mod Padded
 pub mod Starts
 pub mod Table
-pub mod StartsHold

@@ -1,5 +1,5 @@
 -- Document 01's cases marked †, document 02's, and the proof that each holds. Assumes nothing.
-use Rattle.std.specs.Prelude.{List, [], ◌∷◌, ℕ, ℤ, pos, negsuc, length, replicate}
+use Rattle.std.specs.Prelude.{List, [], ◌∷◌, ◌++◌, ℕ, ℤ, pos, negsuc, length, replicate}
 use Rattle.loads.specs.Bits.{bits_of, digits, number, window}
 use Rattle.bitcursor.specs.Code.{give, refuse, raw, ◌>>=◌, tabled, mapped, measured}
 use Rattle.bitcursor.specs.Bytes.{bytes, bytes_read, low_first, high_first, skip}
@@ -35,6 +35,7 @@ use Rattle.hatch_format.specs.Call.{Strings, none, lent, call_on}
 use Rattle.cases.specs.Shown.{Shown, reading, refusal, shown, Case, of_each_release, Holds, holds, all_same}
 use Rattle.cases.specs.Calls.{numbers_of, hatch_call_shown}
 use Rattle.cases.specs.Padded.{padded_cases}
+use Rattle.cases.specs.Starts.{start_cases}
 
 abbrev number_of : ℕ → List ℤ
 number_of v = pos v ∷ []
@@ -82,10 +83,10 @@ cases =
     ∷ record { computed = lengths_call 2 (0xa9 ∷ []) (lent (0x40 ∷ 0x40 ∷ []) 0 16) 0 0; stated = refusal 6 8 10 }
     ∷ record { computed = lengths_call 2 (0xa9 ∷ []) (lent (0x40 ∷ 0x40 ∷ 0x36 ∷ 0x00 ∷ []) 0 32) 0 0; stated = refusal 7 8 26 }
     ∷ record { computed = lengths_call 2 (0xa9 ∷ 0xaa ∷ 0x90 ∷ 0x10 ∷ replicate 16 0) none 0 1; stated = refusal 11 156 0 }
-    ∷ padded_cases))
+    ∷ padded_cases ++ start_cases))
 
 pub all_hold : Holds cases
-unfolding cases padded_cases all_same
+unfolding cases padded_cases start_cases all_same
     signed_BS BS BS_read BD BD_read BLL BLL_read B B_read BB RC RD RL BL BL_read HANDLE HANDLE_read HANDLE_value tagged by_tag checked
     raw ◌>>=◌ tabled mapped measured give refuse held marked low_first high_first bytes bytes_read low_number skip window bits_of digits number limited
     pure refuse_format bind_format peek relay either part_in at_least

@@ -20,9 +20,7 @@ use Rattle.hatch_format.specs.Values.{Gradient, Rest as RestValue, Body}
 use Rattle.hatch_format.specs.Entries.{words, numbers}
 use Rattle.hatch_format.specs.Patterns.{rest}
 use Rattle.hatch_format.specs.Hatch.{hatch}
-use Rattle.hatch_format.proofs.Starts.{on_start}
-use Rattle.hatch_format.specs.Call.{room_for, call_on}
-use Rattle.hatch_format.specs.Starts.{call_from}
+use Rattle.hatch_format.specs.Call.{room_for, call_by, call_on}
 use Rattle.hatch_points.specs.Lists.{Lists, grow}
 use Rattle.hatch_points.proofs.Laws.{stays}
 use Rattle.hatch_rest.specs.Rests.{no_sizes, SolidBlank, rest_entries}
@@ -177,10 +175,11 @@ module _ (caps : Caps) (handles : Handles) (nw nn : ℕ) (γ : Payloads) (p : Pl
       stands = lifted string p (start_in (size γ.string) p.string)
 
       abbrev from_start : Out ℕ (Unit {0}) → Out Places Body
-      from_start o = call_from caps handles nw nn γ p (Some v) true true o
+      from_start o = call_by caps handles nw nn γ p (Some v) true true o
 
       by_start : call ≡ from_start (start_in (size γ.string) p.string)
-      by_start = on_start caps handles nw nn γ p release ∙ rw (e, le-leb _ _ f, le-leb _ _ g)
+      unfolding call_on
+      by_start = rw (e, le-leb _ _ f, le-leb _ _ g)
 
       pub not_started : {d : Refused Places} → refused d.refusal d.place ≡ stands → call ≡ refused d.refusal d.place
       not_started {d} h = by_start ∙ go (start_in (size γ.string) p.string) h

@@ -13,6 +13,7 @@ use Rattle.bitcursor.specs.Reading.{Out, got, refused, place, never}
 use Rattle.bitcursor.specs.Code.{stay}
 use Rattle.bitcursor.specs.Format.{Format, relay}
 use Rattle.bitcursor.specs.Inputs.{both, Places, Onward, Agree}
+use Rattle.string_start.specs.Start.{start_by}
 use Rattle.text.specs.declared.version.Version.{Version}
 use Rattle.text.specs.Releases.{version_of}
 use Rattle.hatch_format.specs.Values.{Body}
@@ -55,7 +56,8 @@ module _ (c : Call) where
   body = hatch c.caps c.handles
 
   abbrev by : Option Version → Bool → Bool → Bool → Out Places Body
-  by = call_by c.caps c.handles c.words c.numbers (payloads_of c) (starts_of c)
+  by m s t u =
+      call_by c.caps c.handles c.words c.numbers (payloads_of c) (starts_of c) m s t (start_by (size (payloads_of c).string) (starts_of c).string u)
 
   sound : (a : Body) (q : Places) → hatch_call c ≡ got a q → HatchLaid c a q
   unfolding call_on hatch relay

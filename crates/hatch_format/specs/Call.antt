@@ -1,9 +1,10 @@
 -- A whole hatch call on any input: what a caller gives, and the body with its final places or the refusal with its places. Assumes nothing.
 use Rattle.std.specs.Prelude.{Option, Some, None, Bool, true, false, ◌&&◌, List, [], ℕ, leb, length}
-use Rattle.bitcursor.specs.declared.Refusal.TheVariants.{TooFewBits, UnknownRelease, PayloadTooLong, ListTooShort}
+use Rattle.bitcursor.specs.declared.Refusal.TheVariants.{UnknownRelease, PayloadTooLong, ListTooShort}
 use Rattle.loads.specs.Bits.{size, limit}
 use Rattle.bitcursor.specs.Reading.{Out, got, refused}
 use Rattle.bitcursor.specs.Inputs.{Places, Payloads}
+use Rattle.string_start.specs.Start.{start_in}
 use Rattle.text.specs.declared.version.Version.{Version}
 use Rattle.text.specs.Releases.{version_of}
 use Rattle.text.specs.Answers.{payloads}
@@ -59,19 +60,19 @@ room_for nw nn (got a q) =
 room_for nw nn (refused r q) = refused r q
 
 -- the order of the refusals, over payloads and start places: 9; 10 of the main payload, 10 of the string payload; a string start past its
--- payload, with the second place at that payload's end; the fields, of which the first refuses a start past the main payload with 1 at that
--- start; 11. The tests are: which release, whether each payload is within the limit, whether the string start is within its payload
+-- payload, with the second place at that payload's end; the fields, read with the string reader at its start, of which the first refuses a start
+-- past the main payload with 1 at that start; 11. The tests are: which release, whether each payload is within the limit, where the reader stands
 module _ (caps : Caps) (handles : Handles) (nw nn : ℕ) (γ : Payloads) (p : Places) where
-  abbrev pub call_by : Option Version → Bool → Bool → Bool → Out Places Body
-  call_by None main_within string_within start_within = refused UnknownRelease p
-  call_by (Some v) false string_within start_within = refused PayloadTooLong p
-  call_by (Some v) true false start_within = refused PayloadTooLong p
-  call_by (Some v) true true false = refused TooFewBits (record { main = p.main; string = size γ.string })
-  call_by (Some v) true true true = room_for nw nn ((hatch caps handles v).read γ p)
+  abbrev pub call_by : Option Version → Bool → Bool → Out ℕ (Unit {0}) → Out Places Body
+  call_by None main_within string_within reader = refused UnknownRelease p
+  call_by (Some v) false string_within reader = refused PayloadTooLong p
+  call_by (Some v) true false reader = refused PayloadTooLong p
+  call_by (Some v) true true (refused k q) = refused k (record { main = p.main; string = q })
+  call_by (Some v) true true (got u q) = room_for nw nn ((hatch caps handles v).read γ (record { main = p.main; string = q }))
 
   unfoldable pub call_on : ℕ → Out Places Body
   call_on release =
-      call_by (version_of release) (leb (length γ.main) limit) (leb (length γ.string) limit) (leb p.string (size γ.string))
+      call_by (version_of release) (leb (length γ.main) limit) (leb (length γ.string) limit) (start_in (size γ.string) p.string)
 
 -- a whole call
 abbrev pub hatch_call : Call → Out Places Body

@@ -1,36 +1,22 @@
 -- Where the string reader of a hatch call starts (document 02, L4), for every start bit: what the theorems of proofs/Starts about the call's own
 -- definition speak of. They hold of a measuring call too, and of a call without a reader, whose string payload is empty and whose string start is 0.
 -- Assumes nothing.
-use Rattle.std.specs.Prelude.{Option, Some, None, ◌≡◌, Bool, true, false, ℕ, ◌*◌, ◌≤◌, leb, length}
-use Rattle.bitcursor.specs.declared.Refusal.TheVariants.{TooFewBits, UnknownRelease, PayloadTooLong}
+use Rattle.std.specs.Prelude.{Some, ◌≡◌, ℕ, ◌≤◌, length}
 use Rattle.loads.specs.Bits.{size, limit}
-use Rattle.bitcursor.specs.Reading.{Out, got, refused}
-use Rattle.bitcursor.specs.Inputs.{Places, Payloads}
+use Rattle.bitcursor.specs.Reading.{Out}
+use Rattle.bitcursor.specs.Inputs.{Places}
 use Rattle.string_start.specs.Start.{start_in}
 use Rattle.text.specs.declared.version.Version.{Version}
 use Rattle.text.specs.Releases.{version_of}
-use Rattle.hatch_format.specs.declared.Caps.{Caps}
-use Rattle.hatch_format.specs.HandleRule.{Handles}
-use Rattle.hatch_format.specs.Values.{Body}
-use Rattle.hatch_format.specs.Hatch.{hatch}
-use Rattle.hatch_format.specs.Call.{string_bytes_of, string_start_of, Call, room_for}
+use Rattle.hatch_format.specs.Call.{string_bytes_of, string_start_of, Call}
 
 -- the string payload's length in bits
 abbrev pub string_bits : Call → ℕ
 string_bits c = size (string_bytes_of c.strings)
 
--- where the reader stands, or why it stands nowhere: by that length and the start bit, whatever the payload's bits are ..
+-- where the reader stands, or why it stands nowhere: by that length and the start bit, whatever the payload's bits are
 abbrev pub reader_start : Call → Out ℕ (Unit {0})
 reader_start c = start_in (string_bits c) (string_start_of c.strings)
-
--- the order of the refusals with the reader's start in place of the last test: where it stands, from which the fields are read, or why it stands nowhere
-module _ (caps : Caps) (handles : Handles) (nw nn : ℕ) (γ : Payloads) (p : Places) where
-  abbrev pub call_from : Option Version → Bool → Bool → Out ℕ (Unit {0}) → Out Places Body
-  call_from None main_within string_within reader = refused UnknownRelease p
-  call_from (Some v) false string_within reader = refused PayloadTooLong p
-  call_from (Some v) true false reader = refused PayloadTooLong p
-  call_from (Some v) true true (refused k q) = refused k (record { main = p.main; string = q })
-  call_from (Some v) true true (got u q) = room_for nw nn ((hatch caps handles v).read γ (record { main = p.main; string = q }))
 
 -- the places of document 01 for a string start past its payload: the main start, and the payload's length in bits
 abbrev pub past_places : Call → Places
@@ -50,14 +36,3 @@ pub record AlikeLengths (c d : Call) : Type 0 where
   pub string_start : string_start_of d.strings ≡ string_start_of c.strings
   pub main_length : length d.main ≡ length c.main
   pub string_length : length (string_bytes_of d.strings) ≡ length (string_bytes_of c.strings)
-
--- what is answered where the string start is past its payload: by release, start bits and payload lengths, and nothing else
-module _ (starts : Places) (string_bytes : ℕ) where
-  abbrev pub past_by : Option Version → Bool → Bool → Out Places Body
-  past_by None main_within string_within = refused UnknownRelease starts
-  past_by (Some v) false string_within = refused PayloadTooLong starts
-  past_by (Some v) true false = refused PayloadTooLong starts
-  past_by (Some v) true true = refused TooFewBits (record { main = starts.main; string = 8 * string_bytes })
-
-abbrev pub past_call : (release : ℕ) (starts : Places) (main_bytes string_bytes : ℕ) → Out Places Body
-past_call release starts m n = past_by starts n (version_of release) (leb m limit) (leb n limit)

@@ -1,24 +1,20 @@
 -- Where a string reader starts, what its next text is, and where it stands afterwards. Assumes nothing.
-use Rattle.std.specs.Prelude.{◌≡◌, true, false, List, ℕ, ◌-◌, leb, Result, Ok, Err}
+use Rattle.std.specs.Prelude.{◌≡◌, List, ℕ, ◌-◌, leb, Result, Ok, Err}
 use Rattle.std.specs.Borrow.{Bor}
 use Rattle.loads.specs.Bits.{size}
 use Rattle.bitcursor.specs.Reading.{Out, got, refused, place}
 use Rattle.bitcursor.specs.Answers.{limited, answer}
 use Rattle.bitcursor.specs.declared.Refusal.{Refusal}
-use Rattle.bitcursor.specs.declared.Refusal.TheVariants.{TooFewBits}
 use Rattle.bitcursor.specs.declared.Refused.{Refused}
+use Rattle.string_start.specs.Start.{start_in}
 use Rattle.text.specs.declared.Text.{Text}
 use Rattle.text.specs.Answers.{reader_text}
 use Rattle.string_reader.specs.declared.StringReader.{StringReader}
 use Rattle.string_reader.specs.declared.readings.NextText.{NextText}
 
--- a start within the payload, its end included; past it refusal 1 at the payload's end
-unfoldable pub starts : List ℕ → ℕ → Out ℕ (Unit {0})
-starts xs p = elim (leb p (size xs)) [ true ↦ got tt p | false ↦ refused TooFewBits (size xs) ]
-
--- of any payload: refusal 10 at the start where it is above the limit
+-- where a reader of any payload starts: refusal 10 at the start where the payload is above the limit
 abbrev pub start_at : List ℕ → ℕ → Out ℕ (Unit {0})
-start_at xs p = limited starts xs p
+start_at xs p = limited (λ ys. start_in (size ys)) xs p
 
 -- the next text at a place: the call by value
 abbrev pub text_at : List ℕ → ℕ → ℕ → Out ℕ Text

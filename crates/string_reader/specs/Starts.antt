@@ -10,13 +10,13 @@ use Rattle.bitcursor.specs.Code.{measured}
 use Rattle.bitcursor.specs.Stops.{BS_past}
 use Rattle.bitcursor.specs.Answers.{limited}
 use Rattle.bitcursor.proofs.Steps.{limit_within}
-use Rattle.string_start.specs.Start.{start_in, start_by}
+use Rattle.string_start.specs.Start.{start_in}
 use Rattle.text.specs.declared.Source.TheVariants.{String}
 use Rattle.text.specs.declared.Text.{Text}
 use Rattle.text.specs.Texts.{wide}
 use Rattle.text.specs.Fields.{text_at as empty_text}
 use Rattle.text.specs.Answers.{reader_text}
-use Rattle.string_reader.specs.Readers.{starts, start_at, text_at}
+use Rattle.string_reader.specs.Readers.{start_at, text_at}
 
 -- what a text is whose reader stands at its payload's end or past it: empty at or past the end bit, else refusal 1 there
 abbrev pub beyond_by : (p : ℕ) → (exhausted : Bool) → Out ℕ Text
@@ -34,15 +34,6 @@ beyond xs p end h = go (leb end p) refl
     go true e = rw (e, reader_text)
     go false e = rw (e, reader_text, BS_past xs p h)
 
--- where a reader starts is where one test by its payload's length says
-pub by_one_test : (xs : List ℕ) (p : ℕ) → starts xs p ≡ start_in (size xs) p
-unfolding starts
-by_one_test xs p = go (leb p (size xs))
-  where
-    go : (b : Bool) → elim b [ true ↦ got tt p | false ↦ refused TooFewBits (size xs) ] ≡ start_by (size xs) p b
-    go true = refl
-    go false = refl
-
 module _ (xs : List ℕ) (p : ℕ) (w : length xs ≤ limit) where
   -- a text by value at such a place
   pub text_past : (end : ℕ) → size xs ≤ p → text_at xs p end ≡ text_beyond end p
@@ -57,8 +48,7 @@ module _ (xs ys : List ℕ) (e : length ys ≡ length xs) (p : ℕ) where
 
   pub same_start : start_at ys p ≡ start_at xs p
   unfolding limited
-  same_start = ap (by_length (length ys)) (by_one_test ys p) ∙ ap (λ (n : ℕ). by_length n (start_in (8 * n) p)) e
-      ∙ ap (by_length (length xs)) (sym (by_one_test xs p))
+  same_start = ap (λ (n : ℕ). by_length n (start_in (8 * n) p)) e
 
   pub same_text_past : (end : ℕ) → size xs ≤ p → text_at ys p end ≡ text_at xs p end
   unfolding limited

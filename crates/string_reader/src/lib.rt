@@ -22,7 +22,7 @@ pub struct StringReader<'a> {
 }
 
 // Whether a reader may start at a bit: refusal 10 there for a payload above the limit, and 1 at the payload's end for a start past it.
-#[tactic(auto, using(bitcursor::proofs::Steps::limit_within, bitcursor::proofs::Steps::limit_above, crate::specs::Starts::by_one_test))]
+#[tactic(auto, using(bitcursor::proofs::Steps::limit_within, bitcursor::proofs::Steps::limit_above))]
 pub fn start_at(payload: &[u8], start_bit: usize) -> Passing
     ensures { passing result ≡ start_at payload.now start_bit }
 {

@@ -25,6 +25,13 @@ pub struct StringReader<'a> {
     pub end: usize,
 }
 
+impl StringReader<'_> {
+    /// Whether the start lies past the payload. No field is read then, so that a number 1 says this alone; only 9 and 10 come before it.
+    fn starts_past(&self) -> bool {
+        self.start.div_ceil(8) > self.payload.len()
+    }
+}
+
 /// Where a hatch body lies.
 ///
 /// ```
@@ -66,7 +73,7 @@ macro_rules! decode {
             },
         };
         let places = Places { main: a.place, string: a.string_place };
-        accepted(a.refusal, places)?;
+        $body.accepted(a.refusal, places)?;
         let (extrusion, g) = ([a.extrusion_x, a.extrusion_y, a.extrusion_z], a.gradient);
         let colors = g.colors.map(|c| color(c.unknown_double, c.unknown_short, c.rgb, c.ignored_color_byte));
         let fill = fill(g.present, [g.angle, g.shift, g.tint], g.is_single_color, (colors, g.num_colors), &g.name);
@@ -112,7 +119,7 @@ impl<'a> HatchBody<'a> {
             },
         };
         let places = Places { main: answer.place, string: answer.string_place };
-        accepted(answer.refusal, places)?;
+        self.accepted(answer.refusal, places)?;
         Ok(Lengths { words: answer.words, numbers: answer.numbers, places })
     }
 
@@ -152,12 +159,13 @@ impl<'a> HatchBody<'a> {
     pub fn decode_bits_into(&self, bits: &mut [u64], words: &mut [u32]) -> Result<Hatch<u64>, Refusal> {
         decode!(self, bits, words, ffi::dwg_hatch_decode_bits, ffi::dwg_hatch_decode_with_strings_bits)
     }
-}
 
-fn accepted(number: u64, places: Places) -> Result<(), Refusal> {
-    match number {
-        0 => Ok(()),
-        number => Err(Refusal::of_reading(number, places.main, places.string)),
+    fn accepted(&self, number: u64, places: Places) -> Result<(), Refusal> {
+        match number {
+            0 => Ok(()),
+            1 if self.strings.is_some_and(|strings| strings.starts_past()) => Err(Refusal::of_string_start(places.main, places.string)),
+            number => Err(Refusal::of_reading(number, places.main, places.string)),
+        }
     }
 }
 
@@ -180,6 +188,23 @@ mod tests {
             assert_eq!(body.decode_bits_into(&mut bits, &mut words), Err(refusal));
             assert_eq!((numbers, bits, words), ([1.0; 2], [1; 2], [1; 2]));
         }
+    }
+
+    /// A start past the string payload is told apart from too few bits at its end, by every call.
+    #[test]
+    fn a_string_start_past_its_payload_is_named() {
+        let refused = |start, end| {
+            let body = HatchBody::new(&[0xa9, 0xaa, 0xa0], 0, Release::R2000).with_strings(StringReader { start, end, ..READER });
+            let refusal = body.measure().unwrap_err();
+            assert_eq!(body.decode_into(&mut [], &mut []), Err(refusal));
+            assert_eq!(body.decode_bits_into(&mut [], &mut []), Err(refusal));
+            refusal
+        };
+        let (at_the_end, past) = (refused(32, 33), refused(33, 33));
+        assert_eq!((at_the_end.place, at_the_end.second_place, at_the_end.meaning()), (8, 32, at_the_end.reason.meaning()));
+        assert_eq!((past.reason, past.place, past.second_place), (at_the_end.reason, 0, 32));
+        assert!(past.to_string().starts_with("refusal 1 at bit 0 of the main payload and bit 32 of the string payload: the string reader's start bit lies "));
+        assert_eq!(refused(usize::MAX, 0), past);
     }
 
     #[test]

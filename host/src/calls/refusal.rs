@@ -48,6 +48,12 @@ const UNFIT: [&str; 2] = [
 ];
 const NARROW: [&str; 2] = ["the output is shorter than the input", "lend an output that is as long as the input"];
 
+/// What number 1 means where no field was come to, since the string reader does not stand in its payload.
+const PAST_STRINGS: [&str; 2] = [
+    "the string reader's start bit lies past the string payload, which ends there",
+    "check the string start, and that the string payload is whole and is the one that the start is counted in",
+];
+
 const CHECK: &str = "check the release and the start bit, else the payload is damaged";
 
 impl Reason {
@@ -160,6 +166,8 @@ pub struct Refusal {
 enum Call {
     /// It reads bits.
     Reads,
+    /// It was to read bits with a string reader, which starts past its payload.
+    StartsPastStrings,
     /// It takes a hatch that was read.
     TakesHatch,
     /// It converts a text.
@@ -170,6 +178,11 @@ impl Refusal {
     /// The refusal of a call that reads bits, by its number.
     pub(crate) fn of_reading(number: u64, place: usize, second_place: usize) -> Refusal {
         Refusal { reason: Reason::of(number), place, second_place, call: Call::Reads }
+    }
+
+    /// That of a call whose string start lies past its payload: number 1, which stands for nothing else there.
+    pub(crate) fn of_string_start(place: usize, second_place: usize) -> Refusal {
+        Refusal { reason: Reason::TooFewBits, place, second_place, call: Call::StartsPastStrings }
     }
 
     /// That of a call that takes a hatch. Its places are 0.
@@ -187,33 +200,35 @@ impl Refusal {
         self.reason.number()
     }
 
-    /// What it means, in a few words: as [`Reason::meaning`], but of number 11 only what holds here.
+    /// What it means, in a few words: as [`Reason::meaning`], but of number 11, and of a string start past its payload, only what holds here.
     pub fn meaning(&self) -> &'static str {
-        self.of_eleven().map_or_else(|| self.reason.meaning(), |texts| texts[0])
+        self.here().map_or_else(|| self.reason.meaning(), |texts| texts[0])
     }
 
-    /// What to do about it: as [`Reason::advice`], but of number 11 only what holds here.
+    /// What to do about it: as [`Reason::advice`], with the same exceptions.
     pub fn advice(&self) -> &'static str {
-        self.of_eleven().map_or_else(|| self.reason.advice(), |texts| texts[1])
+        self.here().map_or_else(|| self.reason.advice(), |texts| texts[1])
     }
 
-    fn of_eleven(&self) -> Option<[&'static str; 2]> {
-        let texts = match self.call {
-            Call::Reads => SHORT,
-            Call::TakesHatch => UNFIT,
-            Call::Converts => NARROW,
-        };
-        (self.reason == Reason::ListTooShort).then_some(texts)
+    /// Meaning and advice, where the number by itself names more than what holds here.
+    fn here(&self) -> Option<[&'static str; 2]> {
+        match (self.call, self.reason) {
+            (Call::StartsPastStrings, _) => Some(PAST_STRINGS),
+            (Call::Reads, Reason::ListTooShort) => Some(SHORT),
+            (Call::TakesHatch, Reason::ListTooShort) => Some(UNFIT),
+            (Call::Converts, Reason::ListTooShort) => Some(NARROW),
+            _ => None,
+        }
     }
 }
 
 impl fmt::Display for Refusal {
     fn fmt(&self, f: &mut fmt::Formatter<'_>) -> fmt::Result {
         write!(f, "refusal {}", self.number())?;
-        if self.call == Call::Reads {
+        if matches!(self.call, Call::Reads | Call::StartsPastStrings) {
             write!(f, " at bit {}", self.place)?;
         }
-        if self.second_place != 0 {
+        if self.second_place != 0 || self.call == Call::StartsPastStrings {
             write!(f, " of the main payload and bit {} of the string payload", self.second_place)?;
         }
         write!(f, ": {}; {}", self.meaning(), self.advice())
