@@ -1,4 +1,5 @@
--- A string start within its payload and past it (document 02, L4), as it is handed over: by every call that reads and by the one that measures. Assumes nothing.
+-- A string start within its payload and past it (document 02, L4), as it is handed over: by every call that reads and by the one that measures.
+-- Assumes nothing.
 use Rattle.std.specs.Prelude.{◌≡◌, List, ℕ, ◌≤◌, ◌<◌}
 use Rattle.std.proofs.Common.{ap}
 use Rattle.bitcursor.specs.declared.Refusal.TheVariants.{TooFewBits}
