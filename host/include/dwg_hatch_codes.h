@@ -3,7 +3,8 @@
  * What holds for every function of the four headers:
  *
  * - A payload is a pointer to its first byte and its length in bytes. Bits are numbered from 0, from the top bit of each byte. A start bit
- *   may be any number; one past the payload is refused at that bit, DWG_TOO_FEW_BITS (dwg_read_string_tv asks its end bit first).
+ *   may be any number; one past the payload is refused at that bit, DWG_TOO_FEW_BITS (dwg_read_string_tv asks its end bit first; a string reader's
+ *   start past its payload is refused at that payload's end, see dwg_hatch.h).
  * - `release` is a number of DwgRelease; any other is refused, DWG_UNKNOWN_RELEASE.
  * - A payload above DWG_PAYLOAD_LIMIT bytes is refused, DWG_PAYLOAD_TOO_LONG, and none of its bytes is read.
  * - Every call comes to an end and gives one of two: the whole reading, with `refusal` 0, or a refusal: `refusal` is a number of

@@ -42,8 +42,10 @@ fn started(bytes: &[u8], start: usize) -> Started {
 /// How a reader starts, in the words of a line.
 fn words(length: usize, start: usize) -> String {
     let [zeros, ones, text] = laid(length, start).map(|bytes| started(&bytes, start));
+    if zeros != ones || ones != text {
+        return "not the same whatever lies in the payload".to_string();
+    }
     match text {
-        _ if zeros != ones || ones != text => "not the same whatever lies in the payload".to_string(),
         Ok(place) if place == start => "ok, each there".to_string(),
         Ok(place) => format!("ok {place}"),
         Err((number, place)) => format!("err {number} {place}"),

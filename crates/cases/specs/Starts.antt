@@ -1,4 +1,5 @@
--- Cases of document 02's string starts (L4): at bit 0, at the payload's end, and one bit past it. Assumes nothing.
+-- Cases of string starts by document 01's rule (document 02, L4): at bit 0; at the payload's end, with the end bit there and past it; one bit past the
+-- payload; no bytes. Assumes nothing.
 use Rattle.std.specs.Prelude.{List, [], ◌∷◌, ℕ, pos}
 use Rattle.hatch_format.specs.Values.{Body}
 use Rattle.hatch_format.specs.Call.{lent}

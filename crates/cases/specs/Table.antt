@@ -1,4 +1,4 @@
--- Document 01's cases marked †, document 02's, and the proof that each holds. Assumes nothing.
+-- Document 01's cases marked †, document 02's, those of string starts, and the proof that each holds. Assumes nothing.
 use Rattle.std.specs.Prelude.{List, [], ◌∷◌, ◌++◌, ℕ, ℤ, pos, negsuc, length, replicate}
 use Rattle.loads.specs.Bits.{bits_of, digits, number, window}
 use Rattle.bitcursor.specs.Code.{give, refuse, raw, ◌>>=◌, tabled, mapped, measured}
@@ -63,7 +63,8 @@ lengths_call = hatch_call_shown lengths_of
 -- Reader's text, "Why a reading stops" 6 and 7: 40 40, bits 0 to 16, is refusal 6 at 10; 40 40 36 00, bits 0 to 32, is refusal 7 at 26.
 -- The prefix: 85 D0 87 40 of release 2 has colour 256, scale 1.0 and lineweight 29, ends at 26; 40 42 40, of no named release, is refusal 5 at 18.
 -- The hatch: A9 AA A0 of release 2 ends at 20, both lists empty, and of release 3 is refusal 1 at 22; no bytes, of no named release, are refusal 1
--- at 0; then the rows 2, 3, 4, 6, 7 and 11 of "Why a reading stops". Last, document 02's
+-- at 0; then the rows 2, 3, 4, 6, 7 and 11 of "Why a reading stops". Last, document 02's,
+-- and those of string starts
 unfoldable pub cases : List Case
 cases =
     record { computed = shown integer_of (signed_BS.read (0x3f ∷ 0xff ∷ 0xc0 ∷ []) 0); stated = reading (negsuc 0 ∷ []) 18 0 }

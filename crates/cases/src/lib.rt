@@ -1,4 +1,4 @@
-// Document 01's cases marked † and document 02's as one table with one proof over it: no code of its own, and no file of the Rust.
-// The cases come from these documents alone; each is an input, what the definitions make of it, and what the document states.
+// Document 01's cases marked †, document 02's, and cases of string starts by document 01's rule: one table, one proof over it, and no code of its own.
+// Each is an input, what the definitions make of it, and what the documents state of it; none comes from a file of the Rust.
 // specs/Table promises that every row holds: the definitions compute what the documents say.
 #![tactic(auto)]

@@ -7,11 +7,10 @@ use Rattle.std.proofs.lemmas.Bool.{lt-leb}
 use Rattle.bitcursor.specs.declared.Refusal.{Refusal}
 use Rattle.bitcursor.specs.declared.Refusal.TheVariants.{UnknownRelease, PayloadTooLong, ListTooShort}
 use Rattle.bitcursor.specs.declared.Refused.{Refused}
-use Rattle.loads.specs.Bits.{size, limit, within_limit}
-use Rattle.bitcursor.specs.Reading.{Out, got, refused, and_then, never}
+use Rattle.loads.specs.Bits.{limit, within_limit}
+use Rattle.bitcursor.specs.Reading.{Out, got, refused, and_then}
 use Rattle.bitcursor.specs.Inputs.{Places, Payloads}
-use Rattle.bitcursor.specs.Fields.{main, string, lifted, moved_in}
-use Rattle.string_start.specs.Start.{start_in}
+use Rattle.bitcursor.specs.Fields.{main, lifted, moved_in}
 use Rattle.text.specs.declared.version.Version.{Version}
 use Rattle.text.specs.Releases.{known_at, version_of}
 use Rattle.hatch_format.specs.declared.Caps.{Caps}
@@ -20,7 +19,7 @@ use Rattle.hatch_format.specs.Values.{Gradient, Rest as RestValue, Body}
 use Rattle.hatch_format.specs.Entries.{words, numbers}
 use Rattle.hatch_format.specs.Patterns.{rest}
 use Rattle.hatch_format.specs.Hatch.{hatch}
-use Rattle.hatch_format.specs.Call.{room_for, call_by, call_on}
+use Rattle.hatch_format.specs.Call.{room_for, reader_start, call_by, call_on}
 use Rattle.hatch_points.specs.Lists.{Lists, grow}
 use Rattle.hatch_points.proofs.Laws.{stays}
 use Rattle.hatch_rest.specs.Rests.{no_sizes, SolidBlank, rest_entries}
@@ -171,32 +170,18 @@ module _ (caps : Caps) (handles : Handles) (nw nn : ℕ) (γ : Payloads) (p : Pl
 
     -- the last test: where the string reader stands, from which the body is read, or why it stands nowhere
     module _ (f : length γ.main ≤ limit) (g : length γ.string ≤ limit) where
-      abbrev stands : Out Places (Unit {0})
-      stands = lifted string p (start_in (size γ.string) p.string)
-
-      abbrev from_start : Out ℕ (Unit {0}) → Out Places Body
+      abbrev from_start : Out Places (Unit {0}) → Out Places Body
       from_start o = call_by caps handles nw nn γ p (Some v) true true o
 
-      by_start : call ≡ from_start (start_in (size γ.string) p.string)
+      by_start : call ≡ from_start (reader_start γ.string p)
       unfolding call_on
       by_start = rw (e, le-leb _ _ f, le-leb _ _ g)
 
-      pub not_started : {d : Refused Places} → refused d.refusal d.place ≡ stands → call ≡ refused d.refusal d.place
-      not_started {d} h = by_start ∙ go (start_in (size γ.string) p.string) h
-        where
-          go : (o : Out ℕ (Unit {0})) → refused d.refusal d.place ≡ lifted string p o → from_start o ≡ refused d.refusal d.place
-          go (got u q) i = never i
-          go (refused k q) i =
-              let why : k ≡ d.refusal = cc in
-              let at : moved_in string p q ≡ d.place = cc in
-              ap₂ refused why at
+      pub not_started : {d : Refused Places} → refused d.refusal d.place ≡ reader_start γ.string p → call ≡ refused d.refusal d.place
+      not_started h = by_start ∙ ap from_start (sym h)
 
-      pub started : {q : Places} → got tt q ≡ stands → call ≡ room_for nw nn ((hatch caps handles v).read γ q)
-      started {q} h = by_start ∙ go (start_in (size γ.string) p.string) h
-        where
-          go : (o : Out ℕ (Unit {0})) → got tt q ≡ lifted string p o → from_start o ≡ room_for nw nn ((hatch caps handles v).read γ q)
-          go (got u n) i = let at : moved_in string p n ≡ q = cc in ap (λ (r : Places). room_for nw nn ((hatch caps handles v).read γ r)) at
-          go (refused k n) i = never (sym i)
+      pub started : {q : Places} → got tt q ≡ reader_start γ.string p → call ≡ room_for nw nn ((hatch caps handles v).read γ q)
+      started h = by_start ∙ ap from_start (sym h)
 
 -- a call that is refused before its fields, by a `?`
 pub refused_is : {N : Type 0} (of : ℕ → N) (xs : List ℕ) {o : Out Places Body} {k : Refusal} {p : Places} (l : Lists N) (r : Result Parts (Refused Places))

@@ -4,15 +4,12 @@
 #![tactic(auto)]
 
 ghost use Rattle.std.specs.Prelude.{◌≡◌};
-ghost use Rattle.loads.specs.Bits.{size};
 ghost use Rattle.bitcursor.specs.Answers.{passing};
-ghost use Rattle.bitcursor.specs.Fields.{lifted, string};
-ghost use Rattle.string_start.specs.Start.{start_in};
 ghost use Rattle.text.specs.Answers.{payloads_to};
 ghost use Rattle.hatch_format.specs.Caps.{document_caps, NowhereAbove};
 ghost use Rattle.hatch_format.specs.HandleRule.{in_payload};
 ghost use Rattle.hatch_format.specs.Hatch.{hatch};
-ghost use Rattle.hatch_format.specs.Call.{room_for, call_on};
+ghost use Rattle.hatch_format.specs.Call.{room_for, reader_start, call_on};
 ghost use Rattle.hatch_points.specs.Lists.{lists};
 ghost use Rattle.hatch_call.specs.Calls.{CallIs};
 
@@ -46,7 +43,7 @@ fn read_body<N: Number>(
 // The places with the string reader at its start, or why it stands nowhere. By hand, and not by `after_string`: that takes a value with the place, and
 // a start has none.
 fn standing(strings: &Payload, at: Places) -> Result<Places, Refused<Places>>
-    ensures { passing result ≡ lifted string at (start_in (size strings.now) at.string) }
+    ensures { passing result ≡ reader_start strings.now at }
 {
     let main = at.main;
     let place = string_start::start_in(strings.size(), at.string).map_err(|e| Refused {

@@ -13,6 +13,7 @@ use Rattle.bitcursor.specs.Reading.{Out, got, refused, place, never}
 use Rattle.bitcursor.specs.Code.{stay}
 use Rattle.bitcursor.specs.Format.{Format, relay}
 use Rattle.bitcursor.specs.Inputs.{both, Places, Onward, Agree}
+use Rattle.bitcursor.specs.Fields.{string, lifted}
 use Rattle.string_start.specs.Start.{start_by}
 use Rattle.text.specs.declared.version.Version.{Version}
 use Rattle.text.specs.Releases.{version_of}
@@ -57,7 +58,8 @@ module _ (c : Call) where
 
   abbrev by : Option Version → Bool → Bool → Bool → Out Places Body
   by m s t u =
-      call_by c.caps c.handles c.words c.numbers (payloads_of c) (starts_of c) m s t (start_by (size (payloads_of c).string) (starts_of c).string u)
+      let stands = start_by (size (payloads_of c).string) (starts_of c).string u in
+      call_by c.caps c.handles c.words c.numbers (payloads_of c) (starts_of c) m s t (lifted string (starts_of c) stands)
 
   sound : (a : Body) (q : Places) → hatch_call c ≡ got a q → HatchLaid c a q
   unfolding call_on hatch relay

@@ -4,6 +4,7 @@ use Rattle.bitcursor.specs.declared.Refusal.TheVariants.{UnknownRelease, Payload
 use Rattle.loads.specs.Bits.{size, limit}
 use Rattle.bitcursor.specs.Reading.{Out, got, refused}
 use Rattle.bitcursor.specs.Inputs.{Places, Payloads}
+use Rattle.bitcursor.specs.Fields.{string, lifted}
 use Rattle.string_start.specs.Start.{start_in}
 use Rattle.text.specs.declared.version.Version.{Version}
 use Rattle.text.specs.Releases.{version_of}
@@ -59,20 +60,24 @@ room_for nw nn (got a q) =
     elim (leb (length (words a.rest)) nw && leb (length (numbers a.rest)) nn) [ true ↦ got a q | false ↦ refused ListTooShort q ]
 room_for nw nn (refused r q) = refused r q
 
+-- where the string reader stands, or why it stands nowhere: by its payload's length in bits and its start bit, whatever the payload's bits are
+abbrev pub reader_start : List ℕ → Places → Out Places (Unit {0})
+reader_start xs p = lifted string p (start_in (size xs) p.string)
+
 -- the order of the refusals, over payloads and start places: 9; 10 of the main payload, 10 of the string payload; a string start past its
 -- payload, with the second place at that payload's end; the fields, read with the string reader at its start, of which the first refuses a start
 -- past the main payload with 1 at that start; 11. The tests are: which release, whether each payload is within the limit, where the reader stands
 module _ (caps : Caps) (handles : Handles) (nw nn : ℕ) (γ : Payloads) (p : Places) where
-  abbrev pub call_by : Option Version → Bool → Bool → Out ℕ (Unit {0}) → Out Places Body
+  abbrev pub call_by : Option Version → Bool → Bool → Out Places (Unit {0}) → Out Places Body
   call_by None main_within string_within reader = refused UnknownRelease p
   call_by (Some v) false string_within reader = refused PayloadTooLong p
   call_by (Some v) true false reader = refused PayloadTooLong p
-  call_by (Some v) true true (refused k q) = refused k (record { main = p.main; string = q })
-  call_by (Some v) true true (got u q) = room_for nw nn ((hatch caps handles v).read γ (record { main = p.main; string = q }))
+  call_by (Some v) true true (refused k q) = refused k q
+  call_by (Some v) true true (got u q) = room_for nw nn ((hatch caps handles v).read γ q)
 
   unfoldable pub call_on : ℕ → Out Places Body
   call_on release =
-      call_by (version_of release) (leb (length γ.main) limit) (leb (length γ.string) limit) (start_in (size γ.string) p.string)
+      call_by (version_of release) (leb (length γ.main) limit) (leb (length γ.string) limit) (reader_start γ.string p)
 
 -- a whole call
 abbrev pub hatch_call : Call → Out Places Body

@@ -3,9 +3,7 @@
 -- Assumes nothing.
 use Rattle.std.specs.Prelude.{Some, ◌≡◌, ℕ, ◌≤◌, length}
 use Rattle.loads.specs.Bits.{size, limit}
-use Rattle.bitcursor.specs.Reading.{Out}
 use Rattle.bitcursor.specs.Inputs.{Places}
-use Rattle.string_start.specs.Start.{start_in}
 use Rattle.text.specs.declared.version.Version.{Version}
 use Rattle.text.specs.Releases.{version_of}
 use Rattle.hatch_format.specs.Call.{string_bytes_of, string_start_of, Call}
@@ -13,10 +11,6 @@ use Rattle.hatch_format.specs.Call.{string_bytes_of, string_start_of, Call}
 -- the string payload's length in bits
 abbrev pub string_bits : Call → ℕ
 string_bits c = size (string_bytes_of c.strings)
-
--- where the reader stands, or why it stands nowhere: by that length and the start bit, whatever the payload's bits are
-abbrev pub reader_start : Call → Out ℕ (Unit {0})
-reader_start c = start_in (string_bits c) (string_start_of c.strings)
 
 -- the places of document 01 for a string start past its payload: the main start, and the payload's length in bits
 abbrev pub past_places : Call → Places

@@ -70,7 +70,7 @@ fn make_readers(bytes: &mut [u8], start: usize) -> Started {
 }
 
 // A line of starts that are alike.
-fn tell<W: Write>(
+fn write_line<W: Write>(
     out: &mut W,
     bytes: usize,
     from: usize,
@@ -87,7 +87,7 @@ fn tell<W: Write>(
 }
 
 // Every start of a payload. Lengths in bits are saturated, here and above, since this program proves no bound of them.
-fn starts<W: Write>(out: &mut W, bytes: &mut [u8]) -> io::Result<()> {
+fn write_starts<W: Write>(out: &mut W, bytes: &mut [u8]) -> io::Result<()> {
     let length = bytes.len();
     let last = length.saturating_mul(8).saturating_add(BITS_PAST);
     let mut from = 0;
@@ -95,19 +95,19 @@ fn starts<W: Write>(out: &mut W, bytes: &mut [u8]) -> io::Result<()> {
     for before in 0..last {
         let next = make_readers(bytes, before + 1);
         if next != how {
-            tell(out, length, from, before, how)?;
+            write_line(out, length, from, before, how)?;
             from = before + 1;
             how = next;
         }
     }
-    tell(out, length, from, last, how)
+    write_line(out, length, from, last, how)
 }
 
 fn main(rt: HostRuntime) -> io::Result<()> {
     let mut out = io::writer(&rt);
     let mut bytes = [0; LONGEST];
     for length in 0..LONGEST + 1 {
-        starts(&mut out, &mut bytes[..length])?;
+        write_starts(&mut out, &mut bytes[..length])?;
     }
     Ok(())
 }

@@ -1,6 +1,6 @@
 -- Where a string reader starts (document 02, L4), for every start bit and every payload: of the reader that holds its payload, and of a text by value, which is
 -- told where its reader stands and seeks nothing. Assumes nothing.
-use Rattle.std.specs.Prelude.{◌≡◌, refl, Bool, true, false, List, ℕ, ◌*◌, ◌≤◌, leb, length}
+use Rattle.std.specs.Prelude.{◌≡◌, refl, Bool, true, false, List, ℕ, ◌*◌, ◌≤◌, ◌<◌, leb, length}
 use Rattle.std.proofs.Math.Path.{sym, ap, ap₂}
 use Rattle.std.proofs.Common.{◌∙◌}
 use Rattle.bitcursor.specs.declared.Refusal.TheVariants.{TooFewBits, PayloadTooLong}
@@ -10,7 +10,7 @@ use Rattle.bitcursor.specs.Code.{measured}
 use Rattle.bitcursor.specs.Stops.{BS_past}
 use Rattle.bitcursor.specs.Answers.{limited}
 use Rattle.bitcursor.proofs.Steps.{limit_within}
-use Rattle.string_start.specs.Start.{start_in}
+use Rattle.string_start.specs.Start.{start_in, inside, past}
 use Rattle.text.specs.declared.Source.TheVariants.{String}
 use Rattle.text.specs.declared.Text.{Text}
 use Rattle.text.specs.Texts.{wide}
@@ -35,7 +35,15 @@ beyond xs p end h = go (leb end p) refl
     go false e = rw (e, reader_text, BS_past xs p h)
 
 module _ (xs : List ℕ) (p : ℕ) (w : length xs ≤ limit) where
-  -- a text by value at such a place
+  -- it starts anywhere in its payload, the end included
+  pub start_inside : p ≤ size xs → start_at xs p ≡ got tt p
+  start_inside h = limit_within (λ ys. start_in (size ys)) xs p w ∙ inside (size xs) p h
+
+  -- a start past the payload is refusal 1 at the payload's end
+  pub start_past : size xs < p → start_at xs p ≡ refused TooFewBits (size xs)
+  start_past h = limit_within (λ ys. start_in (size ys)) xs p w ∙ past (size xs) p h
+
+  -- a text by value at or past that end
   pub text_past : (end : ℕ) → size xs ≤ p → text_at xs p end ≡ text_beyond end p
   text_past end h = limit_within (reader_text end) xs p w ∙ beyond xs p end h
 

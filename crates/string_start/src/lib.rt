@@ -9,13 +9,13 @@ ghost use Rattle.string_start.specs.Start.{start_in};
 
 use bitcursor::{Passing, Refusal, refuse};
 
-// The place of a reader that starts at a bit of a payload that ends at the bit `end`.
+// The place of a reader that starts at a bit of a payload of so many bits.
 #[tactic(auto, using(crate::specs::Start::inside, crate::specs::Start::past))]
-pub fn start_in(end: usize, start: usize) -> Passing
-    ensures { passing result ≡ start_in end start }
+pub fn start_in(bits: usize, start: usize) -> Passing
+    ensures { passing result ≡ start_in bits start }
 {
-    if end < start {
-        return refuse(Refusal::TooFewBits, end);
+    if bits < start {
+        return refuse(Refusal::TooFewBits, bits);
     }
     Ok(start)
 }

@@ -19,17 +19,11 @@ pub struct StringReader<'a> {
     /// The string payload.
     pub payload: &'a [u8],
     /// Its start bit: any bit of the payload, its length in bits included. It is compared once with that length, so a start at the end of a large payload
-    /// costs what one at bit 0 does.
+    /// costs what one at bit 0 does. Proved (crates/hatch_format/proofs/Starts.antt): the reader stands at every such start, and the refusal past it is the
+    /// same for every payload of that length.
     pub start: usize,
     /// Its end bit: any number. At or past it every text is empty.
     pub end: usize,
-}
-
-impl StringReader<'_> {
-    /// Whether the start lies past the payload. No field is read then, so that a number 1 says this alone; only 9 and 10 come before it.
-    fn starts_past(&self) -> bool {
-        self.start.div_ceil(8) > self.payload.len()
-    }
 }
 
 /// Where a hatch body lies.
@@ -163,7 +157,8 @@ impl<'a> HatchBody<'a> {
     fn accepted(&self, number: u64, places: Places) -> Result<(), Refusal> {
         match number {
             0 => Ok(()),
-            1 if self.strings.is_some_and(|strings| strings.starts_past()) => Err(Refusal::of_string_start(places.main, places.string)),
+            // A second place before the start: no reader stood in the payload, so no field was read (crates/hatch_format/proofs/Demand3.antt, `final_places`).
+            1 if self.strings.is_some_and(|strings| places.string < strings.start) => Err(Refusal::of_string_start(places.main, places.string)),
             number => Err(Refusal::of_reading(number, places.main, places.string)),
         }
     }

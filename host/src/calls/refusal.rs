@@ -49,7 +49,7 @@ const UNFIT: [&str; 2] = [
 const NARROW: [&str; 2] = ["the output is shorter than the input", "lend an output that is as long as the input"];
 
 /// What number 1 means where no field was come to, since the string reader does not stand in its payload.
-const PAST_STRINGS: [&str; 2] = [
+const STRING_START_PAST: [&str; 2] = [
     "the string reader's start bit lies past the string payload, which ends there",
     "check the string start, and that the string payload is whole and is the one that the start is counted in",
 ];
@@ -161,13 +161,13 @@ pub struct Refusal {
     call: Call,
 }
 
-/// The kinds of calls. Number 11 means something else of each, and where no bits are read there is no bit to name.
+/// What a refusal is of. Number 11 means something else of each call that can give it, and where no bits are read there is no bit to name.
 #[derive(Clone, Copy, PartialEq, Eq)]
 enum Call {
     /// It reads bits.
     Reads,
     /// It was to read bits with a string reader, which starts past its payload.
-    StartsPastStrings,
+    StringStartPast,
     /// It takes a hatch that was read.
     TakesHatch,
     /// It converts a text.
@@ -182,7 +182,7 @@ impl Refusal {
 
     /// That of a call whose string start lies past its payload: number 1, which stands for nothing else there.
     pub(crate) fn of_string_start(place: usize, second_place: usize) -> Refusal {
-        Refusal { reason: Reason::TooFewBits, place, second_place, call: Call::StartsPastStrings }
+        Refusal { reason: Reason::TooFewBits, place, second_place, call: Call::StringStartPast }
     }
 
     /// That of a call that takes a hatch. Its places are 0.
@@ -202,18 +202,18 @@ impl Refusal {
 
     /// What it means, in a few words: as [`Reason::meaning`], but of number 11, and of a string start past its payload, only what holds here.
     pub fn meaning(&self) -> &'static str {
-        self.here().map_or_else(|| self.reason.meaning(), |texts| texts[0])
+        self.texts_of_call().map_or_else(|| self.reason.meaning(), |texts| texts[0])
     }
 
     /// What to do about it: as [`Reason::advice`], with the same exceptions.
     pub fn advice(&self) -> &'static str {
-        self.here().map_or_else(|| self.reason.advice(), |texts| texts[1])
+        self.texts_of_call().map_or_else(|| self.reason.advice(), |texts| texts[1])
     }
 
     /// Meaning and advice, where the number by itself names more than what holds here.
-    fn here(&self) -> Option<[&'static str; 2]> {
+    fn texts_of_call(&self) -> Option<[&'static str; 2]> {
         match (self.call, self.reason) {
-            (Call::StartsPastStrings, _) => Some(PAST_STRINGS),
+            (Call::StringStartPast, _) => Some(STRING_START_PAST),
             (Call::Reads, Reason::ListTooShort) => Some(SHORT),
             (Call::TakesHatch, Reason::ListTooShort) => Some(UNFIT),
             (Call::Converts, Reason::ListTooShort) => Some(NARROW),
@@ -225,10 +225,10 @@ impl Refusal {
 impl fmt::Display for Refusal {
     fn fmt(&self, f: &mut fmt::Formatter<'_>) -> fmt::Result {
         write!(f, "refusal {}", self.number())?;
-        if matches!(self.call, Call::Reads | Call::StartsPastStrings) {
+        if matches!(self.call, Call::Reads | Call::StringStartPast) {
             write!(f, " at bit {}", self.place)?;
         }
-        if self.second_place != 0 || self.call == Call::StartsPastStrings {
+        if self.second_place != 0 || self.call == Call::StringStartPast {
             write!(f, " of the main payload and bit {} of the string payload", self.second_place)?;
         }
         write!(f, ": {}; {}", self.meaning(), self.advice())
@@ -297,5 +297,7 @@ mod tests {
     fn a_second_place_is_displayed() {
         let refusal = Refusal::of_reading(6, 8, 10);
         assert!(refusal.to_string().starts_with("refusal 6 at bit 8 of the main payload and bit 10 of the string payload: a text"));
+        let past = Refusal::of_string_start(0, 0).to_string();
+        assert!(past.starts_with("refusal 1 at bit 0 of the main payload and bit 0 of the string payload: the string reader's start bit"), "{past}");
     }
 }
