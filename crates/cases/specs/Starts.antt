@@ -14,14 +14,18 @@ name_call xs start end = hatch_call_shown (λ (a : Body). numbers_of a.name) 2 (
 abbrev none_call : ℕ → List ℕ → ℕ → ℕ → Shown
 none_call release xs start end = hatch_call_shown (λ (a : Body). []) release [] (lent xs start end) 0 0
 
--- 40 50 40 00 holds a text of one unit from bit 0 to 26. From bit 0 it is read. At bit 32, the payload's end, the reader stands: where that is the end bit too,
--- the name is empty and the reader stays; where the end bit lies behind it, the text is refused with 1, the places 8 and 32. At bit 33 no reader stands: the
--- call of any release is refused with 1, the places 0 and 32. No bytes: a start at bit 0, and one past it
+-- from bit 0 to 26 a text of one unit, and six bits behind it
+abbrev one_text : List ℕ
+one_text = 0x40 ∷ 0x50 ∷ 0x40 ∷ 0x00 ∷ []
+
+-- From bit 0 that text is read. At bit 32, the payload's end, the reader stands: where that is the end bit too, the name is empty and the reader stays; where
+-- the end bit lies behind it, the text is refused with 1, the places 8 and 32. At bit 33 no reader stands: the call of any release is refused with 1, the
+-- places 0 and 32. No bytes: a start at bit 0, and one past it
 unfoldable pub start_cases : List Case
 start_cases =
-    record { computed = name_call (0x40 ∷ 0x50 ∷ 0x40 ∷ 0x00 ∷ []) 0 32; stated = reading (pos 16 ∷ (pos 10 ∷ (pos 1 ∷ (pos 0 ∷ [])))) 18 26 }
-    ∷ record { computed = name_call (0x40 ∷ 0x50 ∷ 0x40 ∷ 0x00 ∷ []) 32 32; stated = reading (pos 16 ∷ (pos 32 ∷ (pos 0 ∷ (pos 0 ∷ [])))) 18 32 }
-    ∷ record { computed = name_call (0x40 ∷ 0x50 ∷ 0x40 ∷ 0x00 ∷ []) 32 33; stated = refusal 1 8 32 }
+    record { computed = name_call one_text 0 32; stated = reading (pos 16 ∷ (pos 10 ∷ (pos 1 ∷ (pos 0 ∷ [])))) 18 26 }
+    ∷ record { computed = name_call one_text 32 32; stated = reading (pos 16 ∷ (pos 32 ∷ (pos 0 ∷ (pos 0 ∷ [])))) 18 32 }
+    ∷ record { computed = name_call one_text 32 33; stated = refusal 1 8 32 }
     ∷ record { computed = name_call [] 0 0; stated = reading (pos 16 ∷ (pos 0 ∷ (pos 0 ∷ (pos 0 ∷ [])))) 18 0 }
-    ∷ of_each_release (λ release. record { computed = none_call release (0x40 ∷ 0x50 ∷ 0x40 ∷ 0x00 ∷ []) 33 33; stated = refusal 1 0 32 }) (
+    ∷ of_each_release (λ release. record { computed = none_call release one_text 33 33; stated = refusal 1 0 32 }) (
     of_each_release (λ release. record { computed = none_call release [] 1 1; stated = refusal 1 0 0 }) [])

@@ -173,15 +173,12 @@ module _ (caps : Caps) (handles : Handles) (nw nn : ℕ) (γ : Payloads) (p : Pl
       abbrev from_start : Out Places (Unit {0}) → Out Places Body
       from_start o = call_by caps handles nw nn γ p (Some v) true true o
 
-      by_start : call ≡ from_start (reader_start γ.string p)
+      by_tests : call ≡ from_start (reader_start γ.string p)
       unfolding call_on
-      by_start = rw (e, le-leb _ _ f, le-leb _ _ g)
+      by_tests = rw (e, le-leb _ _ f, le-leb _ _ g)
 
-      pub not_started : {d : Refused Places} → refused d.refusal d.place ≡ reader_start γ.string p → call ≡ refused d.refusal d.place
-      not_started h = by_start ∙ ap from_start (sym h)
-
-      pub started : {q : Places} → got tt q ≡ reader_start γ.string p → call ≡ room_for nw nn ((hatch caps handles v).read γ q)
-      started h = by_start ∙ ap from_start (sym h)
+      pub by_start : {o : Out Places (Unit {0})} → o ≡ reader_start γ.string p → call ≡ from_start o
+      by_start h = by_tests ∙ ap from_start (sym h)
 
 -- a call that is refused before its fields, by a `?`
 pub refused_is : {N : Type 0} (of : ℕ → N) (xs : List ℕ) {o : Out Places Body} {k : Refusal} {p : Places} (l : Lists N) (r : Result Parts (Refused Places))

@@ -3,7 +3,7 @@ use Rattle.std.specs.Prelude.{refl}
 use Rattle.text.specs.Answers.{payloads_to}
 use Rattle.hatch_format.specs.HandleRule.{in_payload}
 use Rattle.hatch_points.specs.Lists.{lists}
-use Rattle.hatch_call.proofs.CallLaws.{unknown, main_long, string_long, not_started, started, refused_is, call_as, known_version, unknown_version}
+use Rattle.hatch_call.proofs.CallLaws.{unknown, main_long, string_long, by_start, refused_is, call_as, known_version, unknown_version}
 use Rattle.hatch_call.proofs.CallLaws.{payload_is, payload_long}
 use Rattle.hatch_call.proofs.read_call.Goals as goal
 
@@ -48,7 +48,7 @@ returns-in_err-at g c =
     let e = known_version a.release a.at c.in_ok-version.ensures in
     let m = payload_is a.main.now c.new.ensures _ c.in_ok-main.ensures.value in
     let s = payload_is a.string.now c.new-2.ensures _ c.in_ok-string.ensures.value in
-    let past = not_started a.caps in_payload a.room.words a.room.numbers γ a.at a.release e m.1 s.1 (rw s.0 at c.in_err-at.ensures) in
+    let past = by_start a.caps in_payload a.room.words a.room.numbers γ a.at a.release e m.1 s.1 (rw s.0 at c.in_err-at.ensures) in
     refused_is of a.main.now l _ past refl c.from_residual-in_err-at.ensures
 
 pub returns : goal.returns
@@ -61,5 +61,5 @@ returns g c =
     let e = known_version a.release a.at c.in_ok-version.ensures in
     let m = payload_is a.main.now c.new.ensures _ c.in_ok-main.ensures.value in
     let s = payload_is a.string.now c.new-2.ensures _ c.in_ok-string.ensures.value in
-    let read = started a.caps in_payload a.room.words a.room.numbers γ a.at a.release e m.1 s.1 (rw s.0 at c.in_ok-at.ensures) in
+    let read = by_start a.caps in_payload a.room.words a.room.numbers γ a.at a.release e m.1 s.1 (rw s.0 at c.in_ok-at.ensures) in
     call_as of a.main.now l {l' = l'} read (rw (m.0, s.0) at c.read_body.ensures)
