@@ -1,12 +1,12 @@
 -- A call's answer by what judging said and by the room there is, over any mapping. Assumes nothing.
 use Rattle.std.specs.Prelude.{◌≡◌, refl, Option, Some, None, Result, Ok, Err, is_some, IsSome, List, ℕ, ◌<◌, ◌≤◌, false, ltb, length}
 use Rattle.std.specs.List.{All}
-use Rattle.std.proofs.Common.{sym, ap, ◌∙◌, arith, lt-ltb, le-ltb}
+use Rattle.std.proofs.Common.{sym, ap, ◌∙◌, lt-ltb, le-ltb}
 use Rattle.code_page.specs.declared.refusal.ConversionRefusal.{ConversionRefusal}
 use Rattle.code_page.specs.declared.refusal.ConversionRefusal.TheVariants.{UndefinedCharacter, OutputTooShort}
 use Rattle.code_page.specs.Conversion.{mapped_all, Conversion, with_room, conversion, after, answer_of, Converts}
 use Rattle.code_page.specs.MappedLists.{not_all_mapped}
-use Rattle.code_page.proofs.PassLaws.{entries, Laid, mapped, as_many, laid_all}
+use Rattle.code_page.proofs.PassLaws.{entries, mapped, as_many}
 
 module _ {A B : Type 0} (f : A → Option B) (xs : List A) (out : List B) where
   -- an outcome, and the answer and the output that go with it
@@ -26,11 +26,10 @@ module _ {A B : Type 0} (f : A → Option B) (xs : List A) (out : List B) where
   module _ (defined : All (λ x. IsSome (f x)) xs) where
     pub gives_too_short : length out < length xs → Converts f xs (Err OutputTooShort) out out
     unfolding conversion
-    gives_too_short h = given (Err OutputTooShort) (Err OutputTooShort) out (rw (mapped f xs out defined, lt-ltb (length out) (length xs) h)) refl refl
+    gives_too_short h = given (Err OutputTooShort) (Err OutputTooShort) out (rw (mapped f xs defined, lt-ltb (length out) (length xs) h)) refl refl
 
-    pub gives_written : (i : ℕ) (out' : List B) → length xs ≤ length out → i ≤ length xs → length xs ≤ i → Laid f xs out i out'
-        → Converts f xs (Ok (length xs)) out out'
+    pub gives_written : (out' : List B) → length xs ≤ length out → out' ≡ after (Ok (entries f xs)) out → Converts f xs (Ok (length xs)) out out'
     unfolding conversion
-    gives_written i out' room l h laid =
-        given (Ok (entries f xs out)) (Ok (length xs)) out' (rw (mapped f xs out defined, le-ltb (length out) (length xs) room))
-        (ap Ok (sym (as_many f xs out defined))) (laid_all f xs out defined i out' laid (omega arith))
+    gives_written out' room e =
+        given (Ok (entries f xs)) (Ok (length xs)) out' (rw (mapped f xs defined, le-ltb (length out) (length xs) room))
+        (ap Ok (sym (as_many f xs defined))) e

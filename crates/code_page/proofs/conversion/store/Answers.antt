@@ -1,6 +1,6 @@
 -- All are mapped, so only the room decides; each turn stores what the next entry is mapped to.
 use Rattle.std.proofs.Common.{arith}
-use Rattle.code_page.proofs.PassLaws.{laid_more}
+use Rattle.code_page.proofs.PassLaws.{entries, as_many, stored_more, laid_all}
 use Rattle.code_page.proofs.CallLaws.{gives_too_short, gives_written}
 use Rattle.code_page.proofs.conversion.store.Goals as goal
 
@@ -10,10 +10,13 @@ returns-then-output-input g c =
 
 pub loop-i-preserved : goal.loop-i-preserved
 loop-i-preserved g c =
-    laid_more g.T.Character.mapped c.args.input.now c.args.output.now c.requires.defined c.loop-i.i c.index-input-i.result c.other.result c.loop-i.output
+    stored_more g.T.Character.mapped c.args.input.now c.requires.defined c.args.output.now c.loop-i.i c.index-input-i.result c.other.result c.loop-i.output
     c.loop-i.invariant c.loop-i-test.true c.if-output-input.false c.index-input-i.is (c.requires.is _ _ c.other.ensures)
 
 pub returns : goal.returns
 returns g c =
-    gives_written g.T.Character.mapped c.args.input.now c.args.output.now c.requires.defined c.loop-i.i c.loop-i.output
-    c.if-output-input.false (omega arith) (omega arith) c.loop-i.invariant
+    let f = g.T.Character.mapped in
+    let xs = c.args.input.now in
+    let out = c.args.output.now in
+    let all = laid_all (entries f xs) out c.loop-i.i c.loop-i.output c.loop-i.invariant (omega (arith, as_many f xs c.requires.defined)) in
+    gives_written f xs out c.requires.defined c.loop-i.output c.if-output-input.false all

@@ -1,5 +1,5 @@
-use Rattle.code_page.proofs.PassLaws.{Laid}
+use Rattle.code_page.proofs.PassLaws.{Laid, entries}
 use Rattle.code_page.proofs.conversion.store.Given as goal
 
 abbrev pub invariant-loop-i : goal.invariant-loop-i
-invariant-loop-i g l = Laid g.T.Character.mapped l.input l.initial.output l.i l.output
+invariant-loop-i g l = Laid (entries g.T.Character.mapped l.input) l.initial.output l.i l.output
