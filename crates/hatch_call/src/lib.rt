@@ -46,7 +46,7 @@ fn standing(strings: &Payload, at: Places) -> Result<Places, Refused<Places>>
     ensures { passing result ≡ reader_start strings.now at }
 {
     let main = at.main;
-    let place = string_start::start_in(strings.size(), at.string).map_err(|e| Refused {
+    let place = string_start::start_in(strings.bytes().len(), at.string).map_err(|e| Refused {
         refusal: e.refusal,
         place: Places {
             main,
