@@ -5,8 +5,15 @@ use stored::record::Record;
 use stored::texts;
 use text::{Source, Text};
 
-// Puts a text, whose units are read in the payload that it lies in.
+// A text that begins behind more numbers than these has no room.
+const MOST_BEFORE: usize = 1000;
+
+// Puts a text, whose units are read in the payload that it lies in; where it has no room, the answer is full.
 fn put_text(answer: &mut Answer, record: &Record, t: Text) {
+    if MOST_BEFORE < answer.as_slice().len() {
+        answer.fill();
+        return;
+    }
     match t.source {
         Source::String => texts::put(answer, record.strings.unwrap_or(&[]), t),
         _ => texts::put(answer, record.payload, t),

@@ -15,20 +15,22 @@ fn call(
     strings: &[u8],
     lists: &mut Lists,
 ) -> Option<Result<HatchBits, Refused<Places>>> {
+    let words = lists.words.get_mut(..record.lent_words)?;
+    let numbers = lists.numbers.get_mut(..record.lent_numbers)?;
+    let (main, start, release) = (record.payload, record.start, record.release);
     let reader = Strings {
         bytes: strings,
         start: record.more as usize,
         end: record.string_end,
     };
-    let lent = match record.kind {
-        Kind::Hatch => None,
-        Kind::HatchWithStrings => Some(reader),
-        _ => return None,
-    };
-    let words = lists.words.get_mut(..record.lent_words)?;
-    let numbers = lists.numbers.get_mut(..record.lent_numbers)?;
-    let main = record.payload;
-    Some(hatch::decode_with_strings(main, record.start, lent, record.release, numbers, words))
+    match record.kind {
+        Kind::Hatch => Some(hatch::decode(main, start, release, numbers, words)),
+        Kind::HatchWithStrings => {
+            let lent = Some(reader);
+            Some(hatch::decode_with_strings(main, start, lent, release, numbers, words))
+        }
+        _ => None,
+    }
 }
 
 // A reading: the record, and the entries used of both lists; none where the room is full or the seed points' part is another one.

@@ -58,6 +58,11 @@ impl Answer {
         }
     }
 
+    // Takes the room that is left, so that nothing more is kept.
+    pub fn fill(&mut self) {
+        self.count = ROOM;
+    }
+
     // Whether no value more is kept.
     pub fn is_full(&self) -> bool {
         self.count == ROOM

@@ -100,8 +100,16 @@ impl From<u64> for Kind {
     }
 }
 
-impl fmt::Display for Kind {
+// What the programs call a request's number: a kind by its name, 24 the cursor, whose count stands there, and a greater number by none.
+#[derive(Clone, Copy, Debug, PartialEq, Eq)]
+pub struct Name(pub u64);
+
+impl fmt::Display for Name {
     fn fmt<W: fmt::Write>(&self, f: &mut fmt::Formatter<W>) -> fmt::Result {
-        f.pad(self.as_str())
+        match self.0 {
+            0..=23 => f.pad(Kind::from(self.0).as_str()),
+            24 => f.pad("cursor"),
+            _ => Ok(()),
+        }
     }
 }

@@ -11,10 +11,11 @@ use crate::kinds::Kind;
 // The first byte of the payload.
 const HEAD: usize = 80;
 
-// A record that has the payload that it says, in its parts; `more` is item 4. Where it has fewer strings than it says, it has none, and no answer.
+// A record that has the payload that it says, in its parts; `number` is item 1, of which `kind` is the call, and `more` is item 4. Where it has fewer strings than it says, it has none, and no answer.
 #[derive(Clone, Copy, Debug, PartialEq, Eq)]
 pub struct Record<'a> {
     pub line: u64,
+    pub number: u64,
     pub kind: Kind,
     pub release: u64,
     pub start: usize,
@@ -38,9 +39,11 @@ impl<'a> Record<'a> {
             Some((strings, answer)) => (Some(strings), answer),
             None => (None, &rest[rest.len()..]),
         };
+        let number = item(bytes, 8);
         Some(Record {
             line: item(bytes, 0),
-            kind: Kind::from(item(bytes, 8)),
+            number,
+            kind: Kind::from(number),
             release: item(bytes, 16),
             start: item(bytes, 24) as usize,
             more: item(bytes, 32),
