@@ -40,8 +40,10 @@ impl Answer {
         Answer::open(0, place, second)
     }
 
-    // Puts a value behind the others, if there is room.
-    pub fn push<T: Into<u64>>(&mut self, value: T) {
+    // Puts a value behind the others, if there is room; those that were there stay.
+    pub fn push<T: Into<u64>>(&mut self, value: T)
+        ensures { self.old.count ≤ self.new.count }
+    {
         let at = self.count;
         let number = value.into();
         if at < ROOM {

@@ -1,5 +1,7 @@
 // A text's answer as a list of numbers. The calls say where the units lie and how many they are, and no unit itself: so the units are read
 // here, one after the other, by the codes RC and RS.
+ghost use Rattle.std.specs.Prelude.{◌≤◌};
+
 use crate::answers::Answer;
 use text::Text;
 
@@ -18,7 +20,9 @@ fn unit(s: &[u8], at: usize, width: u8) -> Option<(u64, usize)> {
     bit_codes::read_rc(s, at).ok()
 }
 
-fn put_units(answer: &mut Answer, s: &[u8], t: Text) {
+fn put_units(answer: &mut Answer, s: &[u8], t: Text)
+    ensures { answer.old.count ≤ answer.new.count }
+{
     let mut place = t.position;
     for _ in 0..t.count.min(MOST_UNITS) {
         match unit(s, place, t.width) {
@@ -33,7 +37,9 @@ fn put_units(answer: &mut Answer, s: &[u8], t: Text) {
 
 // Puts a text of the payload `s` behind the values of `answer`: its source, its width, its position, its count, 1 where it is padded,
 // and its units. A text is cut where the room ends, but its count is not, and the list has no such count.
-pub fn put(answer: &mut Answer, s: &[u8], t: Text) {
+pub fn put(answer: &mut Answer, s: &[u8], t: Text)
+    ensures { answer.old.count ≤ answer.new.count }
+{
     answer.push(u8::from(t.source));
     answer.push(t.width);
     answer.push(t.position as u64);
