@@ -20,7 +20,7 @@ use Rattle.prefix_parts.specs.declared.Colours.{Colours}
 use Rattle.prefix_parts.specs.declared.Styles.{Styles}
 use Rattle.prefix_parts.specs.declared.Tail.{Tail}
 use Rattle.prefix_parts.specs.Parts.{head, modes, colours, styles, tail}
-use Rattle.common_entity.proofs.Numbers.{Under, marked_small}
+use Rattle.common_entity.proofs.Numbers.{Under, InRange, marked_small}
 use Rattle.common_entity.proofs.Whole.{of_next}
 
 -- a number that is read as another's value, and 0's value where nothing was read
@@ -162,6 +162,29 @@ module _ (row : Row) (xs : List ℕ) where
           (value_of 0 (then_read (BS.read xs) x₃), BS_small xs x₃, mapped_of xs (signed 16) BS 0 x₃),
           low_small xs x₄ row.lineweight 1,
         )
+
+  -- all five, whatever answer each stands behind
+  pub in_range : (p : ℕ) {X Y Z W : Type 0} (x : Out ℕ X) (y : Out ℕ Y) (z : Out ℕ Z) (w : Out ℕ W)
+      → InRange (head_of p) (modes_of x) (colours_of y) (styles_of z) (tail_of w)
+  in_range p x y z w =
+      let a = modes_small x in
+      let b = colours_small y in
+      let d = styles_small z in
+      let f = tail_small w in
+      record {
+        end = head_small p;
+        mode = a.0;
+        reactors = a.1;
+        colour = b.0;
+        rgb = b.1;
+        alpha = b.2;
+        linetype = d.0;
+        plot = d.1;
+        material = d.2;
+        shadow = d.3;
+        invisible = f.0;
+        weight = f.1;
+      }
 
   -- ---- and of a part that was read it is that part
   given_of : {A B : Type 0} (f : A → B) (absent : A) (o : Out ℕ A) {b : B} {q : ℕ} → resume xs (λ v. give (f v)) o ≡ got b q → f (value_of absent o) ≡ b
