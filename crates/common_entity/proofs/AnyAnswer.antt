@@ -23,7 +23,7 @@ use Rattle.prefix_parts.specs.Parts.{head, modes, colours, styles, tail}
 use Rattle.common_entity.proofs.Numbers.{Under, InRange, marked_small}
 use Rattle.common_entity.proofs.Whole.{of_next}
 
--- a number that is read as another's value, and 0's value where nothing was read
+-- a step of a mapped code has the mapped value of the code's own step, of `absent` where nothing was read
 mapped_of : {A B C : Type 0} (xs : List ℕ) (f : B → C) (c : Code B) (absent : B) (x : Out ℕ A)
     → value_of (f absent) (then_read ((mapped f c).read xs) x) ≡ f (value_of absent (then_read (c.read xs) x))
 unfolding mapped tabled ◌>>=◌ give
