@@ -83,7 +83,7 @@ module _ (xs : List ℕ) (p : ℕ) where
   pub BL_small : (b : Bool) {v q : ℕ} → got v q ≡ (held b BL 0).read xs p → v < 2 ^ 32
   BL_small b e = read_below (held b BL 0) (held_below (2 ^ 32) b BL 0 (omega arith) BL_below) xs p (sym e)
 
-  marked_small : (b : Bool) (n : ℕ) (c : Code ℕ) → Below n c → {m : Option ℕ} {q : ℕ} → got m q ≡ (marked b c).read xs p → Under n m
+  pub marked_small : (b : Bool) (n : ℕ) (c : Code ℕ) → Below n c → {m : Option ℕ} {q : ℕ} → got m q ≡ (marked b c).read xs p → Under n m
   unfolding marked held give
   marked_small true n c below e = each_got (Under n) e (each_mapped (Under n) Some c xs p λ v q f. read_below c below xs p (sym f))
   marked_small false n c below e = each_got (Under n) e tt

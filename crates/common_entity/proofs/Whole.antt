@@ -39,7 +39,7 @@ of_first : {A : Type 0} (P : A → Type 0) (absent : A) (o : Out ℕ A) → P ab
 of_first P absent (got a q) z each = each a q refl
 of_first P absent (refused r q) z each = z
 
-of_next : {A B : Type 0} (P : A → Type 0) (absent : A) (f : ℕ → Out ℕ A) (prior : Out ℕ B) → P absent → ((p : ℕ) (a : A) (q : ℕ) → got a q ≡ f p → P a)
+pub of_next : {A B : Type 0} (P : A → Type 0) (absent : A) (f : ℕ → Out ℕ A) (prior : Out ℕ B) → P absent → ((p : ℕ) (a : A) (q : ℕ) → got a q ≡ f p → P a)
     → P (value_of absent (then_read f prior))
 of_next P absent f (got b p) z each = of_first P absent (f p) z (each p)
 of_next P absent f (refused r p) z each = z

@@ -28,6 +28,11 @@ bits_refused k q = refl
 pub doubles_refused : (k : Refusal) (q : Places) → as_data (refused k q) ≡ Err (record { refusal = k; place = q })
 doubles_refused k q = refl
 
+-- both forms have the same outcome: a record in both, or a refusal in both
+pub both_ok : (o : Out Places Body) → (IsOk (as_data o) → IsOk (as_bits o)) × (IsOk (as_bits o) → IsOk (as_data o))
+both_ok (got a q) = (λ h. h, λ h. h)
+both_ok (refused k q) = (λ h. h, λ h. h)
+
 -- over 64 bits the record is handed over as it is
 pub bits_are : (o : Out Places Body) → as_hatch (λ n. n) (λ c. c) o ≡ as_bits o
 bits_are (got a q) = ap Ok (hatch_as_bits (record_of a q))
@@ -62,7 +67,7 @@ module _ (c : Call) {R : Type 0} (answer : Out Places Body → R) where
   pub read_when_laid : (a : Body) (q : Places) → HatchLaid c a q → answer reading ≡ answer (got a q)
   read_when_laid a q l = ap answer ((read_iff_laid c a q).1 l)
 
-  -- both forms have the same outcome
+  -- asked of the answer as 64 bits; `both_ok` says that it is the same of the answer as doubles
   pub laid_when_read : IsOk (as_bits reading) → (a : Body) × (q : Places) × HatchLaid c a q × (answer reading ≡ answer (got a q))
   laid_when_read h = go reading refl h
     where

@@ -17,12 +17,12 @@ use moved_hatch::MoveRefusal;
 use whole_lists::{ListWalk, Place};
 
 // The seed points, as an item.
-fn seeds_item(c: HatchCounts) -> Item
-    ensures { result ≡ points_item c.num_seed_points }
+pub fn seeds_item(seeds: usize) -> Item
+    ensures { result ≡ points_item seeds }
 {
     Item {
         before: 0,
-        points: c.num_seed_points,
+        points: seeds,
         stride: 2,
         fit_points: 0,
         behind: 0,
@@ -50,7 +50,7 @@ fn are_within<C: Coordinate>(c: HatchCounts, words: &[u32], numbers: &[C]) -> bo
         }
         at = to;
     }
-    point_runs::item_within(numbers, at.number, seeds_item(c))
+    point_runs::item_within(numbers, at.number, seeds_item(c.num_seed_points))
 }
 
 // Each of them less the origin's. Not one loop with a closure for both: what a step needs of the walk so far differs (in range, or moved and still movable),
@@ -72,7 +72,7 @@ fn move_all<C: Coordinate>(c: HatchCounts, words: &[u32], numbers: &mut [C], x: 
         point_runs::move_item(numbers, at.number, i, x, y);
         at = to;
     }
-    point_runs::move_item(numbers, at.number, seeds_item(c), x, y);
+    point_runs::move_item(numbers, at.number, seeds_item(c.num_seed_points), x, y);
 }
 
 // Whether a hatch may be moved by its plane, and then by the origin.

@@ -3,3 +3,5 @@ pub mod TextLaws
 pub mod PaddedTexts
 pub mod PaddedUnits
 pub mod UnitsLeft
+pub mod FieldLaws
+pub mod VersionLaws

@@ -24,6 +24,9 @@ pub struct Place {
     pub lines: usize,
 }
 
+// What is left of a path under way where its handle count is next.
+const LAST_PART: usize = 1;
+
 impl Place {
     // Where the walk over a record's lists begins.
     pub fn start(c: HatchCounts) -> Place
@@ -95,7 +98,7 @@ impl<'a> ListWalk<'a> {
         ensures { Steps self.entry.words.now self.entry.numbers self.entry.at result }
     {
         let at = self.at;
-        let (i, word) = if at.parts == 1 {
+        let (i, word) = if at.parts == LAST_PART {
             list_items::handles_item(self.words, at.word)?
         } else {
             list_items::edge_item(self.words, at.word)?

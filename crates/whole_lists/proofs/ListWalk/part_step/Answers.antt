@@ -4,7 +4,7 @@ use native.Mathlib.Omega.{arith}
 use Rattle.hatch_lists.specs.declared.Item.{Item}
 use Rattle.whole_lists.proofs.StepLaws.{steps_found, steps_broken, begins_handles, begins_edge}
 use Rattle.whole_lists.proofs.ListWalk.part_step.Goals as goal
-use Rattle.whole_lists.proofs.ListWalk.part_step.Goals.{then-at-eq1+in_ok-handles_item, else-at-eq1+in_ok-i}
+use Rattle.whole_lists.proofs.ListWalk.part_step.Goals.{then-at-eq-LAST_PART+in_ok-handles_item, else-at-eq-LAST_PART+in_ok-i}
 
 pub returns-in_err-i : goal.returns-in_err-i
 returns-in_err-i c =
@@ -16,12 +16,12 @@ pub returns : goal.returns
 returns c =
     let a = c.args in
     let few = λ (i : Item). a.self.at.parts - 1 in
-    elim c.if-at-eq1.branch [
-      | then-at-eq1+in_ok-handles_item w ↦
+    elim c.if-at-eq-LAST_PART.branch [
+      | then-at-eq-LAST_PART+in_ok-handles_item w ↦
           (let f = w.in_ok-handles_item.ensures in
-          steps_found (λ i. i) few (begins_handles a.self.words.now a.self.numbers a.self.at w.if-at-eq1.true) a.self.within f.0 f.1 f.2 (omega arith)
+          steps_found (λ i. i) few (begins_handles a.self.words.now a.self.numbers a.self.at w.if-at-eq-LAST_PART.true) a.self.within f.0 f.1 f.2 (omega arith)
           (rw w.word-is at c.pass.ensures))
-      | else-at-eq1+in_ok-i w ↦
+      | else-at-eq-LAST_PART+in_ok-i w ↦
           (let f = w.in_ok-i.ensures in
           steps_found (λ i. i) few (begins_edge a.self.words.now a.self.numbers a.self.at (omega (arith, c.requires))) a.self.within f.0 f.1 f.2
           (omega (arith, a.self.within.parts)) (rw w.word-is at c.pass.ensures))
