@@ -75,8 +75,10 @@ pub struct ListWalk<'a> {
     ghost within: { Within words.now numbers at },
 }
 
+// A step is taken in where it is called, with all that it calls: as a call of its own it copies the walk in and the item and the place out, for each item.
 impl<'a> ListWalk<'a> {
     // An item that ends before a place, with its numbers passed, if there are so many.
+    #[inline(always)]
     fn pass(self, i: Item, to: Place) -> Option<(Item, Place)>
         requires { Small i × (to.number ≤ self.numbers) }
         ensures { result ≡ passed_to self.entry.numbers i to }
@@ -93,6 +95,7 @@ impl<'a> ListWalk<'a> {
     }
 
     // The next part of a path under way: an edge, or its handle count, which is the last.
+    #[inline(always)]
     fn part_step(self) -> Option<(Item, Place)>
         requires { 0 < self.at.parts }
         ensures { Steps self.entry.words.now self.entry.numbers self.entry.at result }
@@ -112,6 +115,7 @@ impl<'a> ListWalk<'a> {
     }
 
     // The head of the next path: a polyline whole, or the count of its edges, which follow as its parts.
+    #[inline(always)]
     fn path_step(self) -> Option<(Item, Place)>
         requires { (self.at.parts ≡ 0) × (0 < self.at.paths) }
         ensures { Steps self.entry.words.now self.entry.numbers self.entry.at result }
@@ -128,6 +132,7 @@ impl<'a> ListWalk<'a> {
     }
 
     // The next pattern line.
+    #[inline(always)]
     fn line_step(self) -> Option<(Item, Place)>
         requires { (self.at.parts ≡ 0) × ((self.at.paths ≡ 0) × (0 < self.at.lines)) }
         ensures { Steps self.entry.words.now self.entry.numbers self.entry.at result }
@@ -143,6 +148,7 @@ impl<'a> ListWalk<'a> {
     }
 
     // The next item, whose numbers begin where the walk stands, and the place behind it; or the lists are not whole.
+    #[inline(always)]
     pub fn next_item(self) -> Option<(Item, Place)>
         requires { finished self.at ≡ false }
         ensures { Steps self.entry.words.now self.entry.numbers self.entry.at result }
