@@ -100,6 +100,12 @@ impl From<u64> for Kind {
     }
 }
 
+impl fmt::Display for Kind {
+    fn fmt<W: fmt::Write>(&self, f: &mut fmt::Formatter<W>) -> fmt::Result {
+        f.pad(self.as_str())
+    }
+}
+
 // What the programs call a request's number: a kind by its name, 24 the cursor, whose count stands there, and a greater number by none.
 #[derive(Clone, Copy, Debug, PartialEq, Eq)]
 pub struct Name(pub u64);
@@ -107,7 +113,7 @@ pub struct Name(pub u64);
 impl fmt::Display for Name {
     fn fmt<W: fmt::Write>(&self, f: &mut fmt::Formatter<W>) -> fmt::Result {
         match self.0 {
-            0..=23 => f.pad(Kind::from(self.0).as_str()),
+            0..=23 => Kind::from(self.0).fmt(f),
             24 => f.pad("cursor"),
             _ => Ok(()),
         }
