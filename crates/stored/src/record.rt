@@ -11,7 +11,8 @@ use crate::kinds::Kind;
 // The first byte of the payload.
 const HEAD: usize = 80;
 
-// A record that has the payload that it says, in its parts; `number` is item 1, of which `kind` is the call, and `more` is item 4. Where it has fewer strings than it says, it has none, and no answer.
+// A record that has the payload that it says, in its parts; `number` is item 1, of which `kind` is the call, and `more` is item 4. Where it
+// has fewer strings than it says, it has none, and no answer.
 #[derive(Clone, Copy, Debug, PartialEq, Eq)]
 pub struct Record<'a> {
     pub line: u64,
