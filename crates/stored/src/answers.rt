@@ -1,5 +1,5 @@
 // The answers of the calls as the numbers that the list has: signed ones in two's complement, doubles as their 64 bits.
-ghost use Rattle.std.specs.Prelude.{◌≤◌};
+ghost use Rattle.std.specs.Prelude.{◌≡◌, ◌≤◌};
 
 use bitcursor::{Handle, Places, Reading, Refusal, Refused, values};
 
@@ -19,7 +19,9 @@ pub struct Answer {
 }
 
 impl Answer {
-    fn open(refusal: u64, place: usize, second: usize) -> Answer {
+    fn open(refusal: u64, place: usize, second: usize) -> Answer
+        ensures { result.count ≡ 4 }
+    {
         let mut numbers = [0; ROOM];
         numbers[0] = refusal;
         numbers[1] = place as u64;
@@ -31,12 +33,16 @@ impl Answer {
     }
 
     // A refusal at two places.
-    pub fn refused(refusal: Refusal, place: usize, second: usize) -> Answer {
+    pub fn refused(refusal: Refusal, place: usize, second: usize) -> Answer
+        ensures { result.count ≡ 4 }
+    {
         Answer::open(u64::from(u8::from(refusal)), place, second)
     }
 
     // What was read, up to two places; its values are to be pushed.
-    pub fn read(place: usize, second: usize) -> Answer {
+    pub fn read(place: usize, second: usize) -> Answer
+        ensures { result.count ≡ 4 }
+    {
         Answer::open(0, place, second)
     }
 
