@@ -46,13 +46,15 @@ fn standing(strings: &Payload, at: Places) -> Result<Places, Refused<Places>>
     ensures { passing result ≡ reader_start strings.now at }
 {
     let main = at.main;
-    let place = string_start::start_in(strings.bytes().len(), at.string).map_err(|e| Refused {
-        refusal: e.refusal,
-        place: Places {
-            main,
-            string: e.place,
+    let place = string_start::start_in_bytes(strings.bytes().len(), at.string).map_err(
+        |e| Refused {
+            refusal: e.refusal,
+            place: Places {
+                main,
+                string: e.place,
+            },
         },
-    })?;
+    )?;
     Ok(Places {
         main,
         string: place,

@@ -27,7 +27,7 @@ pub fn start_at(payload: &[u8], start_bit: usize) -> Passing
     ensures { passing result ≡ start_at payload.now start_bit }
 {
     let payload = bitcursor::payload(payload, start_bit)?;
-    string_start::start_in(payload.bytes().len(), start_bit)
+    string_start::start_in_bytes(payload.bytes().len(), start_bit)
 }
 
 impl<'a> StringReader<'a> {
